@@ -1,0 +1,30 @@
+-- Document 01, "Causes and their numbers": the number of each cause.
+use Prim.Native.Nat.{ℕ}
+use Rattle.refusal.specs.declared.Refusal.{Refusal}
+use Rattle.refusal.specs.declared.Refusal.the-variants.{RingSize, SponsorCount, NodeNumber, Unsound, SlotLimit, MessageLength, SectionCount, SpareBit, OutputShort, NotItsSlot, NotOut, PlanLine}
+
+abbrev pub numberOf : Refusal → ℕ
+-- "n not 3 to 32"
+numberOf RingSize = 1
+-- "k not 2 to n - 1 (reader and writer alone: 2 to 31)"
+numberOf SponsorCount = 2
+-- "node number not 1 to n"
+numberOf NodeNumber = 3
+-- "record not sound, table not as above"
+numberOf Unsound = 4
+-- "slot count at the limit"
+numberOf SlotLimit = 5
+-- "message length wrong for k"
+numberOf MessageLength = 6
+-- "a section's count wrong"
+numberOf SectionCount = 7
+-- "spare bit set; for the writer, an acknowledgement past k"
+numberOf SpareBit = 8
+-- "lent output too short"
+numberOf OutputShort = 9
+-- "the next slot is not this node's, or it neither is a member nor follows with returning 0"
+numberOf NotItsSlot = 10
+-- "restart of a node that is not out"
+numberOf NotOut = 11
+-- "plan line unreadable or too long"
+numberOf PlanLine = 12
