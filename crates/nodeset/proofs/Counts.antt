@@ -12,9 +12,10 @@ use lib.Count.{ones, ones-step, ones-le, trailingZeros, under}
 use lib.Pow.{pow-pos, pow-mono}
 use Rattle.nodeset.specs.Sums.{sum, num}
 use Rattle.nodeset.specs.Sets.{has, with, without, full, size, distance, runFrom, run}
+use Rattle.nodeset.proofs.Tests.{by-cases}
 use Rattle.nodeset.proofs.Sums.{sum-none, sum-next, sum-same, sum-zero, sum-at, sum-but, sum-first, sum-moved, sum-split, num-le, num-false}
 use Rattle.nodeset.proofs.Bits.{has-next, odd, even, has-beyond, has-mod, has-none, has-xor}
-use Rattle.nodeset.proofs.Laws.{by-cases, has-with, has-with-other, has-without, has-without-other, has-full, set-ext}
+use Rattle.nodeset.proofs.Laws.{has-with, has-with-other, has-without, has-without-other, has-full, set-ext}
 
 -- ---- how many
 

@@ -10,12 +10,8 @@ use lib.Dec.{ltb}
 use lib.Pow.{pow-pos, pow-mono}
 use borrow.Author.Tests.{lt-ltb, le-ltb}
 use Rattle.nodeset.specs.Sets.{has, with, without, full}
+use Rattle.nodeset.proofs.Tests.{by-cases}
 use Rattle.nodeset.proofs.Bits.{has-more, has-more-other, has-less, has-less-other, more-lt, has-beyond, has-ones, bit-ext}
-
--- by what a test answers
-pub by-cases {ℓ} : {A : Type ℓ} (b : Bool) → (b ≡ true → A) → (b ≡ false → A) → A
-by-cases true f g = f refl
-by-cases false f g = g refl
 
 -- ---- with and without, by whether the node is there
 

@@ -1,11 +1,11 @@
 -- Laws of sums over numbers in a row (specs/Sums). Assumes nothing.
-use Prim.Native.Nat.{ℕ, zero, suc, _+_, _≤_, _<_}
+use Prim.Native.Nat.{ℕ, zero, suc, _+_, _-_, _≤_, _<_}
 use mathlib.Core.Path.{_≡_, refl, sym, ap, _∙_}
 use mathlib.Core.Logic.{_≢_}
 use mathlib.Core.Bool.{Bool, true, false}
 use native.Mathlib.Omega.{arith}
 use native.Mathlib.Nat.{add-zero, add-suc}
-use native.Mathlib.Decide.{ℕ-discrete}
+use native.Mathlib.Decide.{ℕ-discrete, decLt}
 use Rattle.nodeset.specs.Sums.{sum, num}
 
 -- ---- the two clauses of the definition
@@ -94,6 +94,27 @@ sum-split f a m zero = omega (arith, ap (sum f a) (add-zero m))
 sum-split f a m (suc d) =
     let z : a + m + d ≡ a + (m + d) = omega arith in
     omega (arith, ap (sum f a) (add-suc m d), sum-split f a m d, ap f z)
+
+-- the terms from a later place on are no more than all
+pub sum-tail : (f : ℕ → ℕ) (d a m : ℕ) → sum f (a + d) m ≤ sum f a (d + m)
+sum-tail f d a m = omega (arith, sum-split f a d m)
+
+-- nor are they with an earlier term
+pub sum-rest : (f : ℕ → ℕ) (a m b l : ℕ) → a < b → a + m ≡ b + l → f a + sum f b l ≤ sum f a m
+sum-rest f a m b l h e =
+    let d = b - suc a in
+    let z : m ≡ suc (d + l) = omega arith in
+    let y : b ≡ suc a + d = omega arith in
+    omega (arith, ap (sum f a) z, sum-first f a (d + l), sum-tail f d (suc a) l, ap (λ (x : ℕ). sum f x l) y)
+
+-- two places from which on the sum is the same, and where the term counts, are one
+pub one-place : (f : ℕ → ℕ) (j a m b l : ℕ) → a + m ≡ b + l → sum f a m ≡ j → sum f b l ≡ j → 1 ≤ f a → 1 ≤ f b → a ≡ b
+one-place f j a m b l z p q x y = go (decLt a b) (decLt b a)
+  where
+    go : Dec (a < b) → Dec (b < a) → a ≡ b
+    go (yes h) d = let c : ⊥ = omega (arith, sum-rest f a m b l h z) in absurd c
+    go (no h) (yes d) = let c : ⊥ = omega (arith, sum-rest f b l a m d (sym z)) in absurd c
+    go (no h) (no d) = omega arith
 
 -- the sum of a function of period n over n numbers in a row is the same wherever they begin
 pub rotation : (f : ℕ → ℕ) (n : ℕ) → ((u : ℕ) → f (u + n) ≡ f u) → (a : ℕ) → sum f a n ≡ sum f 0 n

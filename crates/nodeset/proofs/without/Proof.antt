@@ -4,8 +4,8 @@ use mathlib.Core.Path.{_≡_, sym, ap, _∙_}
 use mathlib.Core.Bool.{true}
 use native.Mathlib.Omega.{arith}
 use borrow.Author.Needs.{needs}
-use borrow.Author.Tests.{not-true, not-false}
 use Rattle.nodeset.specs.Sets.{has, without}
+use Rattle.nodeset.proofs.Tests.{failed, passed}
 use Rattle.nodeset.proofs.Bits.{shifted-one, has-le}
 use Rattle.nodeset.proofs.Laws.{has-range, without-there, without-absent}
 use Rattle.nodeset.proofs.without.Statement.{statement}
@@ -17,11 +17,11 @@ has-requires c κs = search needs
 returns : tie.Need-returns
 returns c =
     let a = c .before .before .args in
-    sym (without-absent (a .s) (a .x) (sym (c .before .has .ensures) ∙ not-true (c .before .has .result) (c .if1 .taken)))
+    sym (without-absent (a .s) (a .x) (failed (c .before .has .ensures) (c .if1 .taken)))
 
 -- past the test the node is there, so it is one of 1 to 32
 there : (c : tie.Else1) → has (c .before .before .args .s) (c .before .before .args .x) ≡ true
-there c = sym (c .before .has .ensures) ∙ not-false (c .before .has .result) (c .if1 .left)
+there c = passed (c .before .has .ensures) (c .if1 .left)
 
 range : (c : tie.Else1) → (1 ≤ c .before .before .args .x) × (c .before .before .args .x ≤ 32)
 range c = has-range 32 (c .before .before .args .s) (c .before .before .args .x) (search needs) (there c)

@@ -1,0 +1,4 @@
+pub mod Ranges
+pub mod Senders
+pub mod Walks
+pub mod Examples
