@@ -1,14 +1,14 @@
 -- A set bit by bit, lowest first: what adding or taking a power of two does to `has` (specs/Sets). Each fact goes by
 -- halving: node 1 is the number's last binary digit, and node x + 1 is node x of its half. Assumes nothing.
-use Prim.Native.Nat.{ℕ, zero, suc, _+_, _-_, _*_, _/_, _%_, _^_, _≤_, _<_}
+use Prim.Native.Nat.{ℕ, zero, suc, _+_, _-_, _*_, _/_, _%_, _^_, _≤_, _<_, min}
 use mathlib.Core.Path.{_≡_, refl, sym, ap, ap₂, _∙_}
 use mathlib.Core.Logic.{_≢_}
-use mathlib.Core.Bool.{Bool, true, false, xor}
+use mathlib.Core.Bool.{Bool, true, false, not, xor, _&&_}
 use native.Mathlib.Omega.{arith}
 use native.Mathlib.Nat.{div-one, one-mul}
 use native.Mathlib.Numerals.{one-add, add-one}
 use lib.Dec.{eqb}
-use lib.Bits.{bitXor, differ, xor-step}
+use lib.Bits.{bitAnd, bitXor, differ, and-step, xor-step}
 use lib.Pow.{shr-shr, pow-pos, pow-mono, mod-pow-add, shl-exact}
 use borrow.Author.Tests.{eqb-true, eqb-false, eq-eqb, ne-eqb}
 use Rattle.nodeset.specs.Sets.{has}
@@ -166,6 +166,39 @@ has-xor a b (suc i) =
     let z : bitXor a b / 2 ≡ bitXor (a / 2) (b / 2) = omega (arith, xor-step a b, d) in
     has-next (bitXor a b) i ∙ ap (λ (q : ℕ). has q (suc i)) z ∙ has-xor (a / 2) (b / 2) i
     ∙ ap₂ xor (sym (has-next a i)) (sym (has-next b i))
+
+-- ---- the digits that two numbers share, and those that one lacks
+
+digit-and : (a b : ℕ) → a < 2 → b < 2 → (min a b < 2) × (eqb (min a b) 1 ≡ (eqb a 1 && eqb b 1))
+digit-and zero b h l = (omega arith, ne-eqb (min 0 b) 1 (λ e. omega arith))
+digit-and (suc zero) zero h l = (omega arith, refl)
+digit-and (suc zero) (suc zero) h l = (omega arith, refl)
+digit-and (suc zero) (suc (suc b)) h l = let z : ⊥ = omega arith in absurd z
+digit-and (suc (suc a)) b h l = let z : ⊥ = omega arith in absurd z
+
+pub has-and : (a b i : ℕ) → has (bitAnd a b) (suc i) ≡ (has a (suc i) && has b (suc i))
+has-and a b zero =
+    let d = digit-and (a % 2) (b % 2) (omega arith) (omega arith) in
+    let z : bitAnd a b % 2 ≡ min (a % 2) (b % 2) = omega (arith, and-step a b) in
+    has-first (bitAnd a b) ∙ ap (λ (q : ℕ). eqb q 1) z ∙ d .1 ∙ ap₂ _&&_ (sym (has-first a)) (sym (has-first b))
+has-and a b (suc i) =
+    let z : bitAnd a b / 2 ≡ bitAnd (a / 2) (b / 2) = omega (arith, and-step a b) in
+    has-next (bitAnd a b) i ∙ ap (λ (q : ℕ). has q (suc i)) z ∙ has-and (a / 2) (b / 2) i
+    ∙ ap₂ _&&_ (sym (has-next a i)) (sym (has-next b i))
+
+-- the complement within n digits
+pub has-not : (n s i : ℕ) → i < n → s < 2 ^ n → has (2 ^ n - 1 - s) (suc i) ≡ not (has s (suc i))
+has-not zero s i h l = absurd (elim h [ ])
+has-not (suc n) s zero h l =
+    go (has s 1) refl
+  where
+    go : (b : Bool) → has s 1 ≡ b → has (2 ^ suc n - 1 - s) 1 ≡ not (has s 1)
+    go true e = is-even (2 ^ suc n - 1 - s) (omega (arith, odd s e, pow-pos n)) ∙ ap not (sym e)
+    go false e = is-odd (2 ^ suc n - 1 - s) (omega (arith, even s e, pow-pos n)) ∙ ap not (sym e)
+has-not (suc n) s (suc i) h l =
+    let z : (2 ^ suc n - 1 - s) / 2 ≡ 2 ^ n - 1 - s / 2 = omega (arith, pow-pos n) in
+    has-next (2 ^ suc n - 1 - s) i ∙ ap (λ (q : ℕ). has q (suc i)) z ∙ has-not n (s / 2) i (omega arith) (omega arith)
+    ∙ ap not (sym (has-next s i))
 
 -- ---- the machine's words
 

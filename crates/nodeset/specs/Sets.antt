@@ -24,6 +24,10 @@ without s (suc i) = cond (has s (suc i)) (s - 2 ^ i) s
 unfoldable pub full : ℕ → ℕ
 full n = 2 ^ min n 32 - 1
 
+-- Every node of the first set is in the second.
+unfoldable pub subset : ℕ → ℕ → Bool
+subset a b = eqb (sum (λ x. num (has a x && not (has b x))) 1 32) 0
+
 -- How many of the nodes 1 to n are in the set.
 unfoldable pub size : ℕ → ℕ → ℕ
 size n s = sum (λ x. num (has s x)) 1 n
