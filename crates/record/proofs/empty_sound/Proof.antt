@@ -1,0 +1,16 @@
+-- `record::empty_sound` meets its contract: it makes the tests of its definition. Assumes nothing.
+use borrow.Author.Needs.{needs}
+use Rattle.record.proofs.empty_sound.Statement.{statement}
+use Rattle.record.proofs.empty_sound.Tie as tie
+
+is-listening-requires : tie.Need-is-listening-requires
+is-listening-requires c κs = search needs
+
+is-out-requires : tie.Need-is-out-requires
+is-out-requires c κs = search needs
+
+returns : tie.Need-returns
+returns c = cc
+
+pub empty-sound-spec : {M : Type 1} → statement M
+empty-sound-spec = tie.close (tie.spec is-listening-requires is-out-requires returns)

@@ -1,0 +1,13 @@
+-- `record::heard_sound` meets its contract: it makes the tests of its definition. Assumes nothing.
+use borrow.Author.Needs.{needs}
+use Rattle.record.proofs.heard_sound.Statement.{statement}
+use Rattle.record.proofs.heard_sound.Tie as tie
+
+is-knocking-requires : tie.Need-is-knocking-requires
+is-knocking-requires c κs = search needs
+
+returns : tie.Need-returns
+returns c = cc
+
+pub heard-sound-spec : {M : Type 1} → statement M
+heard-sound-spec = tie.close (tie.spec is-knocking-requires returns)

@@ -1,0 +1,21 @@
+-- `record::numbers_sound` meets its contract: it makes the tests of its definition. Assumes nothing.
+use borrow.Author.Needs.{needs}
+use Rattle.record.proofs.numbers_sound.Statement.{statement}
+use Rattle.record.proofs.numbers_sound.Tie as tie
+
+is-ring-size-requires : tie.Need-is-ring-size-requires
+is-ring-size-requires c κs = search needs
+
+is-sponsor-count-requires : tie.Need-is-sponsor-count-requires
+is-sponsor-count-requires c κs = search needs
+
+is-node-number-requires : tie.Need-is-node-number-requires
+is-node-number-requires c κs = search needs
+
+returns : tie.Need-returns
+returns c = cc
+
+pub numbers-sound-spec : {M : Type 1} → statement M
+numbers-sound-spec =
+    tie.close
+    (tie.spec is-ring-size-requires is-sponsor-count-requires is-node-number-requires returns)

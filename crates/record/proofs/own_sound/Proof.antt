@@ -1,0 +1,16 @@
+-- `record::own_sound` meets its contract: it makes the tests of its definition. Assumes nothing.
+use borrow.Author.Needs.{needs}
+use Rattle.record.proofs.own_sound.Statement.{statement}
+use Rattle.record.proofs.own_sound.Tie as tie
+
+is-member-requires : tie.Need-is-member-requires
+is-member-requires c κs = search needs
+
+has-requires : tie.Need-has-requires
+has-requires c κs = search needs
+
+returns : tie.Need-returns
+returns c = cc
+
+pub own-sound-spec : {M : Type 1} → statement M
+own-sound-spec = tie.close (tie.spec is-member-requires has-requires returns)
