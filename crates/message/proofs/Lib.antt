@@ -2,3 +2,6 @@
 pub mod Bytes
 pub mod Tests
 pub mod Parts
+pub mod RoundTrip
+pub mod Places
+pub mod Examples
