@@ -80,7 +80,7 @@ read-written k a b low high h =
     simp (le-leb 2 k low, le-leb k 31 high, eq-eqb (length bytes) (lengthOf k) (length-message k a b))
     (ap (λ (s : Section). saidBy s (sectionIn 1 (partTwo k bytes))) one ∙ ap (saidBy (right a)) two ∙ said-right a b)
 
--- What passes a test of the reader.
+-- what passes a test of the reader
 passed : (t : Bool) (cause : Refusal) (answer : Reading) (a : ℕ) (b : Bool) → ifRead t cause answer ≡ Heard a b → (t ≡ true) × (answer ≡ Heard a b)
 passed true cause answer a b e = (refl, e)
 passed false cause answer a b e = let z : _≡_ {A = ℕ} 0 1 = cc in absurd (omega arith)
@@ -139,45 +139,67 @@ bit-is : (x : ℕ) (b : Bool) → x < 2 ^ 1 → eqb (x % 2) 1 ≡ b → x ≡ co
 bit-is x true small e = let o : x % 2 ≡ 1 = eqb-true (x % 2) 1 e in omega arith
 bit-is x false small e = let o : x % 2 ≡ 1 → ⊥ = eqb-false (x % 2) 1 e in omega arith
 
+-- the sections of a readable message are those that are written
+one-is : (k a : ℕ) (b : Bool) (bytes : List ℕ) → Bytes bytes → Passed k bytes a b → partOne k bytes ≡ acknowledgementSection k a
+one-is k a b bytes h p =
+    let long = length-take-le (lengthOne k) bytes (omega (arith, p .sized)) in
+    rebuilt k (bytesFor k) (partOne k bytes) long (bytes-take (lengthOne k) bytes h) (p .count-one) ∙ ap (sectionOf k (bytesFor k)) (p .one)
+
+two-is : (k a : ℕ) (b : Bool) (bytes : List ℕ) → Bytes bytes → Passed k bytes a b → drop (lengthOne k) bytes ≡ returnSection b
+two-is k a b bytes h p =
+    let rest = drop (lengthOne k) bytes in
+    let long : length rest ≡ 2 = omega (arith, length-drop (lengthOne k) bytes, p .sized) in
+    let all : take 2 rest ≡ rest = take-all 2 rest (omega arith) in
+    let part = rebuilt 1 1 (take 2 rest) (ap length all ∙ long) (bytes-take 2 rest (bytes-drop (lengthOne k) bytes h)) (p .count-two) in
+    sym all ∙ part ∙ ap (sectionOf 1 1) (bit-is (bitsIn (take 2 rest)) b (p .clear-two) (p .two))
+
 -- Each readable message is the one that is written for what it reads as.
 pub written-read : (k a : ℕ) (b : Bool) (bytes : List ℕ) → Bytes bytes → readOf k bytes ≡ Heard a b → bytes ≡ messageOf k a b
 unfolding messageOf
-written-read k a b bytes h e = go (passed-all k a b bytes e)
-  where
-    go : Passed k bytes a b → bytes ≡ acknowledgementSection k a ++ returnSection b
-    go p =
-        let long : length (drop (lengthOne k) bytes) ≡ 2 = omega (arith, length-drop (lengthOne k) bytes, p .sized) in
-        let all : partTwo k bytes ≡ drop (lengthOne k) bytes = take-all 2 (drop (lengthOne k) bytes) (omega arith) in
-        let one : partOne k bytes ≡ acknowledgementSection k a =
-        rebuilt k (bytesFor k) (partOne k bytes) (length-take-le (lengthOne k) bytes (omega (arith, p .sized))) (bytes-take (lengthOne k) bytes h) (p .count-one)
-        ∙ ap (sectionOf k (bytesFor k)) (p .one) in
-        let two : partTwo k bytes ≡ returnSection b =
-        rebuilt 1 1 (partTwo k bytes) (ap length all ∙ long) (bytes-take 2 (drop (lengthOne k) bytes) (bytes-drop (lengthOne k) bytes h)) (p .count-two)
-        ∙ ap (sectionOf 1 1) (bit-is (bitsIn (partTwo k bytes)) b (p .clear-two) (p .two)) in
-        sym (take-append-drop (lengthOne k) bytes)
-        ∙ ap (λ (l : List ℕ). l ++ drop (lengthOne k) bytes) one
-        ∙ ap (λ (l : List ℕ). acknowledgementSection k a ++ l) (sym all ∙ two)
+written-read k a b bytes h e =
+    let p = passed-all k a b bytes e in
+    sym (take-append-drop (lengthOne k) bytes)
+    ∙ ap (λ (l : List ℕ). l ++ drop (lengthOne k) bytes) (one-is k a b bytes h p)
+    ∙ ap (λ (l : List ℕ). acknowledgementSection k a ++ l) (two-is k a b bytes h p)
 
--- What passes a test of the writer.
-passed-write : (t : Bool) (cause : Refusal) (out : List ℕ) (outcome : Outcome) (n : ℕ) (after : List ℕ)
+-- ---- what the writer does
+
+-- what passes a test of the writer
+put : (t : Bool) (cause : Refusal) (out : List ℕ) (outcome : Outcome) (n : ℕ) (after : List ℕ)
     → ifWritten t cause out outcome ≡ (Written n, after) → (t ≡ true) × (outcome ≡ (Written n, after))
-passed-write true cause out outcome n after e = (refl, e)
-passed-write false cause out outcome n after e =
+put true cause out outcome n after e = (refl, e)
+put false cause out outcome n after e =
     let answers = ap (λ (o : Outcome). o .0) e in
-    let z : _≡_ {A = ℕ} 0 1 = cc in absurd (omega arith)
+    let z : _≡_ {A = ℕ} 0 1 = cc in
+    absurd (omega arith)
+
+-- what holds where bytes were written
+pub record Put (k a : ℕ) (b : Bool) (out : List ℕ) (n : ℕ) (after : List ℕ) : Type 0 where
+  pub low : 2 ≤ k
+  pub high : k ≤ 31
+  pub within : a < 2 ^ k
+  pub told : lengthOf k ≡ n
+  pub left : messageOf k a b ++ drop (lengthOf k) out ≡ after
+
+pub put-all : (k a : ℕ) (b : Bool) (out : List ℕ) (n : ℕ) (after : List ℕ) → writeOf k a b out ≡ (Written n, after) → Put k a b out n after
+unfolding writeOf
+put-all k a b out n after e =
+    let p1 = put (inRange k) SponsorCount out _ n after e in
+    let p2 = put (ltb a (2 ^ k)) SpareBit out _ n after (p1 .1) in
+    let p3 = put (leb (lengthOf k) (length out)) OutputShort out _ n after (p2 .1) in
+    let r = in-range k (p1 .0) in
+    let answer : Written (lengthOf k) ≡ Written n = ap (λ (o : Outcome). o .0) (p3 .1) in
+    record {
+      low = r .0;
+      high = r .1;
+      within = ltb-true a (2 ^ k) (p2 .0);
+      told = cc answer;
+      left = ap (λ (o : Outcome). o .1) (p3 .1);
+    }
 
 -- What the writer leaves in the lent bytes is read back.
 pub read-back : (k a : ℕ) (b : Bool) (out : List ℕ) (n : ℕ) (after : List ℕ) → writeOf k a b out ≡ (Written n, after) → readOf k (take n after) ≡ Heard a b
-unfolding writeOf
 read-back k a b out n after e =
-    let p1 = passed-write (inRange k) SponsorCount out _ n after e in
-    let p2 = passed-write (ltb a (2 ^ k)) SpareBit out _ n after (p1 .1) in
-    let p3 = passed-write (leb (lengthOf k) (length out)) OutputShort out _ n after (p2 .1) in
-    let r = in-range k (p1 .0) in
-    let h : a < 2 ^ k = ltb-true a (2 ^ k) (p2 .0) in
-    let told : Written (lengthOf k) ≡ Written n = ap (λ (o : Outcome). o .0) (p3 .1) in
-    let m : lengthOf k ≡ n = cc told in
-    let l : messageOf k a b ++ drop (lengthOf k) out ≡ after = ap (λ (o : Outcome). o .1) (p3 .1) in
-    let front : take n after ≡ messageOf k a b =
-    ap (take n) (sym l) ∙ take-at (messageOf k a b) (drop (lengthOf k) out) n (length-message k a b ∙ m) in
-    ap (readOf k) front ∙ read-written k a b (r .0) (r .1) h
+    let p = put-all k a b out n after e in
+    let front = take-at (messageOf k a b) (drop (lengthOf k) out) n (length-message k a b ∙ p .told) in
+    ap (λ (l : List ℕ). readOf k (take n l)) (sym (p .left)) ∙ ap (readOf k) front ∙ read-written k a b (p .low) (p .high) (p .within)
