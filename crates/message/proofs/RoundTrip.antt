@@ -20,7 +20,7 @@ use Rattle.message.specs.declared.Written.the-variants.{Bytes as Written
 use Rattle.message.specs.Message.{Outcome, acknowledgementSection, bitsIn, bytesFor, bytesOf, ifRead, ifWritten, inRange, lengthOf, lengthOne, little, messageOf, partOne, partTwo, readOf, returnSection, saidBy, sectionIn, sectionOf, writeOf}
 use Rattle.message.proofs.Bytes.{Bytes, bytes-tail, bytes-drop, little-bytesOf, bytesOf-little, length-bytesOf}
 use Rattle.message.proofs.Parts.{length-section}
-use Rattle.message.proofs.Tests.{in-range}
+use Rattle.message.proofs.Tests.{bit-small, in-range}
 
 -- ---- one section
 
@@ -57,10 +57,6 @@ second-part k a b = ap (take 2) (drop-at (acknowledgementSection k a) (returnSec
 bit-back : (b : Bool) → eqb (cond b 1 0 % 2) 1 ≡ b
 bit-back true = refl
 bit-back false = refl
-
-bit-small : (b : Bool) → cond b 1 0 < 2 ^ 1
-bit-small true = omega arith
-bit-small false = omega arith
 
 -- a section without fault that holds the bits
 abbrev right : ℕ → Section

@@ -1,11 +1,12 @@
 -- What the code's tests say of the definitions' tests.
 -- Assumes nothing.
 use Prim.Native.Nat.{ℕ, _/_, _*_, _^_, _≤_, _<_}
-use mathlib.Core.Path.{_≡_, sym, ap, _∙_}
-use mathlib.Core.Bool.{Bool, true, false, _&&_, true≢false}
+use mathlib.Core.Path.{_≡_, refl, sym, ap, _∙_}
+use mathlib.Core.Bool.{Bool, true, false, _&&_, cond, true≢false}
 use native.Mathlib.Omega.{arith}
 use native.Mathlib.Decide.{decLt}
 use native.Mathlib.Nat.{div-eq-of-lt, le-div-iff-mul-le}
+use mir.Val.{boolByte}
 use lib.Dec.{eqb, ltb, leb}
 use lib.Pow.{pow-pos}
 use borrow.Author.Tests.{eq-eqb, ne-eqb, lt-ltb, le-ltb, leb-true}
@@ -31,3 +32,12 @@ pub in-range : (k : ℕ) → inRange k ≡ true → (2 ≤ k) × (k ≤ 31)
 in-range k e =
     let h = both (leb 2 k) (leb k 31) e in
     (leb-true 2 k (h .0), leb-true k 31 (h .1))
+
+-- a bool as the number that the code makes of it
+pub byte-is : (b : Bool) → boolByte b ≡ cond b 1 0
+byte-is true = refl
+byte-is false = refl
+
+pub bit-small : (b : Bool) → cond b 1 0 < 2
+bit-small true = omega arith
+bit-small false = omega arith

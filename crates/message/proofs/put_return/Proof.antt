@@ -1,20 +1,14 @@
 -- `message::put_return` meets its contract: the part that was lent comes back as the section.
 -- Assumes nothing.
 use borrow.Author.Needs.{needs}
-use mathlib.Core.Path.{_≡_, refl, ap, _∙_}
-use mathlib.Core.Bool.{Bool, true, false, cond}
+use mathlib.Core.Path.{ap, _∙_}
 use native.Mathlib.Omega.{arith}
-use mir.Val.{boolByte}
 use denote.Ref.{now}
 use Rattle.message.specs.Message.{sectionOf}
 use Rattle.message.proofs.Parts.{second-put}
+use Rattle.message.proofs.Tests.{byte-is}
 use Rattle.message.proofs.put_return.Statement.{statement}
 use Rattle.message.proofs.put_return.Tie as tie
-
--- a bool as a number
-byte-is : (b : Bool) → boolByte b ≡ cond b 1 0
-byte-is true = refl
-byte-is false = refl
 
 length-one-requires : tie.Need-length-one-requires
 length-one-requires c κs = search needs
