@@ -1,12 +1,11 @@
 -- The examples of document 01 on messages that are marked P, computed from the definitions.
 -- Assumes nothing.
 use mathlib.Core.Path.{_≡_, refl}
-use mathlib.Core.List.{List, [], _∷_}
+use mathlib.Core.List.{[], _∷_}
 use mathlib.Core.Bool.{true, false}
-use Prim.Native.Nat.{ℕ}
 use Rattle.refusal.specs.Causes.{numberOf}
 use Rattle.refusal.specs.declared.Refusal.the-variants.{SectionCount, SpareBit}
-use Rattle.message.specs.declared.Reading.the-variants.{Heard, Refused}
+use Rattle.message.specs.declared.Reading.the-variants.{Refused}
 use Rattle.message.specs.Message.{bytesOf, lengthOf, little, messageOf, readOf, saidBy}
 
 -- "k = 2, both yes, no return: 02 03 01 00."

@@ -1,12 +1,12 @@
 -- The parts of a lent slice that the sections fill, put together.
 -- Assumes nothing.
 use Prim.Native.Nat.{ℕ, _+_, _-_, _≤_}
-use mathlib.Core.Path.{_≡_, refl, sym, ap, _∙_}
+use mathlib.Core.Path.{_≡_, sym, ap, _∙_}
 use mathlib.Core.List.{List, _++_, append-assoc}
 use mathlib.Core.Bool.{Bool, cond}
 use native.Mathlib.Omega.{arith}
 use native.Mathlib.Nat.{add-sub-cancel-left}
-use lib.ListN.{length, take, drop, length-append, length-drop}
+use lib.ListN.{length, take, drop, length-drop}
 use lib.Seq.{length-take-le, drop-drop, take-at, drop-at}
 use Rattle.message.specs.Message.{sectionOf, acknowledgementSection, returnSection, messageOf, bytesFor, lengthOne, lengthOf}
 use Rattle.message.proofs.Bytes.{length-bytesOf}

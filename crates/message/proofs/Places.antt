@@ -1,14 +1,14 @@
 -- Where each acknowledgement stands in a message: "lowest bit first", 8 to a byte. By induction on the bytes.
 -- Assumes nothing.
 use Prim.Native.Nat.{ℕ, zero, suc, _+_, _-_, _*_, _/_, _%_, _^_, _<_}
-use mathlib.Core.Path.{_≡_, refl, sym, ap, _∙_}
-use mathlib.Core.List.{List, _∷_, _++_}
+use mathlib.Core.Path.{_≡_, sym, ap, _∙_}
+use mathlib.Core.List.{_++_}
 use mathlib.Core.Bool.{Bool}
 use native.Mathlib.Omega.{arith}
 use native.Mathlib.Nat.{div-one}
-use lib.ListN.{length, getD, List·getD-append}
+use lib.ListN.{getD, List·getD-append}
 use lib.Pow.{field, mod-mod-pow, shr-shr}
-use Rattle.message.specs.Message.{acknowledgementSection, bytesFor, bytesOf, messageOf, returnSection}
+use Rattle.message.specs.Message.{bytesFor, bytesOf, messageOf, returnSection}
 use Rattle.message.proofs.Bytes.{length-bytesOf}
 
 -- byte j of a number

@@ -1,24 +1,24 @@
 -- What is written is read back, and each readable message is the one that is written for what it reads as: for every k from 2 to 31 at once,
 -- from one law for any section (`found`, `rebuilt`). Assumes nothing.
-use Prim.Native.Nat.{ℕ, zero, suc, _+_, _-_, _*_, _/_, _%_, _^_, _≤_, _<_}
+use Prim.Native.Nat.{ℕ, _+_, _*_, _%_, _^_, _≤_, _<_}
 use mathlib.Core.Path.{_≡_, refl, sym, ap, _∙_}
 use mathlib.Core.List.{List, [], _∷_, _++_}
-use mathlib.Core.Bool.{Bool, true, false, cond, _&&_}
+use mathlib.Core.Bool.{Bool, true, false, cond}
 use native.Mathlib.Omega.{arith}
 use native.Mathlib.Nat.{lt-of-lt-of-le, min-le-left, min-le-right}
 use lib.ListN.{length, getD, take, drop, length-append, length-drop, length-take, take-append-drop}
-use lib.Seq.{length-take-le, take-all, take-at, drop-at, getD-take, getD-drop}
+use lib.Seq.{length-take-le, take-all, take-at, drop-at, getD-take}
 use lib.Dec.{eqb, ltb, leb}
 use lib.Pow.{pow-mono}
-use borrow.Author.Tests.{eq-eqb, ne-eqb, lt-ltb, ltb-true, le-leb, eqb-true, eqb-false}
+use borrow.Author.Tests.{eq-eqb, lt-ltb, ltb-true, le-leb, eqb-true, eqb-false}
 use Rattle.refusal.specs.declared.Refusal.{Refusal}
 use Rattle.refusal.specs.declared.Refusal.the-variants.{SponsorCount, SpareBit, OutputShort}
 use Rattle.message.specs.declared.Reading.{Reading}
-use Rattle.message.specs.declared.Reading.the-variants.{Heard, Refused}
+use Rattle.message.specs.declared.Reading.the-variants.{Heard}
 use Rattle.message.specs.declared.Section.{Section}
 use Rattle.message.specs.declared.Written.the-variants.{Bytes as Written}
 use Rattle.message.specs.Message.{Outcome, acknowledgementSection, bitsIn, bytesFor, bytesOf, ifRead, ifWritten, inRange, lengthOf, lengthOne, little, messageOf, partOne, partTwo, readOf, returnSection, saidBy, sectionIn, sectionOf, writeOf}
-use Rattle.message.proofs.Bytes.{Bytes, bytes-tail, bytes-drop, little-bytesOf, bytesOf-little, length-bytesOf}
+use Rattle.message.proofs.Bytes.{Bytes, bytes-tail, bytes-drop, little-bytesOf, bytesOf-little}
 use Rattle.message.proofs.Parts.{length-section}
 use Rattle.message.proofs.Tests.{bit-small, in-range}
 

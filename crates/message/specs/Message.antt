@@ -24,7 +24,7 @@ unfoldable pub bytesOf : ℕ → ℕ → List ℕ
 bytesOf zero bits = []
 bytesOf (suc size) bits = bits % 256 ∷ bytesOf size (bits / 256)
 
--- "sections in fixed order, each after its count"
+-- "sections in fixed order, each after its count": the count, then the bits in so many bytes. "Spare bits are 0."
 abbrev pub sectionOf : ℕ → ℕ → ℕ → List ℕ
 sectionOf count size bits = count ∷ bytesOf size bits
 
@@ -36,14 +36,15 @@ acknowledgementSection k acknowledgements = sectionOf k (bytesFor k) acknowledge
 abbrev pub returnSection : Bool → List ℕ
 returnSection returnBit = sectionOf 1 1 (cond returnBit 1 0)
 
+-- the sections in their order
 unfoldable pub messageOf : ℕ → ℕ → Bool → List ℕ
 messageOf k acknowledgements returnBit = acknowledgementSection k acknowledgements ++ returnSection returnBit
 
--- the bytes of section one, and of both
+-- the length of section one
 abbrev pub lengthOne : ℕ → ℕ
 lengthOne k = 1 + bytesFor k
 
--- "Length for k = 8 is 4 bytes, for k = 9 it is 5."
+-- the length of a message: "Length for k = 8 is 4 bytes, for k = 9 it is 5."
 abbrev pub lengthOf : ℕ → ℕ
 lengthOf k = lengthOne k + 2
 
@@ -101,7 +102,7 @@ readOf k bytes =
 abbrev pub Outcome : Type 0
 Outcome = Written × List ℕ
 
--- "Left as it was: .. every byte"
+-- the outcome where a test holds, and where it does not the refusal, which leaves every lent byte as it was
 abbrev pub ifWritten : Bool → Refusal → List ℕ → Outcome → Outcome
 ifWritten true cause out outcome = outcome
 ifWritten false cause out outcome = (written.Refused cause, out)

@@ -3,25 +3,9 @@
 use refusal::Refusal;
 ghost use mathlib.Core.Path.{_≡_};
 ghost use mathlib.Core.List.{_++_};
-ghost use mathlib.Core.Bool.{Bool};
 ghost use Prim.Native.Nat.{_+_, _-_, _≤_, _<_};
 ghost use lib.ListN.{length, take, drop};
-ghost use Rattle.message.specs.Message.{
-  acknowledgementSection,
-  bitsIn,
-  bytesFor,
-  inRange,
-  lengthOf,
-  lengthOne,
-  partOne,
-  partTwo,
-  readOf,
-  returnSection,
-  saidBy,
-  sectionIn,
-  sectionOf,
-  writeOf,
-};
+ghost use Rattle.message.specs.Message.{acknowledgementSection, bitsIn, inRange, lengthOf, lengthOne, partOne, partTwo, readOf, returnSection, saidBy, sectionIn, sectionOf, writeOf};
 
 // What is read from bytes: what a message says, or why the bytes are no message.
 pub enum Reading {
@@ -52,7 +36,7 @@ fn in_range(k: u32) -> bool
     2 <= k && k <= 31
 }
 
-// The length of section one, for a k in range.
+// The length of section one. Requires k at most 31.
 fn length_one(k: u32) -> usize
     requires { ⌜ k ≤ 31 ⌝ }
     ensures { λ r. ⌜ r ≡ lengthOne k ⌝ }
@@ -60,7 +44,7 @@ fn length_one(k: u32) -> usize
     1 + ((k + 7) / 8) as usize
 }
 
-// The bits of a section of at most 4 bytes after its count.
+// The bits of a section. Requires that it has its count, and at most 4 bytes after it, so that the bits fit.
 fn bits_in(part: &[u8]) -> u32
     requires { ⌜ (1 ≤ length (now part)) × (length (now part) ≤ 5) ⌝ }
     ensures { λ r. ⌜ r ≡ bitsIn (now (part .entry)) ⌝ }
@@ -74,7 +58,7 @@ fn bits_in(part: &[u8]) -> u32
     bits
 }
 
-// A section that should have the count given.
+// A section as it is found where the count given is due. Requires what `bits_in` does, and a count below 32.
 fn section_in(count: u32, part: &[u8]) -> Section
     requires { ⌜ (count < 32) × ((1 ≤ length (now part)) × (length (now part) ≤ 5)) ⌝ }
     ensures { λ r. ⌜ r ≡ sectionIn count (now (part .entry)) ⌝ }
@@ -87,7 +71,7 @@ fn section_in(count: u32, part: &[u8]) -> Section
     }
 }
 
-// Section one of bytes that are long enough: k acknowledgements.
+// Section one of bytes, the k acknowledgements. Requires bytes as long as a message for k.
 fn acknowledgements_in(k: u32, bytes: &[u8]) -> Section
     requires { ⌜ (k ≤ 31) × (lengthOf k ≤ length (now bytes)) ⌝ }
     ensures { λ r. ⌜ r ≡ sectionIn k (partOne k (now (bytes .entry))) ⌝ }
@@ -96,7 +80,7 @@ fn acknowledgements_in(k: u32, bytes: &[u8]) -> Section
     section_in(k, &bytes[..end])
 }
 
-// Section two of bytes that are long enough: the return bit.
+// Section two of bytes, the return bit. Requires bytes as long as a message for k.
 fn return_in(k: u32, bytes: &[u8]) -> Section
     requires { ⌜ (k ≤ 31) × (lengthOf k ≤ length (now bytes)) ⌝ }
     ensures { λ r. ⌜ r ≡ sectionIn 1 (partTwo k (now (bytes .entry))) ⌝ }
@@ -127,7 +111,7 @@ fn said_by(one: Section, two: Section) -> Reading
     }
 }
 
-// Reads a message for k.
+// Reads a message for k. It takes any bytes, and refuses by 2, 6, 7 and 8, in this order.
 pub fn read(k: u32, bytes: &[u8]) -> Reading
     ensures { λ r. ⌜ r ≡ readOf k (now (bytes .entry)) ⌝ }
 {
@@ -140,7 +124,7 @@ pub fn read(k: u32, bytes: &[u8]) -> Reading
     said_by(acknowledgements_in(k, bytes), return_in(k, bytes))
 }
 
-// Fills part with a section: the count, then the bits in the bytes that are left.
+// Fills part with a section: the count, then the bits in the bytes that are left. Requires a count that fits a byte, and room for it.
 fn put_section(count: u32, bits: u32, part: &mut [u8])
     requires { ⌜ (count < 256) × (1 ≤ length (now part)) ⌝ }
     ensures { λ _. ⌜ now (part .exit) ≡ sectionOf count (length (now (part .entry)) - 1) bits ⌝ }
@@ -155,7 +139,7 @@ fn put_section(count: u32, bits: u32, part: &mut [u8])
     }
 }
 
-// Writes section one into bytes that are long enough.
+// Writes section one to its place in out. Requires room for a message for k.
 fn put_acknowledgements(k: u32, acknowledgements: u32, out: &mut [u8])
     requires { ⌜ (k ≤ 31) × (lengthOf k ≤ length (now out)) ⌝ }
     ensures { λ _. ⌜ now (out .exit) ≡ acknowledgementSection k acknowledgements ++ drop (lengthOne k) (now (out .entry)) ⌝ }
@@ -164,7 +148,7 @@ fn put_acknowledgements(k: u32, acknowledgements: u32, out: &mut [u8])
     put_section(k, acknowledgements, &mut out[..end]);
 }
 
-// Writes section two into bytes that are long enough.
+// Writes section two to its place in out. Requires room for a message for k.
 fn put_return(k: u32, return_bit: bool, out: &mut [u8])
     requires { ⌜ (k ≤ 31) × (lengthOf k ≤ length (now out)) ⌝ }
     ensures { λ _. ⌜ now (out .exit) ≡ take (lengthOne k) (now (out .entry)) ++ (returnSection «return_bit» ++ drop (lengthOf k) (now (out .entry))) ⌝ }
@@ -173,7 +157,7 @@ fn put_return(k: u32, return_bit: bool, out: &mut [u8])
     put_section(1, return_bit as u32, &mut out[start..start + 2]);
 }
 
-// Writes a message for k to the start of out.
+// Writes a message for k to the start of out, and leaves the bytes after it. It refuses by 2, 8 and 9, in this order, and then writes nothing.
 pub fn write(k: u32, acknowledgements: u32, return_bit: bool, out: &mut [u8]) -> Written
     ensures { λ r. ⌜ (r, now (out .exit)) ≡ writeOf k acknowledgements «return_bit» (now (out .entry)) ⌝ }
 {

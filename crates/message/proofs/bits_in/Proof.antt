@@ -1,15 +1,14 @@
 -- `message::bits_in` meets its contract. The loop's invariant: `bits` is what the bytes from `i` on hold; it is below 2 ^ 24 before a turn, since at
 -- most 3 bytes have been read. The measure is `i`. Assumes nothing.
 use Prim.Native.Nat.{ℕ, suc, _+_, _-_, _*_, _^_, _≤_, _<_}
-use mathlib.Core.Path.{_≡_, refl, sym, ap, _∙_}
+use mathlib.Core.Path.{_≡_, sym, ap, _∙_}
 use native.Mathlib.Omega.{arith}
-use native.Mathlib.Numerals.{add-one}
 use borrow.Author.Needs.{needs}
 use lib.ListN.{length, drop, getD}
 use lib.Seq.{drop-length}
 use denote.Ref.{now}
 use Rattle.message.specs.Message.{little}
-use Rattle.message.proofs.Bytes.{Bytes, three-lt, little-drop}
+use Rattle.message.proofs.Bytes.{three-lt, little-drop}
 use Rattle.message.proofs.bits_in.Statement.{statement}
 use Rattle.message.proofs.bits_in.Tie as tie
 

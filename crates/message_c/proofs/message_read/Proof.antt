@@ -1,7 +1,7 @@
 -- `message_c::message_read` meets its contract: the number that each case of the reading gives is the one that `readingNumber` gives it.
 -- Assumes nothing.
 use Prim.Native.Nat.{ℕ, _+_, _*_, _<_}
-use mathlib.Core.Path.{_≡_, sym, ap, _∙_}
+use mathlib.Core.Path.{sym, ap, _∙_}
 use mathlib.Core.Bool.{Bool}
 use native.Mathlib.Omega.{arith}
 use mir.Val.{boolByte}

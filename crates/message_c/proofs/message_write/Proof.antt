@@ -1,8 +1,7 @@
 -- `message_c::message_write` meets its contract: the number that each case of the answer gives is the one that `writtenNumber` gives it. A
 -- message has at most 7 bytes, so that the sum fits. Assumes nothing.
-use Prim.Native.Nat.{ℕ, _+_, _≤_}
+use Prim.Native.Nat.{ℕ}
 use mathlib.Core.Path.{_≡_, sym, ap, _∙_}
-use mathlib.Core.List.{List}
 use native.Mathlib.Omega.{arith}
 use denote.Ref.{now}
 use Rattle.message.specs.Message.{writeOf}
