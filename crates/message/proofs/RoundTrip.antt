@@ -96,8 +96,6 @@ pub record Passed (k : ℕ) (bytes : List ℕ) (a : ℕ) (b : Bool) : Type 0 whe
 pub passed-all : (k a : ℕ) (b : Bool) (bytes : List ℕ) → readOf k bytes ≡ Heard a b → Passed k bytes a b
 unfolding readOf saidBy
 passed-all k a b bytes e =
-    let s1 = sectionIn k (partOne k bytes) in
-    let s2 = sectionIn 1 (partTwo k bytes) in
     let p1 = passed _ _ _ a b e in
     let p2 = passed _ _ _ a b (p1 .1) in
     let p3 = passed _ _ _ a b (p2 .1) in
