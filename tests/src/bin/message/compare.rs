@@ -1,0 +1,77 @@
+//! One comparison of the reader, one of the writer.
+
+use comparison::library;
+use comparison::model::message;
+use comparison::report::Count;
+
+/// Values of k beyond 40: those that look like a small k if their high bits are lost, and the ends.
+pub const LARGE_K: [u32; 14] =
+    [41, 63, 64, 127, 128, 255, 256, 258, 265, 65_538, 1 << 31, (1 << 31) + 2, u32::MAX - 1, u32::MAX];
+
+/// The k from 0 to 40, then the large ones.
+pub fn all_k() -> impl Iterator<Item = u32> {
+    (0..=40).chain(LARGE_K)
+}
+
+/// The bytes in hexadecimal; of a long string its start and its length.
+pub fn hex(bytes: &[u8]) -> String {
+    let shown = bytes.len().min(32);
+    let mut text: Vec<String> = bytes[..shown].iter().map(|byte| format!("{byte:02X}")).collect();
+    if shown < bytes.len() {
+        text.push(format!(".. {} bytes", bytes.len()));
+    }
+    text.join(" ")
+}
+
+/// Reads by both and compares the answers.
+pub fn read(count: &mut Count, k: u32, bytes: &[u8]) -> Result<(), String> {
+    let expected = message::read(k, bytes);
+    count.expected(expected.err().unwrap_or(0));
+    let got = library::read(k, bytes);
+    count.check(got == expected.map_err(u64::from), || {
+        format!("read k = {k}, bytes [{}]: library {got:?}, model {expected:?}", hex(bytes))
+    })
+}
+
+/// Bytes before and after the lent ones, which nobody may touch.
+const GUARD: usize = 8;
+
+/// A byte of the fill at each place, and its complement, so that no written byte equals both.
+fn fill(length: usize, flip: u8) -> Vec<u8> {
+    (0..length).map(|i| (i as u8).wrapping_mul(37) ^ 0xA5 ^ flip).collect()
+}
+
+/// Writes by both into part of a filled buffer and compares answers and buffers; every byte that
+/// is not of a written message must still be the fill.
+pub fn write(count: &mut Count, k: u32, acks: u32, ret: bool, length: usize) -> Result<(), String> {
+    for flip in [0x00, 0xFF] {
+        let before = fill(GUARD + length + GUARD, flip);
+        let lent = GUARD..GUARD + length;
+        let mut by_model = before.clone();
+        let expected = message::write(k, acks, ret, &mut by_model[lent.clone()]);
+        let mut by_library = before.clone();
+        let got = library::write(k, acks, ret, &mut by_library[lent]);
+
+        count.expected(expected.err().unwrap_or(0));
+        let call = || format!("write k = {k}, acks = {acks:#X}, return {ret}, output of {length} bytes");
+        let answer = expected.map(|n| n as u64).map_err(u64::from);
+        count.check(got == answer, || format!("{}: library {got:?}, model {expected:?}", call()))?;
+        let written = expected.unwrap_or(0);
+        for (who, after) in [("model", &by_model), ("library", &by_library)] {
+            let same =
+                after[..GUARD] == before[..GUARD] && after[GUARD + written..] == before[GUARD + written..];
+            count.check(same, || {
+                format!(
+                    "{}: {who} changed a byte outside the message, from [{}] to [{}] ({GUARD} guard bytes on each side)",
+                    call(),
+                    hex(&before),
+                    hex(after)
+                )
+            })?;
+        }
+        count.check(by_library == by_model, || {
+            format!("{}: library [{}], model [{}]", call(), hex(&by_library), hex(&by_model))
+        })?;
+    }
+    Ok(())
+}

@@ -1,0 +1,6 @@
+//! The library beside a model written from document 01 alone.
+
+pub mod library;
+pub mod model;
+pub mod random;
+pub mod report;

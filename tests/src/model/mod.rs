@@ -1,0 +1,4 @@
+//! The rules of document 01, written from its text alone.
+
+pub mod message;
+pub mod refusal;
