@@ -3,21 +3,19 @@
 use Prim.Native.Nat.{ℕ, zero, suc, _+_, _-_, _/_, _%_, _^_, _≤_, _<_, min}
 use mathlib.Core.Path.{_≡_, refl, sym, ap, ap₂, _∙_}
 use mathlib.Core.Logic.{_≢_}
-use mathlib.Core.Bool.{Bool, true, false, cond, not, xor, true≢false, _&&_}
+use mathlib.Core.Bool.{Bool, true, false, cond, xor}
 use native.Mathlib.Omega.{arith}
 use native.Mathlib.Decide.{decLe}
 use native.Mathlib.Nat.{add-zero, mod-lt}
-use lib.Bits.{bitAnd, bitXor, and-mask, and-lt}
-use lib.Dec.{eqb}
+use lib.Bits.{bitAnd, bitXor, and-mask}
 use lib.Count.{ones, ones-step, ones-le, trailingZeros, under}
 use lib.Pow.{pow-pos, pow-mono}
-use borrow.Author.Tests.{eqb-true, eqb-false, eq-eqb, ne-eqb}
 use Rattle.nodeset.specs.Sums.{sum, num}
-use Rattle.nodeset.specs.Sets.{has, with, without, full, subset, size, distance, runFrom, run}
+use Rattle.nodeset.specs.Sets.{has, with, without, full, size, distance, runFrom, run}
 use Rattle.nodeset.proofs.Tests.{by-cases}
 use Rattle.nodeset.proofs.Sums.{sum-none, sum-next, sum-same, sum-zero, sum-at, sum-but, sum-first, sum-moved, sum-split, num-le, num-false}
-use Rattle.nodeset.proofs.Bits.{has-next, odd, even, has-beyond, has-mod, has-none, has-and, has-not, has-xor}
-use Rattle.nodeset.proofs.Laws.{has-range, has-with, has-with-other, has-without, has-without-other, has-full, set-ext}
+use Rattle.nodeset.proofs.Bits.{has-next, odd, even, has-beyond, has-mod, has-none, has-xor}
+use Rattle.nodeset.proofs.Laws.{has-with, has-with-other, has-without, has-without-other, has-full, set-ext}
 
 -- ---- how many
 
@@ -39,7 +37,7 @@ ones-size (suc n) s h =
     sym (sum-moved f 1 n) ∙ sum-same (λ u. f (suc u)) (λ x. num (has (s / 2) x)) 1 n (λ u p q. ap num (half s u p)) in
     omega (arith, ones-step s, ones-size n (s / 2) (omega arith), sum-first f 1 n, last s, e)
 
-size-is : (n s : ℕ) → size n s ≡ sum (λ x. num (has s x)) 1 n
+pub size-is : (n s : ℕ) → size n s ≡ sum (λ x. num (has s x)) 1 n
 unfolding size
 size-is n s = refl
 
@@ -100,49 +98,6 @@ pub size-zero : (n s : ℕ) → s < 2 ^ n → size n s ≡ 0 → s ≡ 0
 unfolding size
 size-zero n s l e =
     set-ext n s 0 l (pow-pos n) (λ x p q. num-false (has s x) (omega (arith, sum-at (λ x. num (has s x)) 1 n x p (omega arith))) ∙ sym (has-none x))
-
--- ---- subsets
-
-pub subset-has : (a b x : ℕ) → a < 2 ^ 32 → subset a b ≡ true → has a x ≡ true → has b x ≡ true
-unfolding subset
-subset-has a b x l e h =
-    let f : ℕ → ℕ = λ x. num (has a x && not (has b x)) in
-    let r = has-range 32 a x l h in
-    go (has b x) (num-false (has a x && not (has b x)) (omega (arith, eqb-true (sum f 1 32) 0 e, sum-at f 1 32 x (r .0) (omega (arith, r .1)))))
-  where
-    go : (b : Bool) → (has a x && not b) ≡ false → b ≡ true
-    go true z = refl
-    go false z = absurd (true≢false (sym (ap (λ (c : Bool). c && true) h) ∙ z))
-
-pub has-subset : (a b : ℕ) → ((x : ℕ) → 1 ≤ x → x ≤ 32 → has a x ≡ true → has b x ≡ true) → subset a b ≡ true
-unfolding subset
-has-subset a b h =
-    eq-eqb (sum (λ x. num (has a x && not (has b x))) 1 32) 0
-    (sum-zero (λ x. num (has a x && not (has b x))) 1 32 (λ u p q. ap num (go (has a u) (has b u) (h u p (omega arith)))))
-  where
-    go : (a b : Bool) → (a ≡ true → b ≡ true) → (a && not b) ≡ false
-    go true b f = ap not (f refl)
-    go false b f = refl
-
--- what the machine tests
-pub masked-subset : (a b : ℕ) → a < 2 ^ 32 → b < 2 ^ 32 → eqb (bitAnd a (2 ^ 32 - 1 - b)) 0 ≡ subset a b
-unfolding subset
-masked-subset a b p q =
-    let d : ℕ = bitAnd a (2 ^ 32 - 1 - b) in
-    let lt : d < 2 ^ 32 = and-lt 32 a (2 ^ 32 - 1 - b) p (omega arith) in
-    by-cases (eqb d 0)
-    (λ e. e ∙ sym (eq-eqb total 0 (sym same ∙ ap (size 32) (eqb-true d 0 e) ∙ size-none 32)))
-    (λ e. e ∙ sym (ne-eqb total 0 (λ z. eqb-false d 0 e (size-zero 32 d lt (same ∙ z)))))
-  where
-    total : ℕ
-    total = sum (λ x. num (has a x && not (has b x))) 1 32
-
-    each : (u : ℕ) → 1 ≤ u → u < 1 + 32 → num (has (bitAnd a (2 ^ 32 - 1 - b)) u) ≡ num (has a u && not (has b u))
-    each zero i j = absurd (elim i [ ])
-    each (suc u) i j = ap num (has-and a (2 ^ 32 - 1 - b) u ∙ ap (λ (c : Bool). has a (suc u) && c) (has-not 32 b u (omega arith) q))
-
-    same : size 32 (bitAnd a (2 ^ 32 - 1 - b)) ≡ total
-    same = size-is 32 (bitAnd a (2 ^ 32 - 1 - b)) ∙ sum-same (λ x. num (has (bitAnd a (2 ^ 32 - 1 - b)) x)) (λ x. num (has a x && not (has b x))) 1 32 each
 
 -- ---- the distance
 

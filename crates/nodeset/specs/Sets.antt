@@ -24,6 +24,10 @@ without s (suc i) = cond (has s (suc i)) (s - 2 ^ i) s
 unfoldable pub full : ℕ → ℕ
 full n = 2 ^ min n 32 - 1
 
+-- The set holds only numbers 1 to n.
+abbrev pub within : ℕ → ℕ → Bool
+within n s = ltb s (2 ^ n)
+
 -- Every node of the first set is in the second.
 unfoldable pub subset : ℕ → ℕ → Bool
 subset a b = eqb (sum (λ x. num (has a x && not (has b x))) 1 32) 0

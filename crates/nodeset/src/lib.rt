@@ -1,7 +1,7 @@
 // Sets of node numbers 1 to 32 in a u32: node 1 is the lowest bit. Every u32 is a set. A number
 // that is not 1 to 32 names no node: no set has it, and with and without leave the set as it is.
 ghost use mathlib.Core.Path.{_≡_};
-ghost use Rattle.nodeset.specs.Sets.{has, with, without, full, subset, size, distance, run};
+ghost use Rattle.nodeset.specs.Sets.{has, with, without, full, within, subset, size, distance, run};
 
 // Whether node x is in the set.
 pub fn has(s: u32, x: u32) -> bool
@@ -57,6 +57,13 @@ pub fn is_subset(a: u32, b: u32) -> bool
     ensures { λ r. ⌜ r ≡ subset a b ⌝ }
 {
     a & !b == 0
+}
+
+// Whether the set holds only numbers 1 to n.
+pub fn is_within(n: u32, s: u32) -> bool
+    ensures { λ r. ⌜ r ≡ within n s ⌝ }
+{
+    is_subset(s, full(n))
 }
 
 // How many of the nodes 1 to n are in the set.

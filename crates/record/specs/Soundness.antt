@@ -2,7 +2,7 @@
 use Prim.Native.Nat.{ℕ}
 use mathlib.Core.Bool.{Bool, not, _&&_, _||_, Bool·beq}
 use lib.Dec.{eqb, leb, ltb}
-use Rattle.nodeset.specs.Sets.{has, full, subset, size}
+use Rattle.nodeset.specs.Sets.{has, within, subset, size}
 use Rattle.ring.specs.Ring.{ringSize, sponsorCount, nodeNumber}
 use Rattle.record.specs.declared.Node.{Node}
 use Rattle.record.specs.declared.Window.{Window}
@@ -26,7 +26,7 @@ numbersSound v = ringSize (v .n) && (sponsorCount (v .n) (v .k) && (nodeNumber (
 
 -- "set and marks hold only numbers 1 to n, each marked node is in the set"
 abbrev pub setsSound : Node → Bool
-setsSound v = subset (v .set) (full (v .n)) && (subset (v .present) (full (v .n)) && subset (v .present) (v .set))
+setsSound v = within (v .n) (v .set) && (within (v .n) (v .present) && subset (v .present) (v .set))
 
 -- "returning is outside the set"; it is "0 or a node"
 abbrev pub returningSound : Node → Bool
@@ -55,10 +55,10 @@ heardSound v = implies (v .«return_heard») (isKnocking (v .state))
 abbrev pub windowInRange : ℕ → ℕ → ℕ → Window → Bool
 windowInRange n k own w =
     ltb (w .done) n
-    && (subset (w .heard) (full n)
+    && (within n (w .heard)
     && (leb (w .shortest) k
     && (implies (eqb (w .heard) 0) (eqb (w .shortest) k)
-    && (subset (w .last) (full n)
+    && (within n (w .last)
     && ((eqb (w .last) 0 || leb 2 (size n (w .last)))
     && (not (has (w .heard) own) && not (has (w .last) own)))))))
 

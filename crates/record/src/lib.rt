@@ -118,9 +118,8 @@ fn numbers_sound(v: Node) -> bool
 fn sets_sound(v: Node) -> bool
     ensures { λ r. ⌜ r ≡ setsSound v ⌝ }
 {
-    let all = nodeset::full(v.n);
-    nodeset::is_subset(v.set, all)
-        & (nodeset::is_subset(v.present, all) & nodeset::is_subset(v.present, v.set))
+    nodeset::is_within(v.n, v.set)
+        & (nodeset::is_within(v.n, v.present) & nodeset::is_subset(v.present, v.set))
 }
 
 fn returning_sound(v: Node) -> bool
@@ -161,14 +160,13 @@ fn heard_sound(v: Node) -> bool
 fn window_in_range(n: u32, k: u32, own: u32, w: Window) -> bool
     ensures { λ r. ⌜ r ≡ windowInRange n k own w ⌝ }
 {
-    let all = nodeset::full(n);
     let shortest_right = (w.heard != 0) | (w.shortest == k);
     let last_right = (w.last == 0) | (2 <= nodeset::size(n, w.last));
     (w.done < n)
-        & (nodeset::is_subset(w.heard, all)
+        & (nodeset::is_within(n, w.heard)
             & ((w.shortest <= k)
                 & (shortest_right
-                    & (nodeset::is_subset(w.last, all)
+                    & (nodeset::is_within(n, w.last)
                         & (last_right
                             & (!nodeset::has(w.heard, own) & !nodeset::has(w.last, own)))))))
 }

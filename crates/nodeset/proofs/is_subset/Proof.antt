@@ -1,6 +1,6 @@
 -- `nodeset::is_subset` meets its contract: the nodes of a that b lacks are the bits of a in the complement of b. Assumes nothing.
 use borrow.Author.Needs.{needs}
-use Rattle.nodeset.proofs.Counts.{masked-subset}
+use Rattle.nodeset.proofs.Subsets.{masked-subset}
 use Rattle.nodeset.proofs.is_subset.Statement.{statement}
 use Rattle.nodeset.proofs.is_subset.Tie as tie
 

@@ -3,22 +3,18 @@ use borrow.Author.Needs.{needs}
 use Rattle.record.proofs.sets_sound.Statement.{statement}
 use Rattle.record.proofs.sets_sound.Tie as tie
 
-full-requires : tie.Need-full-requires
-full-requires c κs = search needs
+is-within-requires : tie.Need-is-within-requires
+is-within-requires c κs = search needs
+
+is-within-requires-2 : tie.Need-is-within-requires-2
+is-within-requires-2 c κs = search needs
 
 is-subset-requires : tie.Need-is-subset-requires
 is-subset-requires c κs = search needs
-
-is-subset-requires-2 : tie.Need-is-subset-requires-2
-is-subset-requires-2 c κs = search needs
-
-is-subset-requires-3 : tie.Need-is-subset-requires-3
-is-subset-requires-3 c κs = search needs
 
 returns : tie.Need-returns
 returns c = cc
 
 pub sets-sound-spec : {M : Type 1} → statement M
 sets-sound-spec =
-    tie.close
-    (tie.spec full-requires is-subset-requires is-subset-requires-2 is-subset-requires-3 returns)
+    tie.close (tie.spec is-within-requires is-within-requires-2 is-subset-requires returns)

@@ -3,17 +3,14 @@ use borrow.Author.Needs.{needs}
 use Rattle.record.proofs.window_in_range.Statement.{statement}
 use Rattle.record.proofs.window_in_range.Tie as tie
 
-full-requires : tie.Need-full-requires
-full-requires c κs = search needs
-
 size-requires : tie.Need-size-requires
 size-requires c κs = search needs
 
-is-subset-requires : tie.Need-is-subset-requires
-is-subset-requires c κs = search needs
+is-within-requires : tie.Need-is-within-requires
+is-within-requires c κs = search needs
 
-is-subset-requires-2 : tie.Need-is-subset-requires-2
-is-subset-requires-2 c κs = search needs
+is-within-requires-2 : tie.Need-is-within-requires-2
+is-within-requires-2 c κs = search needs
 
 has-requires : tie.Need-has-requires
 has-requires c κs = search needs
@@ -28,10 +25,9 @@ pub window-in-range-spec : {M : Type 1} → statement M
 window-in-range-spec =
     tie.close
     (tie.spec
-    full-requires
     size-requires
-    is-subset-requires
-    is-subset-requires-2
+    is-within-requires
+    is-within-requires-2
     has-requires
     has-requires-2
     returns)

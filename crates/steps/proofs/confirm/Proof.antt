@@ -2,9 +2,6 @@
 use borrow.Author.Needs.{needs}
 use mathlib.Core.Path.{sym, ap, _∙_}
 use Rattle.nodeset.proofs.Tests.{told, chosen, otherwise}
-use mathlib.Core.Path.{sym, ap, _∙_}
-use Rattle.nodeset.proofs.Tests.{told, chosen, otherwise}
-use Rattle.steps.specs.Steps.{withFound}
 use Rattle.steps.specs.Steps.{withFound}
 use Rattle.steps.proofs.confirm.Statement.{statement}
 use Rattle.steps.proofs.confirm.Tie as tie

@@ -2,9 +2,6 @@
 use borrow.Author.Needs.{needs}
 use mathlib.Core.Path.{sym, ap, _∙_}
 use Rattle.ring.specs.declared.Found.{Found}
-use mathlib.Core.Path.{sym, ap, _∙_}
-use Rattle.ring.specs.declared.Found.{Found}
-use Rattle.steps.specs.Steps.{departs}
 use Rattle.steps.specs.Steps.{departs}
 use Rattle.steps.proofs.departs.Statement.{statement}
 use Rattle.steps.proofs.departs.Tie as tie

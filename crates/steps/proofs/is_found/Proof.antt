@@ -1,8 +1,6 @@
 -- `steps::is_found` meets its contract, case by case. Assumes nothing.
 use borrow.Author.Needs.{needs}
 use mathlib.Core.Path.{sym, ap}
-use mathlib.Core.Path.{sym, ap}
-use Rattle.steps.specs.Steps.{isFound}
 use Rattle.steps.specs.Steps.{isFound}
 use Rattle.steps.proofs.is_found.Statement.{statement}
 use Rattle.steps.proofs.is_found.Tie as tie

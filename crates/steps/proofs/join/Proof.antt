@@ -3,10 +3,6 @@ use borrow.Author.Needs.{needs}
 use mathlib.Core.Path.{sym, ap, _∙_}
 use mathlib.Core.Bool.{Bool, not, _&&_}
 use Rattle.nodeset.proofs.Tests.{chosen, otherwise}
-use mathlib.Core.Path.{sym, ap, _∙_}
-use mathlib.Core.Bool.{Bool, not, _&&_}
-use Rattle.nodeset.proofs.Tests.{chosen, otherwise}
-use Rattle.steps.specs.Steps.{join}
 use Rattle.steps.specs.Steps.{join}
 use Rattle.steps.proofs.join.Statement.{statement}
 use Rattle.steps.proofs.join.Tie as tie

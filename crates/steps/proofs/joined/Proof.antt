@@ -2,9 +2,6 @@
 use borrow.Author.Needs.{needs}
 use mathlib.Core.Path.{_≡_}
 use Rattle.nodeset.specs.Sets.{with}
-use mathlib.Core.Path.{_≡_}
-use Rattle.nodeset.specs.Sets.{with}
-use Rattle.steps.specs.Steps.{stateOnList}
 use Rattle.steps.specs.Steps.{stateOnList}
 use Rattle.steps.proofs.joined.Statement.{statement}
 use Rattle.steps.proofs.joined.Tie as tie

@@ -1,8 +1,6 @@
 -- `steps::joins` meets its contract: it asks what its definition asks. Assumes nothing.
 use borrow.Author.Needs.{needs}
 use mathlib.Core.Path.{ap, _∙_}
-use mathlib.Core.Path.{ap, _∙_}
-use Rattle.steps.specs.Steps.{isFound}
 use Rattle.steps.specs.Steps.{isFound}
 use Rattle.steps.proofs.joins.Statement.{statement}
 use Rattle.steps.proofs.joins.Tie as tie

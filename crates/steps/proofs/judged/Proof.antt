@@ -6,13 +6,6 @@ use mathlib.Core.Bool.{true}
 use borrow.Author.Tests.{eq-eqb, ne-eqb}
 use Rattle.nodeset.proofs.Tests.{told, chosen, otherwise}
 use Rattle.changes.specs.Changes.{withSet}
-use Prim.Native.Nat.{ℕ}
-use mathlib.Core.Path.{sym, ap, _∙_}
-use mathlib.Core.Bool.{true}
-use borrow.Author.Tests.{eq-eqb, ne-eqb}
-use Rattle.nodeset.proofs.Tests.{told, chosen, otherwise}
-use Rattle.changes.specs.Changes.{withSet}
-use Rattle.steps.specs.Steps.{settle, judged}
 use Rattle.steps.specs.Steps.{settle, judged}
 use Rattle.steps.proofs.judged.Statement.{statement}
 use Rattle.steps.proofs.judged.Tie as tie

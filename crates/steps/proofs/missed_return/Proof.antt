@@ -3,9 +3,6 @@ use borrow.Author.Needs.{needs}
 use mathlib.Core.Path.{ap}
 use mathlib.Core.Bool.{Bool, _&&_}
 use lib.Dec.{eqb}
-use mathlib.Core.Path.{ap}
-use mathlib.Core.Bool.{Bool, _&&_}
-use lib.Dec.{eqb}
 use Rattle.steps.proofs.missed_return.Statement.{statement}
 use Rattle.steps.proofs.missed_return.Tie as tie
 

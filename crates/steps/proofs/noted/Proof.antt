@@ -5,12 +5,6 @@ use mathlib.Core.Bool.{Bool, _&&_}
 use lib.Dec.{eqb}
 use borrow.Author.Tests.{eq-eqb, ne-eqb}
 use Rattle.nodeset.proofs.Tests.{chosen, otherwise}
-use mathlib.Core.Path.{sym, ap, _∙_}
-use mathlib.Core.Bool.{Bool, _&&_}
-use lib.Dec.{eqb}
-use borrow.Author.Tests.{eq-eqb, ne-eqb}
-use Rattle.nodeset.proofs.Tests.{chosen, otherwise}
-use Rattle.steps.specs.Steps.{noted}
 use Rattle.steps.specs.Steps.{noted}
 use Rattle.steps.proofs.noted.Statement.{statement}
 use Rattle.steps.proofs.noted.Tie as tie

@@ -4,10 +4,6 @@ use Prim.Native.Nat.{ℕ}
 use mathlib.Core.Path.{ap, _∙_}
 use lib.Dec.{eqb}
 use Rattle.nodeset.specs.Sets.{size}
-use Prim.Native.Nat.{ℕ}
-use mathlib.Core.Path.{ap, _∙_}
-use lib.Dec.{eqb}
-use Rattle.nodeset.specs.Sets.{size}
 use Rattle.steps.proofs.nothing_heard.Statement.{statement}
 use Rattle.steps.proofs.nothing_heard.Tie as tie
 

@@ -2,9 +2,6 @@
 use borrow.Author.Needs.{needs}
 use mathlib.Core.Path.{ap, _∙_}
 use mathlib.Core.Bool.{false}
-use mathlib.Core.Path.{ap, _∙_}
-use mathlib.Core.Bool.{false}
-use Rattle.steps.specs.Steps.{settle, outsideSlot}
 use Rattle.steps.specs.Steps.{settle, outsideSlot}
 use Rattle.steps.proofs.outside_slot.Statement.{statement}
 use Rattle.steps.proofs.outside_slot.Tie as tie

@@ -2,8 +2,6 @@
 use borrow.Author.Needs.{needs}
 use mathlib.Core.Path.{ap₂}
 use mathlib.Core.Bool.{Bool, _&&_, _||_}
-use mathlib.Core.Path.{ap₂}
-use mathlib.Core.Bool.{Bool, _&&_, _||_}
 use Rattle.steps.proofs.return_heard.Statement.{statement}
 use Rattle.steps.proofs.return_heard.Tie as tie
 

@@ -3,10 +3,6 @@ use borrow.Author.Needs.{needs}
 use mathlib.Core.Path.{sym, ap, _∙_}
 use mathlib.Core.Bool.{Bool, _&&_}
 use Rattle.nodeset.proofs.Tests.{told, chosen, otherwise}
-use mathlib.Core.Path.{sym, ap, _∙_}
-use mathlib.Core.Bool.{Bool, _&&_}
-use Rattle.nodeset.proofs.Tests.{told, chosen, otherwise}
-use Rattle.steps.specs.Steps.{settle}
 use Rattle.steps.specs.Steps.{settle}
 use Rattle.steps.proofs.settle.Statement.{statement}
 use Rattle.steps.proofs.settle.Tie as tie

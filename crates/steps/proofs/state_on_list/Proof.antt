@@ -1,8 +1,6 @@
 -- `steps::state_on_list` meets its contract, case by case. Assumes nothing.
 use borrow.Author.Needs.{needs}
 use mathlib.Core.Path.{sym, ap}
-use mathlib.Core.Path.{sym, ap}
-use Rattle.steps.specs.Steps.{stateOnList}
 use Rattle.steps.specs.Steps.{stateOnList}
 use Rattle.steps.proofs.state_on_list.Statement.{statement}
 use Rattle.steps.proofs.state_on_list.Tie as tie

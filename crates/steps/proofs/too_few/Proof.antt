@@ -4,10 +4,6 @@ use Prim.Native.Nat.{ℕ}
 use mathlib.Core.Path.{ap₂}
 use mathlib.Core.Bool.{Bool, not, _&&_}
 use lib.Dec.{ltb}
-use Prim.Native.Nat.{ℕ}
-use mathlib.Core.Path.{ap₂}
-use mathlib.Core.Bool.{Bool, not, _&&_}
-use lib.Dec.{ltb}
 use Rattle.steps.proofs.too_few.Statement.{statement}
 use Rattle.steps.proofs.too_few.Tie as tie
 

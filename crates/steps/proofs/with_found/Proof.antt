@@ -1,8 +1,6 @@
 -- `steps::with_found` meets its contract, case by case. Assumes nothing.
 use borrow.Author.Needs.{needs}
 use mathlib.Core.Path.{sym, ap, _∙_}
-use mathlib.Core.Path.{sym, ap, _∙_}
-use Rattle.steps.specs.Steps.{withFound}
 use Rattle.steps.specs.Steps.{withFound}
 use Rattle.steps.proofs.with_found.Statement.{statement}
 use Rattle.steps.proofs.with_found.Tie as tie

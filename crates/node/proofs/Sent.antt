@@ -1,0 +1,52 @@
+-- A message that is sent is readable, and reads as what the rules say is sent; of the writer's refusals only 9 can come of sending. Assumes nothing.
+use Prim.Native.Nat.{ℕ, _<_, _^_}
+use mathlib.Core.Path.{_≡_, ap}
+use mathlib.Core.Bool.{Bool, true, false, cond}
+use mathlib.Core.List.{List, _++_}
+use native.Mathlib.Omega.{arith}
+use lib.Dec.{leb}
+use lib.ListN.{length, take, drop}
+use borrow.Author.Tests.{le-leb, lt-leb, lt-ltb}
+use Rattle.refusal.specs.declared.Refusal.{Refusal}
+use Rattle.refusal.specs.declared.Refusal.the-variants.{Unsound, SlotLimit, OutputShort, NotItsSlot}
+use Rattle.ring.proofs.Ranges.{ring-size, sponsor-count}
+use Rattle.message.specs.declared.Reading.the-variants.{Heard}
+use Rattle.message.specs.declared.Written.{Written}
+use Rattle.message.specs.declared.Written.the-variants.{Bytes, Refused}
+use Rattle.message.specs.Message.{inRange, lengthOf, messageOf, ifWritten, readOf, writeOf}
+use Rattle.message.proofs.RoundTrip.{read-back}
+use Rattle.record.specs.declared.Node.{Node}
+use Rattle.record.specs.Soundness.{limit, sound}
+use Rattle.record.proofs.Facts.{clauses, all}
+use Rattle.sending.specs.Sending.{bitsSent, returnSent}
+use Rattle.sending.proofs.Laws.{bitsSent-lt}
+use Rattle.node.specs.Calls.{itsTurn, sendOf}
+
+refused-no-bytes : (r : Refusal) (n : ℕ) (out after : List ℕ) → _≡_ {A = Written × List ℕ} (Refused r, out) (Bytes n, after) → ⊥
+refused-no-bytes r n out after e =
+    let f : Refused r ≡ Bytes n = ap (λ (p : Written × List ℕ). p .0) e in
+    let z : _≡_ {A = ℕ} 0 1 = cc in
+    omega arith
+
+pub sent-read : (v : Node) (out : List ℕ) (n : ℕ) (after : List ℕ) → sendOf v out ≡ (Bytes n, after) → readOf (v .k) (take n after) ≡ Heard (bitsSent v) (returnSent v)
+unfolding sendOf
+sent-read v out n after e = go (sound v) (leb limit (v .slots)) (itsTurn v) e
+  where
+    go : (a b c : Bool)
+        → cond a (cond b (Refused SlotLimit, out) (cond c (writeOf (v .k) (bitsSent v) (returnSent v) out) (Refused NotItsSlot, out))) (Refused Unsound, out) ≡ (Bytes n, after)
+        → readOf (v .k) (take n after) ≡ Heard (bitsSent v) (returnSent v)
+    go true true c e = absurd (refused-no-bytes SlotLimit n out after e)
+    go true false true e = read-back (v .k) (bitsSent v) (returnSent v) out n after e
+    go true false false e = absurd (refused-no-bytes NotItsSlot n out after e)
+    go false b c e = absurd (refused-no-bytes Unsound n out after e)
+
+-- a node whose turn it is, below the limit, sends, or is lent too few bytes
+pub sent-or-short : (v : Node) (out : List ℕ) → sound v ≡ true → v .slots < limit → itsTurn v ≡ true
+    → sendOf v out ≡ ifWritten (leb (lengthOf (v .k)) (length out)) OutputShort out (Bytes (lengthOf (v .k)), messageOf (v .k) (bitsSent v) (returnSent v) ++ drop (lengthOf (v .k)) out)
+unfolding sendOf writeOf
+sent-or-short v out e l t =
+    let c = clauses v e in
+    let k = sponsor-count (v .n) (v .k) (c .sponsors) in
+    let n = ring-size (v .n) (c .ring) in
+    let range : inRange (v .k) ≡ true = all (le-leb 2 (v .k) (k .0)) (le-leb (v .k) 31 (omega arith)) in
+    simp (e, lt-leb limit (v .slots) l, t, range, lt-ltb (bitsSent v) (2 ^ v .k) (bitsSent-lt v))
