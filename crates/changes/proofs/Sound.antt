@@ -1,16 +1,16 @@
 -- The records made anew (specs/Changes) are sound, where their numbers are in range and the sets they are given are sets of other nodes.
 -- Assumes nothing.
 use Prim.Native.Nat.{ℕ, _^_, _≤_, _<_}
-use mathlib.Core.Path.{_≡_, refl, sym, ap, _∙_}
+use mathlib.Core.Path.{_≡_, refl, sym, ap}
 use mathlib.Core.Logic.{_⊎_, inl, inr}
-use mathlib.Core.Bool.{Bool, true, false, not, _&&_, _||_, true≢false}
+use mathlib.Core.Bool.{true, false, not, _||_}
 use native.Mathlib.Omega.{arith}
 use native.Mathlib.Nat.{le-refl}
-use lib.Dec.{eqb, leb, ltb}
-use lib.Pow.{pow-pos, pow-mono}
-use borrow.Author.Tests.{leb-true, le-leb, ltb-true, lt-ltb, eq-eqb, ne-eqb}
+use lib.Dec.{eqb, leb}
+use lib.Pow.{pow-pos}
+use borrow.Author.Tests.{le-leb, lt-ltb, eq-eqb, ne-eqb}
 use Rattle.nodeset.specs.Sets.{has, full, within, subset, size}
-use Rattle.nodeset.proofs.Tests.{by-cases, both}
+use Rattle.nodeset.proofs.Tests.{by-cases, all, or-left, or-right}
 use Rattle.nodeset.proofs.Bits.{has-none}
 use Rattle.nodeset.proofs.Laws.{full-lt, has-full}
 use Rattle.nodeset.proofs.Subsets.{has-subset}
@@ -19,8 +19,8 @@ use Rattle.ring.proofs.Ranges.{ring-size, node-number}
 use Rattle.record.specs.declared.Node.{Node}
 use Rattle.record.specs.declared.Cause.{Cause}
 use Rattle.record.specs.States.{isMember}
-use Rattle.record.specs.Soundness.{limit, exactly, sound}
-use Rattle.record.proofs.Facts.{Clauses, clauses, sound-by, all, exactly-by}
+use Rattle.record.specs.Soundness.{limit, sound}
+use Rattle.record.proofs.Facts.{clauses, sound-by, exactly-by}
 use Rattle.changes.specs.Changes.{starting, outFor, listeningAfter, fresh, followingWith, leave}
 
 -- n, k, own number and slot count in range
@@ -64,11 +64,6 @@ out-sound cause v r =
       enough = refl;
     })
 
-or-by : (a b : Bool) → (a ≡ true) ⊎ (b ≡ true) → (a || b) ≡ true
-or-by true b h = refl
-or-by false b (inl e) = absurd (true≢false (sym e))
-or-by false b (inr e) = e
-
 pub listening-sound : (last : ℕ) (v : Node) → InRange (v .n) (v .k) (v .own) (v .slots)
     → last < 2 ^ v .n → (last ≡ 0) ⊎ (2 ≤ size (v .n) last) → has last (v .own) ≡ false
     → sound (listeningAfter last v) ≡ true
@@ -93,15 +88,15 @@ listening-sound last v r l two absent =
           (all (le-leb (v .k) (v .k) (le-refl (v .k)))
           (all (eq-eqb (v .k) (v .k) refl)
           (all (lt-ltb last (2 ^ v .n) l)
-          (all (or-by (eqb last 0) (leb 2 (size (v .n) last)) (few two))
+          (all (few two)
           (all (ap not (has-none (v .own))) (ap not absent))))))))
           refl;
       enough = refl;
     })
   where
-    few : (last ≡ 0) ⊎ (2 ≤ size (v .n) last) → (eqb last 0 ≡ true) ⊎ (leb 2 (size (v .n) last) ≡ true)
-    few (inl e) = inl (eq-eqb last 0 e)
-    few (inr h) = inr (le-leb 2 (size (v .n) last) h)
+    few : (last ≡ 0) ⊎ (2 ≤ size (v .n) last) → (eqb last 0 || leb 2 (size (v .n) last)) ≡ true
+    few (inl e) = or-left (eqb last 0) (leb 2 (size (v .n) last)) (eq-eqb last 0 e)
+    few (inr h) = or-right (eqb last 0) (leb 2 (size (v .n) last)) (le-leb 2 (size (v .n) last) h)
 
 pub fresh-sound : (v : Node) → InRange (v .n) (v .k) (v .own) (v .slots) → sound (fresh v) ≡ true
 fresh-sound v r = listening-sound 0 v r (pow-pos (v .n)) (inl refl) (has-none (v .own))

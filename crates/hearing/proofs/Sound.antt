@@ -1,28 +1,25 @@
 -- One slot of a listening node (specs/Hearing) keeps its record sound. Assumes nothing.
 use Prim.Native.Nat.{ℕ, _+_, _^_, _≤_, _<_, min}
 use mathlib.Core.Path.{_≡_, refl, sym, ap, _∙_}
-use mathlib.Core.Logic.{_≢_, _⊎_, inl, inr}
-use mathlib.Core.Bool.{Bool, true, false, not, _&&_, _||_, true≢false}
+use mathlib.Core.Logic.{_≢_, inr}
+use mathlib.Core.Bool.{true, false, not, _||_, true≢false}
 use native.Mathlib.Omega.{arith}
 use lib.Dec.{eqb, leb, ltb}
-use lib.Pow.{pow-pos}
-use borrow.Author.Tests.{leb-true, le-leb, ltb-true, lt-ltb, eqb-true, eqb-false, eq-eqb, ne-eqb, not-true}
-use Rattle.refusal.specs.declared.Refusal.{Refusal}
-use Rattle.nodeset.specs.Sets.{has, with, within, size, run}
-use Rattle.nodeset.proofs.Tests.{by-cases, both}
+use borrow.Author.Tests.{leb-true, le-leb, ltb-true, lt-ltb, eqb-true, eq-eqb, not-true}
+use Rattle.nodeset.specs.Sets.{has, within, size}
+use Rattle.nodeset.proofs.Tests.{by-cases, both, all, or-left}
 use Rattle.nodeset.proofs.Bits.{has-none}
 use Rattle.nodeset.proofs.Laws.{has-with, has-with-other, with-lt}
-use Rattle.ring.specs.Ring.{ks}
 use Rattle.ring.proofs.Ranges.{ring-size}
 use Rattle.message.specs.declared.Reading.{Reading}
 use Rattle.message.specs.declared.Reading.the-variants as reading
 use Rattle.record.specs.declared.Node.{Node}
 use Rattle.record.specs.declared.Window.{Window}
 use Rattle.record.specs.States.{isListening}
-use Rattle.record.specs.Soundness.{implies, windowInRange, sound}
-use Rattle.record.proofs.Facts.{Clauses, clauses, sound-by, all, implied, implies-by, window-listening}
-use Rattle.changes.specs.Changes.{listeningAfter, followingWith, withWindow}
-use Rattle.changes.proofs.Sound.{InRange, in-range, fresh-sound, listening-sound, following-sound}
+use Rattle.record.specs.Soundness.{implies, windowInRange, windowEmpty, sound}
+use Rattle.record.proofs.Facts.{clauses, sound-by, implied, implies-by, window-listening}
+use Rattle.changes.specs.Changes.{withWindow}
+use Rattle.changes.proofs.Sound.{in-range, fresh-sound, listening-sound, following-sound}
 use Rattle.hearing.specs.Hearing.{overheard, clean, windowEnd, listeningSlot}
 
 -- the ranges of the listening data, as facts
@@ -106,13 +103,9 @@ window-sound w v e l h =
       knock = c .knock;
       empty = c .empty;
       heard = c .heard;
-      window = all (implies-by (isListening (v .state)) (windowInRange (v .n) (v .k) (v .own) w) (λ t. h)) (or-left (isListening (v .state)) _ l);
+      window = all (implies-by (isListening (v .state)) (windowInRange (v .n) (v .k) (v .own) w) (λ t. h)) (or-left (isListening (v .state)) (windowEmpty w) l);
       enough = c .enough;
     })
-  where
-    or-left : (a b : Bool) → a ≡ true → (a || b) ≡ true
-    or-left true b t = refl
-    or-left false b t = absurd (true≢false (sym t))
 
 -- ---- the end of a window
 

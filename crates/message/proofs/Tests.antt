@@ -2,7 +2,7 @@
 -- Assumes nothing.
 use Prim.Native.Nat.{ℕ, _/_, _^_, _≤_, _<_}
 use mathlib.Core.Path.{_≡_, refl, sym, _∙_}
-use mathlib.Core.Bool.{Bool, true, false, _&&_, cond, true≢false}
+use mathlib.Core.Bool.{Bool, true, false, cond, and-eq-true-iff}
 use native.Mathlib.Omega.{arith}
 use native.Mathlib.Decide.{decLt}
 use native.Mathlib.Nat.{div-eq-of-lt, le-div-iff-mul-le}
@@ -22,15 +22,10 @@ shifted-out bits count = go (decLt bits (2 ^ count))
         let some : 1 ≤ bits / 2 ^ count = le-div-iff-mul-le (pow-pos count) .1 (omega arith) in
         ne-eqb (bits / 2 ^ count) 0 (λ e. omega arith) ∙ sym (le-ltb bits (2 ^ count) (omega arith))
 
-both : (a b : Bool) → a && b ≡ true → (a ≡ true) × (b ≡ true)
-both true true e = (e, e)
-both true false e = absurd (true≢false (sym e))
-both false b e = absurd (true≢false (sym e))
-
 -- a k in range, as numbers
 pub in-range : (k : ℕ) → inRange k ≡ true → (2 ≤ k) × (k ≤ 31)
 in-range k e =
-    let h = both (leb 2 k) (leb k 31) e in
+    let h = and-eq-true-iff (leb 2 k) (leb k 31) .0 e in
     (leb-true 2 k (h .0), leb-true k 31 (h .1))
 
 -- a bool as the number that the code makes of it

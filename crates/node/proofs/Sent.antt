@@ -9,6 +9,7 @@ use lib.ListN.{length, take, drop}
 use borrow.Author.Tests.{le-leb, lt-leb, lt-ltb}
 use Rattle.refusal.specs.declared.Refusal.{Refusal}
 use Rattle.refusal.specs.declared.Refusal.the-variants.{Unsound, SlotLimit, OutputShort, NotItsSlot}
+use Rattle.nodeset.proofs.Tests.{all}
 use Rattle.ring.proofs.Ranges.{ring-size, sponsor-count}
 use Rattle.message.specs.declared.Reading.the-variants.{Heard}
 use Rattle.message.specs.declared.Written.{Written}
@@ -17,7 +18,7 @@ use Rattle.message.specs.Message.{inRange, lengthOf, messageOf, ifWritten, read
 use Rattle.message.proofs.RoundTrip.{read-back}
 use Rattle.record.specs.declared.Node.{Node}
 use Rattle.record.specs.Soundness.{limit, sound}
-use Rattle.record.proofs.Facts.{clauses, all}
+use Rattle.record.proofs.Facts.{clauses}
 use Rattle.sending.specs.Sending.{bitsSent, returnSent}
 use Rattle.sending.proofs.Laws.{bitsSent-lt}
 use Rattle.node.specs.Calls.{itsTurn, sendOf}

@@ -1,11 +1,11 @@
 -- What soundness (specs/Soundness) says, clause by clause: a record is sound exactly where every clause holds. Assumes nothing.
 use Prim.Native.Nat.{ℕ, _+_, _≤_, _<_, _^_}
-use mathlib.Core.Path.{_≡_, refl, sym, ap, ap₂, _∙_}
+use mathlib.Core.Path.{_≡_, refl, sym, ap}
 use mathlib.Core.Bool.{Bool, true, false, not, _&&_, _||_, true≢false}
 use native.Mathlib.Omega.{arith}
 use lib.Dec.{eqb, leb, ltb}
 use borrow.Author.Tests.{leb-true, ltb-true, eqb-true}
-use Rattle.nodeset.proofs.Tests.{by-cases, both}
+use Rattle.nodeset.proofs.Tests.{by-cases, both, all, or-else}
 use Rattle.nodeset.specs.Sets.{has, subset, size}
 use Rattle.ring.specs.Ring.{ringSize, sponsorCount, nodeNumber}
 use Rattle.ring.proofs.Ranges.{ring-size}
@@ -27,10 +27,6 @@ pub record Clauses (v : Node) : Type 0 where
   pub heard : heardSound v ≡ true
   pub window : windowSound v ≡ true
   pub enough : enoughSound v ≡ true
-
--- both tests of two that hold
-pub all : {a b : Bool} → a ≡ true → b ≡ true → (a && b) ≡ true
-all p q = ap₂ _&&_ p q
 
 pub clauses : (v : Node) → sound v ≡ true → Clauses v
 unfolding sound
@@ -88,10 +84,6 @@ exactly-by true b e = ap (exactly true) (sym e)
 exactly-by false b e = ap (exactly false) (sym e)
 
 -- ---- the window's count of slots done can go up by one
-
-or-else : (a b : Bool) → (a || b) ≡ true → a ≡ false → b ≡ true
-or-else true b e h = absurd (true≢false h)
-or-else false b e h = e
 
 -- the listening data of a listening node, and of any other
 pub window-listening : (v : Node) → windowSound v ≡ true → isListening (v .state) ≡ true → windowInRange (v .n) (v .k) (v .own) (v .listening) ≡ true

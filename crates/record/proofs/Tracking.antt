@@ -8,7 +8,7 @@ use lib.Dec.{eqb, leb}
 use borrow.Author.Tests.{leb-true, le-leb, ltb-true, lt-ltb, not-true}
 use lib.Pow.{pow-mono}
 use Rattle.nodeset.specs.Sets.{has, within, subset, size}
-use Rattle.nodeset.proofs.Tests.{both}
+use Rattle.nodeset.proofs.Tests.{both, all, or-right}
 use Rattle.nodeset.proofs.Subsets.{subset-has, has-subset}
 use Rattle.ring.specs.Ring.{ringSize, sponsorCount, nodeNumber}
 use Rattle.ring.proofs.Ranges.{ring-size}
@@ -17,7 +17,7 @@ use Rattle.record.specs.declared.State.{State}
 use Rattle.record.specs.declared.State.the-variants.{Member, Listening, Following, Knocking, Out}
 use Rattle.record.specs.States.{isMember, isListening, isFollowing, isKnocking, isOut}
 use Rattle.record.specs.Soundness.{limit, implies, exactly, windowInRange, windowEmpty, sound}
-use Rattle.record.proofs.Facts.{Clauses, clauses, sound-by, all, implied, implies-by, same-test, exactly-by, window-other}
+use Rattle.record.proofs.Facts.{Clauses, clauses, sound-by, implied, implies-by, same-test, exactly-by, window-other}
 
 -- a member, following or knocking node
 abbrev pub tracks : State → Bool
@@ -73,10 +73,6 @@ no-member-follower Following e f = refl
 no-member-follower Knocking e f = refl
 no-member-follower (Out cause) e f = e
 
-or-right : (a : Bool) {b : Bool} → b ≡ true → (a || b) ≡ true
-or-right true e = refl
-or-right false e = e
-
 -- ---- there and back
 
 pub sound-tracking : (v : Node) → sound v ≡ true → tracks (v .state) ≡ true → Tracking v
@@ -127,6 +123,6 @@ tracking-sound v k two =
       window =
           all
           (implies-by (isListening (v .state)) (windowInRange (v .n) (v .k) (v .own) (v .listening)) (λ h. absurd (true≢false (sym h ∙ tracks-not-listening (v .state) (k .tracking)))))
-          (or-right (isListening (v .state)) (k .window));
+          (or-right (isListening (v .state)) (windowEmpty (v .listening)) (k .window));
       enough = implies-by (isFollowing (v .state) || isKnocking (v .state)) (leb 2 (size (v .n) (v .set))) (λ h. le-leb 2 (size (v .n) (v .set)) (two (follower-no-member (v .state) h)));
     })

@@ -6,11 +6,10 @@ use mathlib.Core.Logic.{_≢_}
 use mathlib.Core.Bool.{Bool, true, false, cond, not, _&&_, _||_, true≢false}
 use native.Mathlib.Omega.{arith}
 use native.Mathlib.Decide.{ℕ-discrete}
-use lib.Dec.{eqb, leb, ltb}
-use borrow.Author.Tests.{eqb-true, eqb-false, eq-eqb, ne-eqb, ltb-false, not-true, not-false}
-use Rattle.refusal.specs.declared.Refusal.{Refusal}
+use lib.Dec.{eqb, ltb}
+use borrow.Author.Tests.{eqb-true, eqb-false, eq-eqb, ne-eqb, ltb-false, not-true}
 use Rattle.nodeset.specs.Sets.{has, with, without, size}
-use Rattle.nodeset.proofs.Tests.{by-cases, both, chosen, otherwise}
+use Rattle.nodeset.proofs.Tests.{by-cases, both}
 use Rattle.nodeset.proofs.Laws.{has-with, has-with-other, has-without, has-without-other, with-lt, without-lt, has-range}
 use Rattle.nodeset.proofs.Counts.{size-with}
 use Rattle.ring.specs.declared.Found.{Found}
@@ -18,20 +17,19 @@ use Rattle.ring.specs.declared.Found.the-variants as found
 use Rattle.ring.specs.Ring.{ks, nodeNumber}
 use Rattle.ring.specs.Answers.{beforeOf, sponsoredOf, decidedOf}
 use Rattle.ring.proofs.Ranges.{ring-size, node-number}
-use Rattle.ring.proofs.Members.{on-ring, beforeOf-member, sponsoredOf-member, decidedOf-member}
+use Rattle.ring.proofs.Members.{on-ring, sponsoredOf-member}
 use Rattle.message.specs.declared.Reading.{Reading}
 use Rattle.message.specs.declared.Reading.the-variants as reading
 use Rattle.record.specs.declared.Node.{Node}
 use Rattle.record.specs.declared.State.{State}
 use Rattle.record.specs.declared.State.the-variants.{Member, Listening, Following, Knocking, Out}
-use Rattle.record.specs.declared.Cause.{Cause}
 use Rattle.record.specs.declared.Cause.the-variants.{Unconfirmed, NothingHeard, MissedReturn}
 use Rattle.record.specs.States.{isMember, isFollowing, isKnocking}
 use Rattle.record.specs.Soundness.{sound}
 use Rattle.record.proofs.Tracking.{Tracking, tracks, tracking-sound}
 use Rattle.changes.specs.Changes.{fresh, leave, withSet, withMarks, withReturning}
 use Rattle.changes.proofs.Sound.{InRange, fresh-sound, leave-sound}
-use Rattle.steps.specs.Steps.{isHeard, returnIn, withFound, confirmed, marksAfter, missedReturn, returnHeard, marked, noted, tooFew, nothingHeard, isFound, joins, stateOnList, settledAs, joined, join, settle, judged, departs, departing, insideSlot, outsideSlot, trackingSlot}
+use Rattle.steps.specs.Steps.{isHeard, returnIn, withFound, confirmed, marksAfter, missedReturn, marked, noted, tooFew, nothingHeard, isFound, joins, stateOnList, joined, join, settle, judged, departs, insideSlot, outsideSlot, trackingSlot}
 
 numbers : (v : Node) → Tracking v → InRange (v .n) (v .k) (v .own) (v .slots)
 numbers v k = record { ring = k .ring; sponsors = k .sponsors; own-in = k .own; slots-in = k .slots }
