@@ -2,20 +2,19 @@
 -- and what the machine's bit counts have to do with them. Assumes nothing.
 use Prim.Native.Nat.{ℕ, zero, suc, _+_, _-_, _/_, _%_, _^_, _≤_, _<_, min}
 use mathlib.Core.Path.{_≡_, refl, sym, ap, ap₂, _∙_}
-use mathlib.Core.Logic.{_≢_}
 use mathlib.Core.Bool.{Bool, true, false, cond, xor}
 use native.Mathlib.Omega.{arith}
 use native.Mathlib.Decide.{decLe}
 use native.Mathlib.Nat.{add-zero, mod-lt}
 use lib.Bits.{bitAnd, bitXor, and-mask}
 use lib.Count.{ones, ones-step, ones-le, trailingZeros, under}
-use lib.Pow.{pow-pos, pow-mono}
+use lib.Pow.{pow-pos}
 use Rattle.nodeset.specs.Sums.{sum, num}
-use Rattle.nodeset.specs.Sets.{has, with, without, full, size, distance, runFrom, run}
+use Rattle.nodeset.specs.Sets.{has, with, without, full, size, distance, runFrom}
 use Rattle.nodeset.proofs.Tests.{by-cases}
 use Rattle.nodeset.proofs.Sums.{sum-none, sum-next, sum-same, sum-zero, sum-at, sum-but, sum-first, sum-moved, sum-split, num-le, num-false}
 use Rattle.nodeset.proofs.Bits.{has-next, odd, even, has-beyond, has-mod, has-none, has-xor}
-use Rattle.nodeset.proofs.Laws.{has-with, has-with-other, has-without, has-without-other, has-full, set-ext}
+use Rattle.nodeset.proofs.Laws.{has-with, has-with-other, has-without, has-without-other, set-ext}
 
 -- ---- how many
 

@@ -13,8 +13,8 @@ use Rattle.nodeset.specs.Sums.{sum, num}
 use Rattle.nodeset.specs.Sets.{has, full, within, subset, size}
 use Rattle.nodeset.proofs.Tests.{by-cases}
 use Rattle.nodeset.proofs.Sums.{sum-same, sum-zero, sum-at, num-false}
-use Rattle.nodeset.proofs.Bits.{has-beyond, has-mod, has-ones, has-and, has-not}
-use Rattle.nodeset.proofs.Laws.{has-range, has-full, full-lt, set-ext}
+use Rattle.nodeset.proofs.Bits.{has-beyond, has-mod, has-and, has-not}
+use Rattle.nodeset.proofs.Laws.{has-range, has-full, set-ext}
 use Rattle.nodeset.proofs.Counts.{size-is, size-none, size-zero}
 
 pub subset-has : (a b x : ℕ) → a < 2 ^ 32 → subset a b ≡ true → has a x ≡ true → has b x ≡ true

@@ -1,7 +1,7 @@
 -- Sets of node numbers, as numbers: node 1 is the lowest bit (document 01, "The bench program"), so node i + 1 is bit i.
 -- A node number is 1 to 32 ("n nodes are numbered 1 to n, n from 3 to 32"); any other number names no node.
 use Prim.Native.Nat.{ℕ, zero, suc, _+_, _-_, _/_, _%_, _^_, min}
-use mathlib.Core.Bool.{Bool, true, false, cond, not, xor, _&&_}
+use mathlib.Core.Bool.{Bool, false, cond, not, xor, _&&_}
 use lib.Dec.{eqb, ltb}
 use Rattle.nodeset.specs.Sums.{sum, num}
 

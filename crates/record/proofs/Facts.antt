@@ -1,18 +1,16 @@
 -- What soundness (specs/Soundness) says, clause by clause: a record is sound exactly where every clause holds. Assumes nothing.
-use Prim.Native.Nat.{ℕ, _+_, _≤_, _<_, _^_}
+use Prim.Native.Nat.{_<_}
 use mathlib.Core.Path.{_≡_, refl, sym, ap}
-use mathlib.Core.Bool.{Bool, true, false, not, _&&_, _||_, true≢false}
+use mathlib.Core.Bool.{Bool, true, false, _||_, true≢false}
 use native.Mathlib.Omega.{arith}
-use lib.Dec.{eqb, leb, ltb}
-use borrow.Author.Tests.{leb-true, ltb-true, eqb-true}
+use lib.Dec.{leb}
+use borrow.Author.Tests.{ltb-true, eqb-true}
 use Rattle.nodeset.proofs.Tests.{by-cases, both, all, or-else}
-use Rattle.nodeset.specs.Sets.{has, subset, size}
 use Rattle.ring.specs.Ring.{ringSize, sponsorCount, nodeNumber}
 use Rattle.ring.proofs.Ranges.{ring-size}
 use Rattle.record.specs.declared.Node.{Node}
-use Rattle.record.specs.declared.Window.{Window}
-use Rattle.record.specs.States.{isMember, isListening, isFollowing, isKnocking, isOut}
-use Rattle.record.specs.Soundness.{limit, implies, exactly, numbersSound, setsSound, returningSound, ownSound, knockSound, emptySound, heardSound, windowInRange, windowEmpty, windowSound, enoughSound, sound}
+use Rattle.record.specs.States.{isListening}
+use Rattle.record.specs.Soundness.{limit, implies, exactly, setsSound, returningSound, ownSound, knockSound, emptySound, heardSound, windowInRange, windowEmpty, windowSound, enoughSound, sound}
 
 pub record Clauses (v : Node) : Type 0 where
   pub ring : ringSize (v .n) ≡ true

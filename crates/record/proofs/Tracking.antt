@@ -16,8 +16,8 @@ use Rattle.record.specs.declared.Node.{Node}
 use Rattle.record.specs.declared.State.{State}
 use Rattle.record.specs.declared.State.the-variants.{Member, Listening, Following, Knocking, Out}
 use Rattle.record.specs.States.{isMember, isListening, isFollowing, isKnocking, isOut}
-use Rattle.record.specs.Soundness.{limit, implies, exactly, windowInRange, windowEmpty, sound}
-use Rattle.record.proofs.Facts.{Clauses, clauses, sound-by, implied, implies-by, same-test, exactly-by, window-other}
+use Rattle.record.specs.Soundness.{limit, windowInRange, windowEmpty, sound}
+use Rattle.record.proofs.Facts.{clauses, sound-by, implied, implies-by, same-test, exactly-by, window-other}
 
 -- a member, following or knocking node
 abbrev pub tracks : State → Bool

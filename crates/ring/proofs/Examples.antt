@@ -1,9 +1,7 @@
 -- The worked examples of document 01 that concern the ring, by computation of the definitions. Assumes nothing.
-use Prim.Native.Nat.{ℕ}
 use mathlib.Core.Path.{_≡_, refl}
 use Rattle.nodeset.specs.Sums.{sum}
 use Rattle.nodeset.specs.Sets.{has, size}
-use Rattle.ring.specs.declared.Found.{Found}
 use Rattle.ring.specs.declared.Found.the-variants.{Member, Nobody}
 use Rattle.ring.specs.Ring.{sender, previous, walk, memberBefore, sponsored, decided}
 

@@ -1,13 +1,12 @@
 -- Laws of the sender (specs/Ring), for every n from 1 on: its range, its period, each node once in any n slots in a row, the slot
 -- before and the sum over a round. All follow from `sender-add`: e slots on, the sender is e nodes on, round the ring. Assumes nothing.
-use Prim.Native.Nat.{ℕ, zero, suc, _+_, _-_, _*_, _/_, _%_, _≤_, _<_}
-use mathlib.Core.Path.{_≡_, refl, sym, ap, _∙_}
+use Prim.Native.Nat.{ℕ, suc, _+_, _-_, _*_, _/_, _%_, _≤_, _<_}
+use mathlib.Core.Path.{_≡_, sym, ap, _∙_}
 use mathlib.Core.Logic.{_≢_, _⊎_, inl, inr}
 use native.Mathlib.Omega.{arith}
 use native.Mathlib.Decide.{decLe, decLt}
 use native.Mathlib.Nat.{mod-lt, div-add-mod', mod-eq-of-lt}
 use lib.Arith.{digits-mod}
-use lib.Dec.{eqb}
 use borrow.Author.Tests.{eq-eqb, ne-eqb}
 use Rattle.nodeset.specs.Sums.{sum, num}
 use Rattle.nodeset.specs.Sets.{has, size}

@@ -27,7 +27,7 @@ use Rattle.record.specs.declared.Cause.the-variants.{Unconfirmed, NothingHeard,
 use Rattle.record.specs.States.{isMember, isFollowing, isKnocking}
 use Rattle.record.specs.Soundness.{sound}
 use Rattle.record.proofs.Tracking.{Tracking, tracks, tracking-sound}
-use Rattle.changes.specs.Changes.{fresh, leave, withSet, withMarks, withReturning}
+use Rattle.changes.specs.Changes.{withSet, withReturning}
 use Rattle.changes.proofs.Sound.{InRange, fresh-sound, leave-sound}
 use Rattle.steps.specs.Steps.{isHeard, returnIn, withFound, confirmed, marksAfter, missedReturn, marked, noted, tooFew, nothingHeard, isFound, joins, stateOnList, joined, join, settle, judged, departs, insideSlot, outsideSlot, trackingSlot}
 

@@ -1,8 +1,6 @@
 -- `nodeset::has` meets its contract: 0 and numbers above 32 are in no set of 32 bits; a shift right is a quotient.
 -- Assumes nothing.
-use Prim.Native.Nat.{ℕ}
 use mathlib.Core.Path.{sym, ap}
-use native.Mathlib.Omega.{arith}
 use borrow.Author.Needs.{needs}
 use Rattle.nodeset.specs.Sets.{has}
 use Rattle.nodeset.proofs.Bits.{has-at, has-beyond}

@@ -1,6 +1,6 @@
 -- `nodeset::with` meets its contract: a node that is there changes nothing; any other of 1 to 32 adds its power of two, which fits.
 -- Assumes nothing.
-use Prim.Native.Nat.{ℕ, suc, _+_, _-_, _^_}
+use Prim.Native.Nat.{ℕ, suc, _+_, _-_}
 use mathlib.Core.Path.{_≡_, sym, ap, _∙_}
 use mathlib.Core.Bool.{false}
 use native.Mathlib.Omega.{arith}

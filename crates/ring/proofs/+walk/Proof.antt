@@ -1,9 +1,9 @@
 -- `ring::walk` meets its contract. The slots left are the measure; `more` is what the definition takes off j.
 -- Assumes nothing.
 use Prim.Native.Nat.{ℕ, suc, _-_, _≤_, _<_}
-use mathlib.Core.Path.{_≡_, refl, sym, ap, ap₂, _∙_}
+use mathlib.Core.Path.{_≡_, refl, sym, ap, _∙_}
 use mathlib.Core.Logic.{_≢_, ⊎-elim}
-use mathlib.Core.Bool.{Bool, true, false, cond}
+use mathlib.Core.Bool.{Bool, cond}
 use native.Mathlib.Omega.{arith}
 use native.Mathlib.Decide.{ℕ-discrete}
 use borrow.Author.Tests.{eq-eqb, ne-eqb}
@@ -12,7 +12,7 @@ use borrow.Fn.PlainCycle.{Measures, is, falls, and}
 use lib.Dec.{eqb}
 use Rattle.nodeset.specs.Sums.{num}
 use Rattle.nodeset.specs.Sets.{has}
-use Rattle.ring.specs.declared.Found.the-variants.{Member, Nobody}
+use Rattle.ring.specs.declared.Found.the-variants.{Member}
 use Rattle.ring.specs.Ring as ring
 use Rattle.ring.proofs.walk.Reads as walk
 use Rattle.ring.proofs.walk.Kinds as walk-kinds

@@ -1,5 +1,4 @@
 -- `ring::decided` meets its contract: the tests in the table's order, then the ks-th member before. Assumes nothing.
-use Prim.Native.Nat.{ℕ}
 use mathlib.Core.Path.{_≡_, ap, _∙_}
 use borrow.Author.Needs.{needs}
 use Rattle.nodeset.proofs.Tests.{failed, passed}
