@@ -29,11 +29,11 @@ outFor cause v = record { n = v .n; k = v .k; own = v .own; slots = v .slots; st
 abbrev pub listeningAfter : ℕ → Node → Node
 listeningAfter last v = record { n = v .n; k = v .k; own = v .own; slots = v .slots; state = Listening; set = 0; present = 0; returning = 0; «return_heard» = false; listening = record { done = 0; heard = 0; shortest = v .k; «return_seen» = false; last = last } }
 
--- "Starts listening afresh."
+-- "starts listening afresh, with no slot done; its first window opens with the next slot"
 abbrev pub fresh : Node → Node
 fresh v = listeningAfter 0 v
 
--- "These become the set, all marked, state following."
+-- "these become the set, all marked, state following"
 abbrev pub followingWith : ℕ → Node → Node
 followingWith s v = record { n = v .n; k = v .k; own = v .own; slots = v .slots; state = Following; set = s; present = s; returning = 0; «return_heard» = false; listening = noWindow }
 

@@ -88,6 +88,7 @@ pub fn fresh(v: Node) -> Node
     listening_after(0, v)
 }
 
+// Following with a set, all of it marked.
 pub fn following_with(set: u32, v: Node) -> Node
     ensures { λ r. ⌜ r ≡ followingWith set v ⌝ }
 {
@@ -117,6 +118,7 @@ pub fn leave(cause: Cause, v: Node) -> Node
     fresh(v)
 }
 
+// The record with another set.
 pub fn with_set(set: u32, v: Node) -> Node
     ensures { λ r. ⌜ r ≡ withSet set v ⌝ }
 {
@@ -125,6 +127,7 @@ pub fn with_set(set: u32, v: Node) -> Node
     w
 }
 
+// The record with other marks and another return heard.
 pub fn with_marks(present: u32, heard: bool, v: Node) -> Node
     ensures { λ r. ⌜ r ≡ withMarks present heard v ⌝ }
 {
@@ -134,6 +137,7 @@ pub fn with_marks(present: u32, heard: bool, v: Node) -> Node
     w
 }
 
+// The record in a state, with another returning node.
 pub fn with_returning(state: State, r: u32, v: Node) -> Node
     ensures { λ w. ⌜ w ≡ withReturning state r v ⌝ }
 {
@@ -152,6 +156,7 @@ pub fn with_returning(state: State, r: u32, v: Node) -> Node
     }
 }
 
+// The record with other listening data.
 pub fn with_window(window: Window, v: Node) -> Node
     ensures { λ r. ⌜ r ≡ withWindow window v ⌝ }
 {

@@ -10,7 +10,7 @@ use Rattle.record.specs.declared.Node.{Node}
 use Rattle.record.specs.declared.Window.{Window}
 use Rattle.changes.specs.Changes.{listeningAfter, followingWith, withWindow}
 
--- The listening data with one more slot of the window: who was heard, "the shortest run of ones", "whether a return bit of 1 was heard".
+-- The listening data with one more slot of the window ("An unreadable message is unheard"): who was heard, "the shortest run of ones", "whether a return bit of 1 was heard".
 abbrev pub overheard : ℕ → Reading → Window → Window
 overheard s (reading.Heard bits returnBit) w = record { done = w .done + 1; heard = with (w .heard) s; shortest = min (w .shortest) (run bits); «return_seen» = w .«return_seen» || returnBit; last = w .last }
 overheard s (reading.Refused r) w = record { done = w .done + 1; heard = w .heard; shortest = w .shortest; «return_seen» = w .«return_seen»; last = w .last }
@@ -29,7 +29,7 @@ windowEnd w v =
     (cond (eqb (w .last) (w .heard)) (followingWith (w .heard) v) (listeningAfter (w .heard) v))
     (listeningAfter 0 v)
 
--- "It counts windows of n slots."
+-- "It counts windows of n slots from there."
 unfoldable pub listeningSlot : ℕ → Reading → Node → Node
 listeningSlot s heard v =
     let w = overheard s heard (v .listening) in

@@ -7,7 +7,7 @@ ghost use mathlib.Core.Path.{_≡_};
 ghost use Prim.Native.Nat.{_+_, _<_};
 ghost use Rattle.hearing.specs.Hearing.{overheard, clean, windowEnd, listeningSlot};
 
-// The window with one more slot in it, of which n are to be done. Requires that there is room for it.
+// The window with one more slot done. Requires that the count of slots done can go up by one.
 fn overheard(s: u32, heard: Reading, w: Window) -> Window
     requires { ⌜ w .done + 1 < 4294967296 ⌝ }
     ensures { λ r. ⌜ r ≡ overheard s heard w ⌝ }

@@ -24,7 +24,7 @@ unfoldable pub bytesOf : ℕ → ℕ → List ℕ
 bytesOf zero bits = []
 bytesOf (suc size) bits = bits % 256 ∷ bytesOf size (bits / 256)
 
--- "sections in fixed order, each after its count": the count, then the bits in so many bytes. "Spare bits are 0."
+-- "sections in fixed order, each after its count": the count, then the bits in so many bytes. "Spare bits are 0" where the bits are no more than counted.
 abbrev pub sectionOf : ℕ → ℕ → ℕ → List ℕ
 sectionOf count size bits = count ∷ bytesOf size bits
 

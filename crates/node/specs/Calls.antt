@@ -1,5 +1,6 @@
 -- What each call on a record answers, refusals included: "Checks run in table order, except that sending tests 10 before 9" (document 01,
--- "Causes and their numbers"). A refused call returns the record, and leaves the bytes, as they came.
+-- "Causes and their numbers"); "a record that holds a bad n, k or own number gives 4. Off and restart don't test 5." A refused call on a record returns
+-- it, and leaves the bytes, as they came.
 use Prim.Native.Nat.{ℕ, _+_}
 use mathlib.Core.List.{List}
 use mathlib.Core.Bool.{Bool, false, cond, _&&_}
@@ -45,6 +46,7 @@ setUpOf n k own =
 
 -- ---- one slot
 
+-- "The slot count starts at 0 and the first slot is 1": after so many slots the next is the one numbered one more.
 unfoldable pub stepOf : Reading → Node → Stepped
 stepOf heard v =
     cond (sound v)

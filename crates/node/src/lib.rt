@@ -22,7 +22,8 @@ pub enum Answer {
     Refused(Refusal),
 }
 
-// The record after a call; on a refusal it is the record that came.
+// The record after a call; on a refusal it is the record that came, or none of a node where set-up
+// is refused.
 pub struct Stepped {
     pub node: Node,
     pub answer: Answer,
@@ -145,7 +146,8 @@ fn after_slot(s: u32, heard: Reading, v: Node) -> Node
     }
 }
 
-// One slot, in which the reader found this in the bytes heard. Refuses by 4 and 5.
+// One slot, in which the reader found this in the bytes heard; any refused reading is nothing heard.
+// It takes every reading, also one that no bytes give. Refuses by 4 and 5.
 pub fn step(heard: Reading, v: Node) -> Stepped
     ensures { λ r. ⌜ r ≡ stepOf heard v ⌝ }
 {
@@ -162,6 +164,7 @@ pub fn step(heard: Reading, v: Node) -> Stepped
         };
     }
     let speaker = ring::sender(v.n, v.slots);
+    // A sound record's n is a ring's size, so the sender is never refused.
     let Speaker::Node(s) = speaker else {
         return Stepped {
             node: v,
@@ -190,6 +193,7 @@ fn its_turn(v: Node) -> bool
     ensures { λ r. ⌜ r ≡ itsTurn v ⌝ }
 {
     let speaker = ring::sender(v.n, v.slots);
+    // Never refused, by what is required.
     let Speaker::Node(s) = speaker else {
         return false;
     };

@@ -1,4 +1,4 @@
--- Document 01, "The node record": when a record is sound, clause by clause in the order of its sentence.
+-- Document 01, "The node record": when a record is sound, clause by clause in the order of its sentence; the last clause is the sentence after it.
 use Prim.Native.Nat.{ℕ}
 use mathlib.Core.Bool.{Bool, not, _&&_, _||_, Bool·beq}
 use lib.Dec.{eqb, leb, ltb}

@@ -1,5 +1,8 @@
--- Document 01, "The node record": "States: member, listening, following, knocking, out." A test for each.
+-- Document 01, "The node record": "States: member, listening, following, knocking, out." A test for each, and the numbers of the causes.
+use Prim.Native.Nat.{ℕ}
 use mathlib.Core.Bool.{Bool, true, false}
+use Rattle.record.specs.declared.Cause.{Cause}
+use Rattle.record.specs.declared.Cause.the-variants.{Unconfirmed, NothingHeard, MissedReturn, SwitchedOff}
 use Rattle.record.specs.declared.State.{State}
 use Rattle.record.specs.declared.State.the-variants.{Member, Listening, Following, Knocking, Out}
 
@@ -37,3 +40,10 @@ isOut Listening = false
 isOut Following = false
 isOut Knocking = false
 isOut (Out cause) = true
+
+-- "The out state carries its cause: 1 own message unconfirmed, 2 nothing heard, 3 missed a return, 4 switched off."
+abbrev pub causeNumber : Cause → ℕ
+causeNumber Unconfirmed = 1
+causeNumber NothingHeard = 2
+causeNumber MissedReturn = 3
+causeNumber SwitchedOff = 4

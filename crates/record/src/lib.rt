@@ -1,6 +1,6 @@
 // The node record (document 01, "The node record"): what it holds, and when it is sound.
 ghost use mathlib.Core.Path.{_≡_};
-ghost use Rattle.record.specs.States.{isMember, isListening, isFollowing, isKnocking, isOut};
+ghost use Rattle.record.specs.States.{isMember, isListening, isFollowing, isKnocking, isOut, causeNumber};
 ghost use Rattle.record.specs.Soundness.{numbersSound, setsSound, returningSound, ownSound, knockSound, emptySound, heardSound, windowInRange, windowEmpty, windowSound, enoughSound, sound};
 
 // Why a node is out.
@@ -44,6 +44,18 @@ pub struct Node {
 
 // The slot count at which a record takes no further slot.
 pub const LIMIT: u64 = 1_000_000_000_000_000;
+
+// The number that document 01 gives the cause.
+pub fn cause_number(cause: Cause) -> u32
+    ensures { λ r. ⌜ r ≡ causeNumber cause ⌝ }
+{
+    match cause {
+        Cause::Unconfirmed => 1,
+        Cause::NothingHeard => 2,
+        Cause::MissedReturn => 3,
+        Cause::SwitchedOff => 4,
+    }
+}
 
 pub fn is_member(state: State) -> bool
     ensures { λ r. ⌜ r ≡ isMember state ⌝ }
@@ -181,8 +193,8 @@ fn enough_sound(v: Node) -> bool
     ensures { λ r. ⌜ r ≡ enoughSound v ⌝ }
 {
     let state = v.state;
-    let tracking = is_following(state) | is_knocking(state);
-    !tracking | (2 <= nodeset::size(v.n, v.set))
+    let follows = is_following(state) | is_knocking(state);
+    !follows | (2 <= nodeset::size(v.n, v.set))
 }
 
 fn window_sound(v: Node) -> bool

@@ -20,7 +20,7 @@ hasFound s (Refused r) = false
 abbrev pub sends : Node → Bool
 sends v = isMember (v .state) || (isFollowing (v .state) && eqb (v .returning) 0)
 
--- "bits taken from the marks before the slot", "bit 1 concerns the nearest member before the sender": the first j of them.
+-- "bits taken from the marks before the slot", "bit 1 concerns the nearest member before the sender": the first j of them, as a set of numbers.
 unfoldable pub markBits : ℕ → Node → ℕ
 markBits zero v = 0
 markBits (suc j) v =

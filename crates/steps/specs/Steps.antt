@@ -1,5 +1,7 @@
--- One slot, for a member, following or knocking node (document 01, "One slot"): a definition for each numbered step under its sentence, then
--- their order. s is the slot's sender; a reading is what the reader made of the bytes heard.
+-- One slot, for a member, following or knocking node (document 01, "One slot"): the definitions of each numbered step under its sentences, then
+-- their order. s is the slot's sender; a reading is what the reader made of the bytes heard. "A message handed over in the own slot is ignored":
+-- there the reading is a refused one (node's specs/Slot), so the own slot goes by the rule of a message that is not heard.
+-- Acknowledgement bits are a set of numbers: bit j is 1 where j is in it.
 use Prim.Native.Nat.{ℕ, zero, suc}
 use mathlib.Core.Bool.{Bool, true, false, cond, not, _&&_, _||_}
 use lib.Dec.{eqb, ltb}
@@ -35,7 +37,7 @@ withFound s (found.Member m) = with s m
 withFound s found.Nobody = s
 withFound s (found.Refused r) = s
 
--- "each sponsored member whose bit is 1 is marked": the marks with the first j of the members that s sponsors
+-- "each sponsored member whose bit is 1 is marked": the marks with the first j of the members that s sponsors. Bits past ks are "ignored when heard".
 unfoldable pub confirmed : ℕ → ℕ → ℕ → Node → ℕ
 confirmed zero s bits v = with (v .present) s
 confirmed (suc j) s bits v =
@@ -113,14 +115,14 @@ join v = cond (isKnocking (v .state) && not (v .«return_heard»)) (withReturnin
 
 -- ---- the order of the steps
 
--- Steps 4 and 5, the latter "only if the sender is in the set".
+-- The two members that a follower needs, step 4, and step 5, the latter "only if the sender is in the set".
 unfoldable pub settle : Bool → ℕ → Node → Node
 settle inside s v =
     cond (tooFew v) (fresh v)
     (cond (nothingHeard v) (leave NothingHeard v)
     (cond (inside && joins s v) (join v) v))
 
--- Step 3, and those after it. "The decided member leaves if its mark is off. If that is this node, it leaves with cause 1 and the steps end."
+-- Step 3, and what comes after it: "the decided member leaves if its mark is off. If that is this node, it leaves with cause 1 and the steps end."
 unfoldable pub judged : ℕ → ℕ → Node → Node
 judged s m v =
     cond (has (v .present) m) (settle true s v)
@@ -135,13 +137,15 @@ departs s (found.Refused r) v = settle true s v
 abbrev pub departing : ℕ → Node → Node
 departing s v = departs s (decidedOf (v .n) (v .k) (v .set) s) v
 
--- Steps 1, 3, 4 and 5; "leaving with cause 3, and nothing further happens".
+-- The sender is in the set: step 1, then "Departure, only if the sender is in the set", and what comes after it; "leaving with cause 3, and nothing
+-- further happens".
 unfoldable pub insideSlot : ℕ → Reading → Node → Node
 insideSlot s heard v = cond (missedReturn heard v) (leave MissedReturn v) (departing s (marked s heard v))
 
--- Steps 2 and 4.
+-- The sender is outside the set: step 2, then step 4.
 unfoldable pub outsideSlot : ℕ → Reading → Node → Node
 outsideSlot s heard v = settle false s (noted s heard v)
 
+-- Any slot of such a node.
 unfoldable pub trackingSlot : ℕ → Reading → Node → Node
 trackingSlot s heard v = cond (has (v .set) s) (insideSlot s heard v) (outsideSlot s heard v)

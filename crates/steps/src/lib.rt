@@ -15,6 +15,7 @@ ghost use Rattle.ring.specs.Ring.{ks};
 ghost use Rattle.ring.specs.Answers.{sponsoredOf};
 ghost use Rattle.steps.specs.Steps.{isHeard, returnIn, withFound, confirmed, marksAfter, missedReturn, returnHeard, marked, noted, tooFew, nothingHeard, isFound, joins, stateOnList, joined, join, settle, judged, departs, insideSlot, outsideSlot, trackingSlot};
 
+// The return bit heard.
 fn return_in(heard: Reading) -> bool
     ensures { λ r. ⌜ r ≡ returnIn heard ⌝ }
 {
@@ -27,6 +28,7 @@ fn return_in(heard: Reading) -> bool
     }
 }
 
+// Whether a message was heard.
 fn is_heard(heard: Reading) -> bool
     ensures { λ r. ⌜ r ≡ isHeard heard ⌝ }
 {
@@ -39,6 +41,7 @@ fn is_heard(heard: Reading) -> bool
     }
 }
 
+// The set with the member found, if any.
 fn with_found(set: u32, found: Found) -> u32
     ensures { λ r. ⌜ r ≡ withFound set found ⌝ }
 {
@@ -87,12 +90,14 @@ fn marks_after(s: u32, heard: Reading, v: Node) -> u32
     confirmed(s, acknowledgements, v)
 }
 
+// Whether a return bit of 1 was heard while returning is 0.
 fn missed_return(heard: Reading, v: Node) -> bool
     ensures { λ r. ⌜ r ≡ missedReturn heard v ⌝ }
 {
     return_in(heard) & (v.returning == 0)
 }
 
+// Return heard after the slot.
 fn return_heard(heard: Reading, v: Node) -> bool
     ensures { λ r. ⌜ r ≡ returnHeard heard v ⌝ }
 {
@@ -100,12 +105,14 @@ fn return_heard(heard: Reading, v: Node) -> bool
     v.return_heard | (is_knocking(state) & return_in(heard))
 }
 
+// Step 1: the marks, and whether a return bit was heard while knocking.
 fn marked(s: u32, heard: Reading, v: Node) -> Node
     ensures { λ r. ⌜ r ≡ marked s heard v ⌝ }
 {
     changes::with_marks(marks_after(s, heard, v), return_heard(heard, v), v)
 }
 
+// Step 2: a knock is noted, or this node knocks.
 fn noted(s: u32, heard: Reading, v: Node) -> Node
     ensures { λ r. ⌜ r ≡ noted s heard v ⌝ }
 {
@@ -123,6 +130,7 @@ fn noted(s: u32, heard: Reading, v: Node) -> Node
     v
 }
 
+// Whether fewer than two members remain for a following or knocking node.
 fn too_few(v: Node) -> bool
     ensures { λ r. ⌜ r ≡ tooFew v ⌝ }
 {
@@ -130,12 +138,14 @@ fn too_few(v: Node) -> bool
     !is_member(state) & (nodeset::size(v.n, v.set) < 2)
 }
 
+// Step 4: whether no other member is marked.
 fn nothing_heard(v: Node) -> bool
     ensures { λ r. ⌜ r ≡ nothingHeard v ⌝ }
 {
     nodeset::size(v.n, nodeset::without(v.present, v.own)) == 0
 }
 
+// Whether the member found is x.
 fn is_found(x: u32, found: Found) -> bool
     ensures { λ r. ⌜ r ≡ isFound x found ⌝ }
 {
@@ -146,6 +156,7 @@ fn is_found(x: u32, found: Found) -> bool
     }
 }
 
+// Step 5: whether the sender is the nearest member before the returning node.
 fn joins(s: u32, v: Node) -> bool
     ensures { λ r. ⌜ r ≡ joins s v ⌝ }
 {
@@ -165,6 +176,7 @@ fn state_on_list(state: State) -> State
     }
 }
 
+// The record with the returning node on the list.
 fn joined(v: Node) -> Node
     ensures { λ r. ⌜ r ≡ joined v ⌝ }
 {
@@ -187,6 +199,7 @@ fn joined(v: Node) -> Node
     }
 }
 
+// Step 5: the returning node joins; a knocking node that was not answered follows again.
 fn join(v: Node) -> Node
     ensures { λ r. ⌜ r ≡ join v ⌝ }
 {
@@ -255,6 +268,7 @@ fn outside_slot(s: u32, heard: Reading, v: Node) -> Node
     settle(false, s, noted(s, heard, v))
 }
 
+// One slot of a member, following or knocking node.
 pub fn tracking_slot(s: u32, heard: Reading, v: Node) -> Node
     ensures { λ r. ⌜ r ≡ trackingSlot s heard v ⌝ }
 {
