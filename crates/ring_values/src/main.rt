@@ -6,15 +6,12 @@
 //     41 (full)
 //   ring: m * (m + m * (1 + m)) (before; decided, sponsored) for each set, 512 sets for each n from 0
 //     to 8 and 72 for each n from 31 to 33; 41 * (400 + 100) (sender); 41 * (1 + 41 * 3) (ranges, ks)
-mod model;
 mod of_nodeset;
 mod of_ring;
-mod sets;
-mod tally;
 
 use libc::STDOUT_FILENO;
 use std::num::wrapping_add_u64;
-use tally::Tally;
+use values::tally::Tally;
 
 fn report(name: &[u8], t: Tally) {
     io::write_all(STDOUT_FILENO, name);

@@ -1,8 +1,8 @@
 // The functions of nodeset: sets, nodes 0 to 40 and sizes 0 to 40.
-use crate::model;
-use crate::sets;
-use crate::tally::Tally;
-use crate::tally::compared;
+use values::model;
+use values::sets;
+use values::tally::Tally;
+use values::tally::compared;
 
 // One node and one set.
 fn node(t: Tally, s: u32, x: u32) -> Tally {

@@ -1,12 +1,12 @@
 // The functions of ring: for each n every node, k and j from 0 to n + 1.
-use crate::model;
-use crate::model::Line;
-use crate::sets;
-use crate::tally::Tally;
-use crate::tally::compared;
-use crate::tally::of_found;
-use crate::tally::of_speaker;
 use std::num::wrapping_add_u32;
+use values::model;
+use values::model::Line;
+use values::sets;
+use values::tally::Tally;
+use values::tally::compared;
+use values::tally::of_found;
+use values::tally::of_speaker;
 
 // A call, and what decides its answer: the refusal, 0 for none, and the most members it may count
 // back.

@@ -1,9 +1,9 @@
--- `ring_values::model::line_before` is safe and ends. Nothing has to hold from turn to turn; the measure is how many turns are left.
+-- `values::model::line_before` is safe and ends. Nothing has to hold from turn to turn; the measure is how many turns are left.
 -- Assumes nothing.
 use Prim.Native.Nat.{_-_}
 use native.Mathlib.Omega.{arith}
-use Rattle.ring_values.proofs.model.line_before.Statement.{statement}
-use Rattle.ring_values.proofs.model.line_before.Tie as tie
+use Rattle.values.proofs.model.line_before.Statement.{statement}
+use Rattle.values.proofs.model.line_before.Tie as tie
 
 abbrev Inv-loop : tie.InvT-loop
 Inv-loop n s x line₀ d₀ line d = Unit {0}

@@ -1,9 +1,9 @@
--- `ring_values::model::is_in` is safe and ends. Nothing has to hold from turn to turn; the measure is how many turns are left.
+-- `values::model::is_in` is safe and ends. Nothing has to hold from turn to turn; the measure is how many turns are left.
 -- Assumes nothing.
 use Prim.Native.Nat.{_-_}
 use native.Mathlib.Omega.{arith}
-use Rattle.ring_values.proofs.model.is_in.Statement.{statement}
-use Rattle.ring_values.proofs.model.is_in.Tie as tie
+use Rattle.values.proofs.model.is_in.Statement.{statement}
+use Rattle.values.proofs.model.is_in.Tie as tie
 
 abbrev Inv-loop : tie.InvT-loop
 Inv-loop s x rest₀ counter₀ rest counter = Unit {0}

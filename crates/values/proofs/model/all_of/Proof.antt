@@ -1,15 +1,15 @@
--- `ring_values::model::smaller` is safe and ends. Nothing has to hold from turn to turn; the measure is how many turns are left.
+-- `values::model::all_of` is safe and ends. Nothing has to hold from turn to turn; the measure is how many turns are left.
 -- Assumes nothing.
 use Prim.Native.Nat.{_-_}
 use native.Mathlib.Omega.{arith}
-use Rattle.ring_values.proofs.model.smaller.Statement.{statement}
-use Rattle.ring_values.proofs.model.smaller.Tie as tie
+use Rattle.values.proofs.model.all_of.Statement.{statement}
+use Rattle.values.proofs.model.all_of.Tie as tie
 
 abbrev Inv-loop : tie.InvT-loop
-Inv-loop k c count₀ y₀ count y = Unit {0}
+Inv-loop n sum₀ bit₀ y₀ sum bit y = Unit {0}
 
 abbrev μ-loop : tie.MeasureT-loop
-μ-loop k c count₀ y₀ count y = 41 - y
+μ-loop n sum₀ bit₀ y₀ sum bit y = 33 - y
 
 loop-holds : tie.Need-loop-holds Inv-loop μ-loop
 loop-holds c = tt
@@ -19,6 +19,9 @@ pick-requires c κs = tt
 
 wrapping-add-u32-requires : tie.Need-wrapping-add-u32-requires Inv-loop μ-loop
 wrapping-add-u32-requires c κs = tt
+
+wrapping-add-u32-requires-2 : tie.Need-wrapping-add-u32-requires-2 Inv-loop μ-loop
+wrapping-add-u32-requires-2 c κs = tt
 
 add-y : tie.Need-add-y Inv-loop μ-loop
 add-y c = omega arith
@@ -32,8 +35,8 @@ loop-again c = tt
 returns : tie.Need-returns Inv-loop μ-loop
 returns c = tt
 
-pub smaller-spec : {M : Type 1} → statement M
-smaller-spec =
+pub all-of-spec : {M : Type 1} → statement M
+all-of-spec =
     tie.close
     (tie.spec
     Inv-loop
@@ -41,6 +44,7 @@ smaller-spec =
     loop-holds
     pick-requires
     wrapping-add-u32-requires
+    wrapping-add-u32-requires-2
     add-y
     loop-less
     loop-again

@@ -1,9 +1,9 @@
--- `ring_values::model::sender_after` is safe and ends. Nothing has to hold from turn to turn; the measure is how many turns are left.
+-- `values::model::sender_after` is safe and ends. Nothing has to hold from turn to turn; the measure is how many turns are left.
 -- Assumes nothing.
 use Prim.Native.Nat.{_-_}
 use native.Mathlib.Omega.{arith}
-use Rattle.ring_values.proofs.model.sender_after.Statement.{statement}
-use Rattle.ring_values.proofs.model.sender_after.Tie as tie
+use Rattle.values.proofs.model.sender_after.Statement.{statement}
+use Rattle.values.proofs.model.sender_after.Tie as tie
 
 abbrev Inv-loop : tie.InvT-loop
 Inv-loop n done place₀ hop₀ rest₀ counter₀ place hop rest counter = Unit {0}

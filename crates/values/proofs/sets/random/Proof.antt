@@ -1,9 +1,9 @@
--- `ring_values::sets::random` is safe and ends. Nothing has to hold from turn to turn; the measure is how many turns are left.
+-- `values::sets::random` is safe and ends. Nothing has to hold from turn to turn; the measure is how many turns are left.
 -- Assumes nothing.
 use Prim.Native.Nat.{_-_}
 use native.Mathlib.Omega.{arith}
-use Rattle.ring_values.proofs.sets.random.Statement.{statement}
-use Rattle.ring_values.proofs.sets.random.Tie as tie
+use Rattle.values.proofs.sets.random.Statement.{statement}
+use Rattle.values.proofs.sets.random.Tie as tie
 
 abbrev Inv-loop : tie.InvT-loop
 Inv-loop i seed₀ counter₀ seed counter = Unit {0}
