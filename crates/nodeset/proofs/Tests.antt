@@ -1,6 +1,6 @@
 -- Reasoning by what a test answers. Assumes nothing.
-use mathlib.Core.Path.{_≡_, refl, sym, _∙_}
-use mathlib.Core.Bool.{Bool, true, false, true≢false, not, _&&_}
+use mathlib.Core.Path.{_≡_, refl, sym, ap, _∙_}
+use mathlib.Core.Bool.{Bool, true, false, cond, true≢false, not, _&&_}
 use borrow.Author.Tests.{not-true, not-false}
 
 pub by-cases {ℓ} : {A : Type ℓ} (b : Bool) → (b ≡ true → A) → (b ≡ false → A) → A
@@ -18,3 +18,14 @@ failed {r} e h = sym e ∙ not-true r h
 
 pub passed : {r b : Bool} → r ≡ b → not r ≡ false → b ≡ true
 passed {r} e h = sym e ∙ not-false r h
+
+-- what `if test(..) { .. }` tells
+pub told : {r b v : Bool} → r ≡ b → r ≡ v → b ≡ v
+told e h = sym e ∙ h
+
+-- a choice by a test whose answer is known
+pub chosen : {A : Type 0} {b : Bool} (x y : A) → b ≡ true → cond b x y ≡ x
+chosen x y e = ap (λ (c : Bool). cond c x y) e
+
+pub otherwise : {A : Type 0} {b : Bool} (x y : A) → b ≡ false → cond b x y ≡ y
+otherwise x y e = ap (λ (c : Bool). cond c x y) e

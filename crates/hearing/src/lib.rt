@@ -1,0 +1,69 @@
+// One slot for a listening node. An inner layer: it takes records as they are, with a window whose
+// count of slots done can go up by one; the calls of `node` test records first.
+use message::Reading;
+use record::Node;
+use record::Window;
+ghost use mathlib.Core.Path.{_≡_};
+ghost use Prim.Native.Nat.{_+_, _<_};
+ghost use Rattle.hearing.specs.Hearing.{overheard, clean, windowEnd, listeningSlot};
+
+// The window with one more slot in it, of which n are to be done. Requires that there is room for it.
+fn overheard(s: u32, heard: Reading, w: Window) -> Window
+    requires { ⌜ w .done + 1 < 4294967296 ⌝ }
+    ensures { λ r. ⌜ r ≡ overheard s heard w ⌝ }
+{
+    let Reading::Heard {
+        acknowledgements,
+        return_bit,
+    } = heard
+    else {
+        return Window {
+            done: w.done + 1,
+            heard: w.heard,
+            shortest: w.shortest,
+            return_seen: w.return_seen,
+            last: w.last,
+        };
+    };
+    let run = nodeset::run(acknowledgements);
+    let shortest = if run < w.shortest { run } else { w.shortest };
+    Window {
+        done: w.done + 1,
+        heard: nodeset::with(w.heard, s),
+        shortest,
+        return_seen: w.return_seen | return_bit,
+        last: w.last,
+    }
+}
+
+fn clean(n: u32, k: u32, w: Window) -> bool
+    ensures { λ r. ⌜ r ≡ clean n k w ⌝ }
+{
+    let count = nodeset::size(n, w.heard);
+    (2 <= count) & (!w.return_seen & (ring::ks(k, count) <= w.shortest))
+}
+
+fn window_end(w: Window, v: Node) -> Node
+    ensures { λ r. ⌜ r ≡ windowEnd w v ⌝ }
+{
+    if !clean(v.n, v.k, w) {
+        return changes::listening_after(0, v);
+    }
+    if w.last == w.heard {
+        return changes::following_with(w.heard, v);
+    }
+    changes::listening_after(w.heard, v)
+}
+
+// One slot of a listening node. Requires what `overheard` does of the node's window.
+pub fn listening_slot(s: u32, heard: Reading, v: Node) -> Node
+    requires { ⌜ v .listening .done + 1 < 4294967296 ⌝ }
+    ensures { λ r. ⌜ r ≡ listeningSlot s heard v ⌝ }
+{
+    let before = v.listening;
+    let w = overheard(s, heard, before);
+    if w.done < v.n {
+        return changes::with_window(w, v);
+    }
+    window_end(w, v)
+}

@@ -1,0 +1,33 @@
+-- `node::restart` meets its contract: its tests are in the table's order. Assumes nothing.
+use borrow.Author.Needs.{needs}
+use mathlib.Core.Path.{sym, ap, _∙_}
+use Rattle.nodeset.proofs.Tests.{failed, passed, chosen, otherwise}
+use Rattle.node.specs.Calls.{done, restartOf}
+use Rattle.node.proofs.restart.Statement.{statement}
+use Rattle.node.proofs.restart.Tie as tie
+
+is-sound-requires : tie.Need-is-sound-requires
+is-sound-requires c κs = search needs
+
+returns : tie.Need-returns
+unfolding restartOf
+returns c = sym (otherwise _ _ (failed (c .before .is-sound .ensures) (c .if1 .taken)))
+
+is-out-requires : tie.Need-is-out-requires
+is-out-requires c κs = search needs
+
+returns-2 : tie.Need-returns-2
+unfolding restartOf
+returns-2 c = sym (chosen _ _ (passed (c .before .before .before .is-sound .ensures) (c .before .before .if1 .left)) ∙ otherwise _ _ (failed (c .before .is-out .ensures) (c .if2 .taken)))
+
+fresh-requires : tie.Need-fresh-requires
+fresh-requires c κs = search needs
+
+returns-3 : tie.Need-returns-3
+unfolding restartOf
+returns-3 c = ap done (c .fresh .ensures) ∙ sym (chosen _ _ (passed (c .before .before .before .before .is-sound .ensures) (c .before .before .before .if1 .left)) ∙ chosen _ _ (passed (c .before .before .is-out .ensures) (c .before .if2 .left)))
+
+pub restart-spec : {M : Type 1} → statement M
+restart-spec =
+    tie.close
+    (tie.spec is-sound-requires returns is-out-requires returns-2 fresh-requires returns-3)

@@ -1,0 +1,72 @@
+-- `node::send` meets its contract: its tests are in their order, then the writer writes. Assumes nothing.
+use borrow.Author.Needs.{needs}
+use Prim.Native.Nat.{ℕ}
+use mathlib.Core.Path.{sym, ap₂, _∙_}
+use mathlib.Core.Bool.{Bool}
+use denote.Ref.{now}
+use Rattle.message.specs.Message.{writeOf}
+use borrow.Author.Tests.{le-leb, lt-leb}
+use Rattle.nodeset.proofs.Tests.{failed, passed, chosen, otherwise}
+use Rattle.record.proofs.Facts.{clauses}
+use Rattle.node.specs.Calls.{sendOf}
+use Rattle.node.proofs.send.Statement.{statement}
+use Rattle.node.proofs.send.Tie as tie
+
+is-sound-requires : tie.Need-is-sound-requires
+is-sound-requires c κs = search needs
+
+returns : tie.Need-returns
+unfolding sendOf
+returns c = sym (otherwise _ _ (failed (c .before .is-sound .ensures) (c .if1 .taken)))
+
+returns-2 : tie.Need-returns-2
+unfolding sendOf
+returns-2 c = sym (chosen _ _ (passed (c .before .before .before .is-sound .ensures) (c .before .before .if1 .left)) ∙ chosen _ _ (le-leb _ _ (c .if2 .taken)))
+
+its-turn-requires : tie.Need-its-turn-requires
+its-turn-requires c κs = clauses (c .before .before .before .before .before .args .v) (passed (c .before .before .before .is-sound .ensures) (c .before .before .if1 .left)) .ring
+
+returns-3 : tie.Need-returns-3
+unfolding sendOf
+returns-3 c = sym (
+    chosen _ _ (passed (c .before .before .before .before .before .is-sound .ensures) (c .before .before .before .before .if1 .left))
+    ∙ otherwise _ _ (lt-leb _ _ (c .before .before .if2 .left))
+    ∙ otherwise _ _ (failed (c .before .its-turn .ensures) (c .if3 .taken)))
+
+bits-sent-requires : tie.Need-bits-sent-requires
+bits-sent-requires c κs = search needs
+
+return-sent-requires : tie.Need-return-sent-requires
+return-sent-requires c κs = search needs
+
+write-requires : tie.Need-write-requires
+write-requires c κs = search needs
+
+same-length : tie.Need-same-length
+same-length c = search needs
+
+returns-4 : tie.Need-returns-4
+unfolding sendOf
+returns-4 c =
+    let a = c .before .before .before .before .before .before .before .before .before .before .before .before .before .args in
+    c .before .before .write .ensures
+    ∙ ap₂ (λ (bits : ℕ) (b : Bool). writeOf (a .v .k) bits b (now (a .out))) (c .before .before .before .before .before .bits-sent .ensures) (c .before .before .before .before .return-sent .ensures)
+    ∙ sym (
+    chosen _ _ (passed (c .before .before .before .before .before .before .before .before .before .before .before .is-sound .ensures) (c .before .before .before .before .before .before .before .before .before .before .if1 .left))
+    ∙ otherwise _ _ (lt-leb _ _ (c .before .before .before .before .before .before .before .before .if2 .left))
+    ∙ chosen _ _ (passed (c .before .before .before .before .before .before .before .its-turn .ensures) (c .before .before .before .before .before .before .if3 .left)))
+
+pub send-spec : {M : Type 1} → statement M
+send-spec =
+    tie.close
+    (tie.spec
+    is-sound-requires
+    returns
+    returns-2
+    its-turn-requires
+    returns-3
+    bits-sent-requires
+    return-sent-requires
+    write-requires
+    same-length
+    returns-4)

@@ -1,0 +1,80 @@
+-- What each call on a record answers, refusals included: "Checks run in table order, except that sending tests 10 before 9" (document 01,
+-- "Causes and their numbers"). A refused call returns the record, and leaves the bytes, as they came.
+use Prim.Native.Nat.{ℕ, _+_}
+use mathlib.Core.List.{List}
+use mathlib.Core.Bool.{Bool, false, cond, _&&_}
+use lib.Dec.{eqb, leb}
+use Rattle.refusal.specs.declared.Refusal.{Refusal}
+use Rattle.refusal.specs.declared.Refusal.the-variants.{RingSize, SponsorCount, NodeNumber, Unsound, SlotLimit, NotItsSlot, NotOut}
+use Rattle.ring.specs.Ring.{ringSize, sponsorCount, nodeNumber, sender}
+use Rattle.message.specs.declared.Reading.{Reading}
+use Rattle.message.specs.declared.Written.{Written}
+use Rattle.message.specs.declared.Written.the-variants as written
+use Rattle.message.specs.Message.{readOf, writeOf}
+use Rattle.record.specs.declared.Node.{Node}
+use Rattle.record.specs.declared.State.the-variants.{Out}
+use Rattle.record.specs.declared.Cause.the-variants.{SwitchedOff}
+use Rattle.record.specs.States.{isOut}
+use Rattle.record.specs.Soundness.{sound, limit}
+use Rattle.node.specs.declared.Stepped.{Stepped}
+use Rattle.node.specs.declared.Answer.the-variants.{Done, Refused}
+use Rattle.changes.specs.Changes.{noWindow, starting, outFor, fresh, counted}
+use Rattle.sending.specs.Sending.{sends, bitsSent, returnSent}
+use Rattle.node.specs.Slot.{afterSlot}
+
+-- A call that was made, and one that was refused.
+abbrev pub done : Node → Stepped
+done v = record { node = v; answer = Done }
+
+abbrev pub refused : Refusal → Node → Stepped
+refused cause v = record { node = v; answer = Refused cause }
+
+-- ---- set-up
+
+-- The record that comes with a refused set-up.
+abbrev pub noNode : Node
+noNode = record { n = 0; k = 0; own = 0; slots = 0; state = Out SwitchedOff; set = 0; present = 0; returning = 0; «return_heard» = false; listening = noWindow }
+
+unfoldable pub setUpOf : ℕ → ℕ → ℕ → Stepped
+setUpOf n k own =
+    cond (ringSize n)
+    (cond (sponsorCount n k)
+    (cond (nodeNumber n own) (done (starting n k own)) (refused NodeNumber noNode))
+    (refused SponsorCount noNode))
+    (refused RingSize noNode)
+
+-- ---- one slot
+
+unfoldable pub stepOf : Reading → Node → Stepped
+stepOf heard v =
+    cond (sound v)
+    (cond (leb limit (v .slots)) (refused SlotLimit v) (done (afterSlot (sender (v .n) (v .slots + 1)) heard (counted v))))
+    (refused Unsound v)
+
+-- The slot in which these bytes are heard; no bytes where nothing is.
+abbrev pub slotOf : List ℕ → Node → Stepped
+slotOf bytes v = stepOf (readOf (v .k) bytes) v
+
+-- ---- sending
+
+-- "the next slot is not this node's, or it neither is a member nor follows with returning 0"
+abbrev pub itsTurn : Node → Bool
+itsTurn v = eqb (sender (v .n) (v .slots + 1)) (v .own) && sends v
+
+-- What is answered, and the lent bytes afterwards.
+unfoldable pub sendOf : Node → List ℕ → Written × List ℕ
+sendOf v out =
+    cond (sound v)
+    (cond (leb limit (v .slots)) (written.Refused SlotLimit, out)
+    (cond (itsTurn v) (writeOf (v .k) (bitsSent v) (returnSent v) out) (written.Refused NotItsSlot, out)))
+    (written.Refused Unsound, out)
+
+-- ---- off and restart
+
+-- "`off` works in every state, giving cause 4."
+unfoldable pub offOf : Node → Stepped
+offOf v = cond (sound v) (done (outFor SwitchedOff v)) (refused Unsound v)
+
+-- "Restart takes a node from out to listening."
+unfoldable pub restartOf : Node → Stepped
+restartOf v = cond (sound v) (cond (isOut (v .state)) (done (fresh v)) (refused NotOut v)) (refused Unsound v)

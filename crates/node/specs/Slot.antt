@@ -1,0 +1,28 @@
+-- One slot, for a sound record in any state: s is the slot's sender.
+use Prim.Native.Nat.{ℕ}
+use mathlib.Core.Bool.{cond}
+use lib.Dec.{eqb}
+use Rattle.refusal.specs.declared.Refusal.the-variants.{MessageLength}
+use Rattle.message.specs.declared.Reading.{Reading}
+use Rattle.message.specs.declared.Reading.the-variants.{Refused}
+use Rattle.record.specs.declared.Node.{Node}
+use Rattle.record.specs.declared.State.{State}
+use Rattle.record.specs.declared.State.the-variants.{Member, Listening, Following, Knocking, Out}
+use Rattle.steps.specs.Steps.{trackingSlot}
+use Rattle.hearing.specs.Hearing.{listeningSlot}
+
+-- "A message handed over in the own slot is ignored"; "the own slot hears nothing": there it is as if unreadable.
+abbrev pub heardFrom : ℕ → Reading → Node → Reading
+heardFrom s heard v = cond (eqb s (v .own)) (Refused MessageLength) heard
+
+-- The rules of each state; "an out node only counts slots".
+abbrev pub slotIn : State → ℕ → Reading → Node → Node
+slotIn Member s heard v = trackingSlot s heard v
+slotIn Listening s heard v = listeningSlot s heard v
+slotIn Following s heard v = trackingSlot s heard v
+slotIn Knocking s heard v = trackingSlot s heard v
+slotIn (Out cause) s heard v = v
+
+-- The record after the slot; its slot count is the slot's number already.
+unfoldable pub afterSlot : ℕ → Reading → Node → Node
+afterSlot s heard v = slotIn (v .state) s (heardFrom s heard v) v

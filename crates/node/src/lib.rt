@@ -1,0 +1,214 @@
+// The calls on a node record (document 01): set-up, one slot, sending, off and restart. A record
+// goes in by value and comes back beside the answer; every record is taken, and one that is not
+// sound is refused.
+use message::Reading;
+use message::Written;
+use record::Cause;
+use record::Node;
+use record::State;
+use record::Window;
+use refusal::Refusal;
+use ring::Speaker;
+ghost use mathlib.Core.Path.{_≡_};
+ghost use mathlib.Core.Bool.{true};
+ghost use Prim.Native.Nat.{_+_, _<_};
+ghost use Rattle.ring.specs.Ring.{ringSize};
+ghost use Rattle.node.specs.Slot.{heardFrom, afterSlot};
+ghost use Rattle.node.specs.Calls.{itsTurn, setUpOf, stepOf, slotOf, sendOf, offOf, restartOf};
+
+// What came of a call on a record.
+pub enum Answer {
+    Done,
+    Refused(Refusal),
+}
+
+// The record after a call; on a refusal it is the record that came.
+pub struct Stepped {
+    pub node: Node,
+    pub answer: Answer,
+}
+
+// The record that comes with a refused set-up.
+const NO_NODE: Node = Node {
+    n: 0,
+    k: 0,
+    own: 0,
+    slots: 0,
+    state: State::Out(Cause::SwitchedOff),
+    set: 0,
+    present: 0,
+    returning: 0,
+    return_heard: false,
+    listening: Window {
+        done: 0,
+        heard: 0,
+        shortest: 0,
+        return_seen: false,
+        last: 0,
+    },
+};
+
+// The record of node `own` at the common start. Refuses by 1, 2 and 3.
+pub fn set_up(n: u32, k: u32, own: u32) -> Stepped
+    ensures { λ r. ⌜ r ≡ setUpOf n k own ⌝ }
+{
+    if !ring::is_ring_size(n) {
+        return Stepped {
+            node: NO_NODE,
+            answer: Answer::Refused(Refusal::RingSize),
+        };
+    }
+    if !ring::is_sponsor_count(n, k) {
+        return Stepped {
+            node: NO_NODE,
+            answer: Answer::Refused(Refusal::SponsorCount),
+        };
+    }
+    if !ring::is_node_number(n, own) {
+        return Stepped {
+            node: NO_NODE,
+            answer: Answer::Refused(Refusal::NodeNumber),
+        };
+    }
+    let v = changes::starting(n, k, own);
+    Stepped {
+        node: v,
+        answer: Answer::Done,
+    }
+}
+
+// Switches the node off. Refuses by 4.
+pub fn off(v: Node) -> Stepped
+    ensures { λ r. ⌜ r ≡ offOf v ⌝ }
+{
+    if !record::is_sound(v) {
+        return Stepped {
+            node: v,
+            answer: Answer::Refused(Refusal::Unsound),
+        };
+    }
+    let w = changes::out_for(Cause::SwitchedOff, v);
+    Stepped {
+        node: w,
+        answer: Answer::Done,
+    }
+}
+
+// Restarts a node that is out: it listens. Refuses by 4 and 11.
+pub fn restart(v: Node) -> Stepped
+    ensures { λ r. ⌜ r ≡ restartOf v ⌝ }
+{
+    if !record::is_sound(v) {
+        return Stepped {
+            node: v,
+            answer: Answer::Refused(Refusal::Unsound),
+        };
+    }
+    let state = v.state;
+    if !record::is_out(state) {
+        return Stepped {
+            node: v,
+            answer: Answer::Refused(Refusal::NotOut),
+        };
+    }
+    let w = changes::fresh(v);
+    Stepped {
+        node: w,
+        answer: Answer::Done,
+    }
+}
+
+// What a node hears in a slot of s: in its own slot nothing.
+fn heard_from(s: u32, heard: Reading, v: Node) -> Reading
+    ensures { λ r. ⌜ r ≡ heardFrom s heard v ⌝ }
+{
+    if s == v.own {
+        return Reading::Refused(Refusal::MessageLength);
+    }
+    heard
+}
+
+// The record after a slot of which s is the sender; its slot count is the slot's number already.
+// An inner function: requires that the window's count of slots done can go up by one.
+fn after_slot(s: u32, heard: Reading, v: Node) -> Node
+    requires { ⌜ v .listening .done + 1 < 4294967296 ⌝ }
+    ensures { λ r. ⌜ r ≡ afterSlot s heard v ⌝ }
+{
+    let state = v.state;
+    let told = heard_from(s, heard, v);
+    match state {
+        State::Member => steps::tracking_slot(s, told, v),
+        State::Listening => hearing::listening_slot(s, told, v),
+        State::Following => steps::tracking_slot(s, told, v),
+        State::Knocking => steps::tracking_slot(s, told, v),
+        State::Out(_) => v,
+    }
+}
+
+// One slot, in which the reader found this in the bytes heard. Refuses by 4 and 5.
+pub fn step(heard: Reading, v: Node) -> Stepped
+    ensures { λ r. ⌜ r ≡ stepOf heard v ⌝ }
+{
+    if !record::is_sound(v) {
+        return Stepped {
+            node: v,
+            answer: Answer::Refused(Refusal::Unsound),
+        };
+    }
+    if record::LIMIT <= v.slots {
+        return Stepped {
+            node: v,
+            answer: Answer::Refused(Refusal::SlotLimit),
+        };
+    }
+    let speaker = ring::sender(v.n, v.slots);
+    let Speaker::Node(s) = speaker else {
+        return Stepped {
+            node: v,
+            answer: Answer::Refused(Refusal::Unsound),
+        };
+    };
+    let mut counted = v;
+    counted.slots = v.slots + 1;
+    let w = after_slot(s, heard, counted);
+    Stepped {
+        node: w,
+        answer: Answer::Done,
+    }
+}
+
+// One slot, in which these bytes are heard: none where nothing is. Refuses by 4 and 5.
+pub fn slot(bytes: &[u8], v: Node) -> Stepped
+    ensures { λ r. ⌜ r ≡ slotOf (now (bytes .entry)) v ⌝ }
+{
+    step(message::read(v.k, bytes), v)
+}
+
+// Whether the next slot is this node's and it sends there. An inner function: requires a ring's size.
+fn its_turn(v: Node) -> bool
+    requires { ⌜ ringSize (v .n) ≡ true ⌝ }
+    ensures { λ r. ⌜ r ≡ itsTurn v ⌝ }
+{
+    let speaker = ring::sender(v.n, v.slots);
+    let Speaker::Node(s) = speaker else {
+        return false;
+    };
+    (s == v.own) & sending::sends(v)
+}
+
+// Writes what the node sends in the next slot, if that is its own, to the start of out, and leaves
+// the bytes after it. Refuses by 4, 5, 10 and 9, in this order, and then writes nothing.
+pub fn send(v: Node, out: &mut [u8]) -> Written
+    ensures { λ r. ⌜ (r, now (out .exit)) ≡ sendOf v (now (out .entry)) ⌝ }
+{
+    if !record::is_sound(v) {
+        return Written::Refused(Refusal::Unsound);
+    }
+    if record::LIMIT <= v.slots {
+        return Written::Refused(Refusal::SlotLimit);
+    }
+    if !its_turn(v) {
+        return Written::Refused(Refusal::NotItsSlot);
+    }
+    message::write(v.k, sending::bits_sent(v), sending::return_sent(v), out)
+}

@@ -1,0 +1,55 @@
+-- `ring_values::of_ring::ranges` is safe and ends. Nothing has to hold from turn to turn; the measure is how many turns are left.
+-- Assumes nothing.
+use Prim.Native.Nat.{_-_}
+use native.Mathlib.Omega.{arith}
+use Rattle.ring_values.proofs.of_ring.ranges.Statement.{statement}
+use Rattle.ring_values.proofs.of_ring.ranges.Tie as tie
+
+abbrev Inv-loop : tie.InvT-loop
+Inv-loop u₀ n₀ u n = Unit {0}
+
+abbrev μ-loop : tie.MeasureT-loop
+μ-loop u₀ n₀ u n = 41 - n
+
+loop-holds : tie.Need-loop-holds Inv-loop μ-loop
+loop-holds c = tt
+
+is-ring-size-requires : tie.Need-is-ring-size-requires Inv-loop μ-loop
+is-ring-size-requires c κs = tt
+
+is-ring-requires : tie.Need-is-ring-requires Inv-loop μ-loop
+is-ring-requires c κs = tt
+
+compared-requires : tie.Need-compared-requires Inv-loop μ-loop
+compared-requires c κs = tt
+
+pairs-requires : tie.Need-pairs-requires Inv-loop μ-loop
+pairs-requires c κs = tt
+
+add-n : tie.Need-add-n Inv-loop μ-loop
+add-n c = omega arith
+
+loop-less : tie.Need-loop-less Inv-loop μ-loop
+loop-less c = omega arith
+
+loop-again : tie.Need-loop-again Inv-loop μ-loop
+loop-again c = tt
+
+returns : tie.Need-returns Inv-loop μ-loop
+returns c = tt
+
+pub ranges-spec : {M : Type 1} → statement M
+ranges-spec =
+    tie.close
+    (tie.spec
+    Inv-loop
+    μ-loop
+    loop-holds
+    is-ring-size-requires
+    is-ring-requires
+    compared-requires
+    pairs-requires
+    add-n
+    loop-less
+    loop-again
+    returns)

@@ -1,0 +1,147 @@
+-- One slot, for a member, following or knocking node (document 01, "One slot"): a definition for each numbered step under its sentence, then
+-- their order. s is the slot's sender; a reading is what the reader made of the bytes heard.
+use Prim.Native.Nat.{ℕ, zero, suc}
+use mathlib.Core.Bool.{Bool, true, false, cond, not, _&&_, _||_}
+use lib.Dec.{eqb, ltb}
+use Rattle.nodeset.specs.Sets.{has, with, without, size}
+use Rattle.ring.specs.declared.Found.{Found}
+use Rattle.ring.specs.declared.Found.the-variants as found
+use Rattle.ring.specs.Ring.{ks}
+use Rattle.ring.specs.Answers.{beforeOf, sponsoredOf, decidedOf}
+use Rattle.message.specs.declared.Reading.{Reading}
+use Rattle.message.specs.declared.Reading.the-variants as reading
+use Rattle.record.specs.declared.Node.{Node}
+use Rattle.record.specs.declared.State.{State}
+use Rattle.record.specs.declared.State.the-variants.{Member, Listening, Following, Knocking, Out}
+use Rattle.record.specs.declared.Cause.the-variants.{Unconfirmed, NothingHeard, MissedReturn}
+use Rattle.record.specs.States.{isMember, isFollowing, isKnocking}
+use Rattle.changes.specs.Changes.{fresh, leave, withSet, withMarks, withReturning}
+
+-- ---- what a reading says; "An unreadable message counts as not heard."
+
+abbrev pub isHeard : Reading → Bool
+isHeard (reading.Heard bits returnBit) = true
+isHeard (reading.Refused r) = false
+
+abbrev pub returnIn : Reading → Bool
+returnIn (reading.Heard bits returnBit) = returnBit
+returnIn (reading.Refused r) = false
+
+-- ---- step 1: "The sender is in the set."
+
+-- The set with a found member.
+abbrev pub withFound : ℕ → Found → ℕ
+withFound s (found.Member m) = with s m
+withFound s found.Nobody = s
+withFound s (found.Refused r) = s
+
+-- "each sponsored member whose bit is 1 is marked": the marks with the first j of the members that s sponsors
+unfoldable pub confirmed : ℕ → ℕ → ℕ → Node → ℕ
+confirmed zero s bits v = with (v .present) s
+confirmed (suc j) s bits v =
+    let marks = confirmed j s bits v in
+    cond (has bits (suc j)) (withFound marks (sponsoredOf (v .n) (v .k) (v .set) s (suc j))) marks
+
+-- "If it is this node, its own mark goes off .. If its message is heard, its mark goes on and each sponsored member whose bit is 1 is
+-- marked, this node included. If not heard, its mark goes off."
+abbrev pub marksAfter : ℕ → Reading → Node → ℕ
+marksAfter s (reading.Heard bits returnBit) v = confirmed (ks (v .k) (size (v .n) (v .set))) s bits v
+marksAfter s (reading.Refused r) v = without (v .present) s
+
+-- "A return bit of 1 heard while returning is 0 means leaving with cause 3"
+abbrev pub missedReturn : Reading → Node → Bool
+missedReturn heard v = returnIn heard && eqb (v .returning) 0
+
+-- "heard while knocking, it sets return heard"
+abbrev pub returnHeard : Reading → Node → Bool
+returnHeard heard v = v .«return_heard» || (isKnocking (v .state) && returnIn heard)
+
+abbrev pub marked : ℕ → Reading → Node → Node
+marked s heard v = withMarks (marksAfter s heard v) (returnHeard heard v) v
+
+-- ---- step 2: "The sender is outside the set."
+
+-- "If heard and returning is 0, returning becomes the sender; if returning is not 0 it is ignored. The contents don't matter. A following node in
+-- its own slot with returning 0 knocks: it sends and sets returning to itself. A knocking node found in its own slot is silent and stays knocking."
+unfoldable pub noted : ℕ → Reading → Node → Node
+noted s heard v =
+    cond (eqb s (v .own))
+    (cond (isFollowing (v .state) && eqb (v .returning) 0) (withReturning Knocking (v .own) v) v)
+    (cond (isHeard heard && eqb (v .returning) 0) (withReturning (v .state) s v) v)
+
+-- ---- step 4, and what stands before it
+
+-- "Following and knocking need two members or more in the set; if fewer remain after step 3, the node goes to fresh listening."
+abbrev pub tooFew : Node → Bool
+tooFew v = not (isMember (v .state)) && ltb (size (v .n) (v .set)) 2
+
+-- "Then, if no other member is marked, this node leaves with cause 2."
+abbrev pub nothingHeard : Node → Bool
+nothingHeard v = eqb (size (v .n) (without (v .present) (v .own))) 0
+
+-- ---- step 5
+
+-- The found member is x.
+abbrev pub isFound : ℕ → Found → Bool
+isFound x (found.Member m) = eqb m x
+isFound x found.Nobody = false
+isFound x (found.Refused r) = false
+
+-- "the sender .. is the nearest member before the returning node" (before 0 there is none)
+abbrev pub joins : ℕ → Node → Bool
+joins s v = isFound s (beforeOf (v .n) (v .set) (v .returning) 1)
+
+-- The state of a node once the returning one is on the list: a knocking node, which is that one, is a member.
+abbrev pub stateOnList : State → State
+stateOnList Member = Member
+stateOnList Listening = Listening
+stateOnList Following = Following
+stateOnList Knocking = Member
+stateOnList (Out cause) = Out cause
+
+-- The record with a state, a set and marks, returning 0.
+abbrev pub settledAs : State → ℕ → ℕ → Node → Node
+settledAs state set marks v = record { n = v .n; k = v .k; own = v .own; slots = v .slots; state = state; set = set; present = marks; returning = 0; «return_heard» = false; listening = v .listening }
+
+-- "that node joins, marked, and returning becomes 0"
+abbrev pub joined : Node → Node
+joined v = settledAs (stateOnList (v .state)) (with (v .set) (v .returning)) (with (v .present) (v .returning)) v
+
+-- "A knocking node joins only if it has heard a return bit of 1 since its knock; otherwise it is following again, returning 0."
+unfoldable pub join : Node → Node
+join v = cond (isKnocking (v .state) && not (v .«return_heard»)) (withReturning Following 0 v) (joined v)
+
+-- ---- the order of the steps
+
+-- Steps 4 and 5, the latter "only if the sender is in the set".
+unfoldable pub settle : Bool → ℕ → Node → Node
+settle inside s v =
+    cond (tooFew v) (fresh v)
+    (cond (nothingHeard v) (leave NothingHeard v)
+    (cond (inside && joins s v) (join v) v))
+
+-- Step 3, and those after it. "The decided member leaves if its mark is off. If that is this node, it leaves with cause 1 and the steps end."
+unfoldable pub judged : ℕ → ℕ → Node → Node
+judged s m v =
+    cond (has (v .present) m) (settle true s v)
+    (cond (eqb m (v .own)) (leave Unconfirmed v) (settle true s (withSet (without (v .set) m) v)))
+
+-- "With one member nobody is decided" ("The ring").
+abbrev pub departs : ℕ → Found → Node → Node
+departs s (found.Member m) v = judged s m v
+departs s found.Nobody v = settle true s v
+departs s (found.Refused r) v = settle true s v
+
+abbrev pub departing : ℕ → Node → Node
+departing s v = departs s (decidedOf (v .n) (v .k) (v .set) s) v
+
+-- Steps 1, 3, 4 and 5; "leaving with cause 3, and nothing further happens".
+unfoldable pub insideSlot : ℕ → Reading → Node → Node
+insideSlot s heard v = cond (missedReturn heard v) (leave MissedReturn v) (departing s (marked s heard v))
+
+-- Steps 2 and 4.
+unfoldable pub outsideSlot : ℕ → Reading → Node → Node
+outsideSlot s heard v = settle false s (noted s heard v)
+
+unfoldable pub trackingSlot : ℕ → Reading → Node → Node
+trackingSlot s heard v = cond (has (v .set) s) (insideSlot s heard v) (outsideSlot s heard v)

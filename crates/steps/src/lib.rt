@@ -1,0 +1,265 @@
+// One slot for a member, following or knocking node: a small function by value for each step. An
+// inner layer: it takes every record as it is; the calls of `node` test records first.
+use message::Reading;
+use record::Cause;
+use record::Node;
+use record::State;
+use record::is_following;
+use record::is_knocking;
+use record::is_member;
+use ring::Found;
+ghost use mathlib.Core.Path.{_≡_};
+ghost use mathlib.Core.Bool.{cond};
+ghost use Rattle.nodeset.specs.Sets.{has, size};
+ghost use Rattle.ring.specs.Ring.{ks};
+ghost use Rattle.ring.specs.Answers.{sponsoredOf};
+ghost use Rattle.steps.specs.Steps.{isHeard, returnIn, withFound, confirmed, marksAfter, missedReturn, returnHeard, marked, noted, tooFew, nothingHeard, isFound, joins, stateOnList, joined, join, settle, judged, departs, insideSlot, outsideSlot, trackingSlot};
+
+fn return_in(heard: Reading) -> bool
+    ensures { λ r. ⌜ r ≡ returnIn heard ⌝ }
+{
+    match heard {
+        Reading::Heard {
+            acknowledgements: _,
+            return_bit,
+        } => return_bit,
+        Reading::Refused(_) => false,
+    }
+}
+
+fn is_heard(heard: Reading) -> bool
+    ensures { λ r. ⌜ r ≡ isHeard heard ⌝ }
+{
+    match heard {
+        Reading::Heard {
+            acknowledgements: _,
+            return_bit: _,
+        } => true,
+        Reading::Refused(_) => false,
+    }
+}
+
+fn with_found(set: u32, found: Found) -> u32
+    ensures { λ r. ⌜ r ≡ withFound set found ⌝ }
+{
+    match found {
+        Found::Member(m) => nodeset::with(set, m),
+        Found::Nobody => set,
+        Found::Refused(_) => set,
+    }
+}
+
+// The marks with that of the j-th member that s sponsors, if its bit is 1.
+fn confirm(j: u32, marks: u32, s: u32, bits: u32, v: Node) -> u32
+    ensures { λ r. ⌜ r ≡ cond (has bits j) (withFound marks (sponsoredOf (v .n) (v .k) (v .set) s j)) marks ⌝ }
+{
+    if nodeset::has(bits, j) {
+        return with_found(marks, ring::sponsored(v.n, v.k, v.set, s, j));
+    }
+    marks
+}
+
+// The marks after a heard message: its sender's, and those that it acknowledges.
+fn confirmed(s: u32, bits: u32, v: Node) -> u32
+    ensures { λ r. ⌜ r ≡ confirmed (ks (v .k) (size (v .n) (v .set))) s bits v ⌝ }
+{
+    let most = ring::ks(v.k, nodeset::size(v.n, v.set));
+    let mut marks = nodeset::with(v.present, s);
+    let mut j = 0;
+    while j < most {
+        j += 1;
+        marks = confirm(j, marks, s, bits, v);
+    }
+    marks
+}
+
+// The marks after the slot. An unreadable message counts as not heard: the sender's mark goes off.
+fn marks_after(s: u32, heard: Reading, v: Node) -> u32
+    ensures { λ r. ⌜ r ≡ marksAfter s heard v ⌝ }
+{
+    let Reading::Heard {
+        acknowledgements,
+        return_bit: _,
+    } = heard
+    else {
+        return nodeset::without(v.present, s);
+    };
+    confirmed(s, acknowledgements, v)
+}
+
+fn missed_return(heard: Reading, v: Node) -> bool
+    ensures { λ r. ⌜ r ≡ missedReturn heard v ⌝ }
+{
+    return_in(heard) & (v.returning == 0)
+}
+
+fn return_heard(heard: Reading, v: Node) -> bool
+    ensures { λ r. ⌜ r ≡ returnHeard heard v ⌝ }
+{
+    let state = v.state;
+    v.return_heard | (is_knocking(state) & return_in(heard))
+}
+
+fn marked(s: u32, heard: Reading, v: Node) -> Node
+    ensures { λ r. ⌜ r ≡ marked s heard v ⌝ }
+{
+    changes::with_marks(marks_after(s, heard, v), return_heard(heard, v), v)
+}
+
+fn noted(s: u32, heard: Reading, v: Node) -> Node
+    ensures { λ r. ⌜ r ≡ noted s heard v ⌝ }
+{
+    let state = v.state;
+    let free = v.returning == 0;
+    if s == v.own {
+        if is_following(state) & free {
+            return changes::with_returning(State::Knocking, v.own, v);
+        }
+        return v;
+    }
+    if is_heard(heard) & free {
+        return changes::with_returning(state, s, v);
+    }
+    v
+}
+
+fn too_few(v: Node) -> bool
+    ensures { λ r. ⌜ r ≡ tooFew v ⌝ }
+{
+    let state = v.state;
+    !is_member(state) & (nodeset::size(v.n, v.set) < 2)
+}
+
+fn nothing_heard(v: Node) -> bool
+    ensures { λ r. ⌜ r ≡ nothingHeard v ⌝ }
+{
+    nodeset::size(v.n, nodeset::without(v.present, v.own)) == 0
+}
+
+fn is_found(x: u32, found: Found) -> bool
+    ensures { λ r. ⌜ r ≡ isFound x found ⌝ }
+{
+    match found {
+        Found::Member(m) => m == x,
+        Found::Nobody => false,
+        Found::Refused(_) => false,
+    }
+}
+
+fn joins(s: u32, v: Node) -> bool
+    ensures { λ r. ⌜ r ≡ joins s v ⌝ }
+{
+    is_found(s, ring::before(v.n, v.set, v.returning, 1))
+}
+
+// The state of a node that is on the list.
+fn state_on_list(state: State) -> State
+    ensures { λ r. ⌜ r ≡ stateOnList state ⌝ }
+{
+    match state {
+        State::Knocking => State::Member,
+        State::Member => State::Member,
+        State::Listening => State::Listening,
+        State::Following => State::Following,
+        State::Out(cause) => State::Out(cause),
+    }
+}
+
+fn joined(v: Node) -> Node
+    ensures { λ r. ⌜ r ≡ joined v ⌝ }
+{
+    let state = v.state;
+    let next = state_on_list(state);
+    let set = nodeset::with(v.set, v.returning);
+    let present = nodeset::with(v.present, v.returning);
+    let window = v.listening;
+    Node {
+        n: v.n,
+        k: v.k,
+        own: v.own,
+        slots: v.slots,
+        state: next,
+        set,
+        present,
+        returning: 0,
+        return_heard: false,
+        listening: window,
+    }
+}
+
+fn join(v: Node) -> Node
+    ensures { λ r. ⌜ r ≡ join v ⌝ }
+{
+    let state = v.state;
+    if is_knocking(state) & !v.return_heard {
+        return changes::with_returning(State::Following, 0, v);
+    }
+    joined(v)
+}
+
+// Steps 4 and 5.
+fn settle(inside: bool, s: u32, v: Node) -> Node
+    ensures { λ r. ⌜ r ≡ settle inside s v ⌝ }
+{
+    if too_few(v) {
+        return changes::fresh(v);
+    }
+    if nothing_heard(v) {
+        return changes::leave(Cause::NothingHeard, v);
+    }
+    if inside & joins(s, v) {
+        return join(v);
+    }
+    v
+}
+
+// The decided member m leaves if its mark is off.
+fn judged(s: u32, m: u32, v: Node) -> Node
+    ensures { λ r. ⌜ r ≡ judged s m v ⌝ }
+{
+    if nodeset::has(v.present, m) {
+        return settle(true, s, v);
+    }
+    if m == v.own {
+        return changes::leave(Cause::Unconfirmed, v);
+    }
+    settle(true, s, changes::with_set(nodeset::without(v.set, m), v))
+}
+
+// Step 3, and those after it.
+fn departs(s: u32, found: Found, v: Node) -> Node
+    ensures { λ r. ⌜ r ≡ departs s found v ⌝ }
+{
+    match found {
+        Found::Member(m) => judged(s, m, v),
+        Found::Nobody => settle(true, s, v),
+        Found::Refused(_) => settle(true, s, v),
+    }
+}
+
+// The sender is in the set: steps 1, 3, 4 and 5.
+fn inside_slot(s: u32, heard: Reading, v: Node) -> Node
+    ensures { λ r. ⌜ r ≡ insideSlot s heard v ⌝ }
+{
+    if missed_return(heard, v) {
+        return changes::leave(Cause::MissedReturn, v);
+    }
+    let w = marked(s, heard, v);
+    departs(s, ring::decided(w.n, w.k, w.set, s), w)
+}
+
+// The sender is outside the set: steps 2 and 4.
+fn outside_slot(s: u32, heard: Reading, v: Node) -> Node
+    ensures { λ r. ⌜ r ≡ outsideSlot s heard v ⌝ }
+{
+    settle(false, s, noted(s, heard, v))
+}
+
+pub fn tracking_slot(s: u32, heard: Reading, v: Node) -> Node
+    ensures { λ r. ⌜ r ≡ trackingSlot s heard v ⌝ }
+{
+    if nodeset::has(v.set, s) {
+        return inside_slot(s, heard, v);
+    }
+    outside_slot(s, heard, v)
+}
