@@ -1,0 +1,39 @@
+-- `node_runs::output::bytes` is safe and ends. Each turn puts one byte more; the measure is the number of bytes that are left.
+-- Assumes nothing.
+use Prim.Native.Nat.{_-_}
+use borrow.Author.Needs.{needs}
+use lib.ListN.{length}
+use Rattle.node_runs.proofs.output.bytes.Statement.{statement}
+use Rattle.node_runs.proofs.output.bytes.Tie as tie
+
+abbrev Inv-loop : tie.InvT-loop
+Inv-loop buffer₀ held values held₀ i₀ buffer held' i = Unit {0}
+
+abbrev μ-loop : tie.MeasureT-loop
+μ-loop buffer₀ held values held₀ i₀ buffer held' i = length values - i
+
+loop-holds : tie.Need-loop-holds Inv-loop μ-loop
+loop-holds c = tt
+
+shared-slice-read-byte : tie.Need-shared-slice-read-byte Inv-loop μ-loop
+shared-slice-read-byte c = search needs
+
+byte-requires : tie.Need-byte-requires Inv-loop μ-loop
+byte-requires c κs = search needs
+
+add-i : tie.Need-add-i Inv-loop μ-loop
+add-i c = search needs
+
+loop-less : tie.Need-loop-less Inv-loop μ-loop
+loop-less c = search needs
+
+loop-again : tie.Need-loop-again Inv-loop μ-loop
+loop-again c = tt
+
+returns : tie.Need-returns Inv-loop μ-loop
+returns c = search needs
+
+pub bytes-spec : {M : Type 1} → statement M
+bytes-spec =
+    tie.close
+    (tie.spec Inv-loop μ-loop loop-holds shared-slice-read-byte byte-requires add-i loop-less loop-again returns)
