@@ -157,24 +157,39 @@ fn load(input: &mut [u8; 4096], run: Run) -> Run {
     }
 }
 
-// One command, by its letter.
-fn carried_out(input: &mut [u8; 4096], output: &mut [u8; 4096], run: Run, letter: u8) -> Run {
+fn off(output: &mut [u8; 4096], run: Run) -> Run {
     let node = run.node;
     let left = run.left;
-    let held = run.held;
+    stepped_to(output, left, run.held, node::off(node))
+}
+
+fn restart(output: &mut [u8; 4096], run: Run) -> Run {
+    let node = run.node;
+    let left = run.left;
+    stepped_to(output, left, run.held, node::restart(node))
+}
+
+fn ended(run: Run) -> Run {
+    let node = run.node;
+    let left = run.left;
+    Run {
+        goes_on: false,
+        node: node,
+        left: left,
+        held: run.held,
+    }
+}
+
+// One command, by its letter.
+fn carried_out(input: &mut [u8; 4096], output: &mut [u8; 4096], run: Run, letter: u8) -> Run {
     match letter {
         b'U' => set_up(input, output, run),
         b'S' => slot(input, output, run),
         b'T' => send(input, output, run),
-        b'F' => stepped_to(output, left, held, node::off(node)),
-        b'R' => stepped_to(output, left, held, node::restart(node)),
+        b'F' => off(output, run),
+        b'R' => restart(output, run),
         b'L' => load(input, run),
-        _ => Run {
-            goes_on: false,
-            node: node,
-            left: left,
-            held: held,
-        },
+        _ => ended(run),
     }
 }
 
