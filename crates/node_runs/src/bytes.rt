@@ -1,22 +1,10 @@
-// A record as bytes: its fields in order, numbers lowest byte first.
-use crate::input;
-use crate::input::Unread;
-use crate::output;
+// A record as the first 51 bytes of a block.
+use crate::block;
+use crate::block::Block;
 use record::Cause;
 use record::Node;
 use record::State;
 use record::Window;
-
-// What was read, and what is then unread.
-pub struct ReadNode {
-    pub node: Node,
-    pub left: Unread,
-}
-
-struct ReadWindow {
-    listening: Window,
-    left: Unread,
-}
 
 fn state_of(number: u8) -> State {
     match number {
@@ -47,108 +35,56 @@ fn number_of(state: State) -> u8 {
 }
 
 // The record before the first command: all bytes 0 but the state, 7.
-pub fn first() -> Node {
+pub fn first() -> Block {
+    let mut bytes = [0u8; 255];
+    bytes[20] = 7;
+    bytes
+}
+
+fn window_of(bytes: &Block) -> Window {
+    Window {
+        done: block::word(bytes, 34),
+        heard: block::word(bytes, 38),
+        shortest: block::word(bytes, 42),
+        return_seen: bytes[46] == 1,
+        last: block::word(bytes, 47),
+    }
+}
+
+pub fn node_of(bytes: &Block) -> Node {
     Node {
-        n: 0,
-        k: 0,
-        own: 0,
-        slots: 0,
-        state: State::Out(Cause::SwitchedOff),
-        set: 0,
-        present: 0,
-        returning: 0,
-        return_heard: false,
-        listening: Window {
-            done: 0,
-            heard: 0,
-            shortest: 0,
-            return_seen: false,
-            last: 0,
-        },
+        n: block::word(bytes, 0),
+        k: block::word(bytes, 4),
+        own: block::word(bytes, 8),
+        slots: block::long_word(bytes, 12),
+        state: state_of(bytes[20]),
+        set: block::word(bytes, 21),
+        present: block::word(bytes, 25),
+        returning: block::word(bytes, 29),
+        return_heard: bytes[33] == 1,
+        listening: window_of(bytes),
     }
 }
 
-fn read_window(buffer: &mut [u8; 4096], left: Unread) -> ReadWindow {
-    let done = input::read_word(buffer, left);
-    let left = done.left;
-    let heard = input::read_word(buffer, left);
-    let left = heard.left;
-    let shortest = input::read_word(buffer, left);
-    let left = shortest.left;
-    let return_seen = input::next(buffer, left);
-    let left = return_seen.left;
-    let last = input::read_word(buffer, left);
-    let left = last.left;
-    ReadWindow {
-        listening: Window {
-            done: done.value,
-            heard: heard.value,
-            shortest: shortest.value,
-            return_seen: return_seen.byte == 1,
-            last: last.value,
-        },
-        left: left,
-    }
+fn set_window(bytes: &mut Block, window: Window) {
+    block::set_word(bytes, 34, window.done);
+    block::set_word(bytes, 38, window.heard);
+    block::set_word(bytes, 42, window.shortest);
+    bytes[46] = if window.return_seen { 1 } else { 0 };
+    block::set_word(bytes, 47, window.last);
 }
 
-pub fn read(buffer: &mut [u8; 4096], left: Unread) -> ReadNode {
-    let n = input::read_word(buffer, left);
-    let left = n.left;
-    let k = input::read_word(buffer, left);
-    let left = k.left;
-    let own = input::read_word(buffer, left);
-    let left = own.left;
-    let slots = input::read_long_word(buffer, left);
-    let left = slots.left;
-    let state = input::next(buffer, left);
-    let left = state.left;
-    let set = input::read_word(buffer, left);
-    let left = set.left;
-    let present = input::read_word(buffer, left);
-    let left = present.left;
-    let returning = input::read_word(buffer, left);
-    let left = returning.left;
-    let return_heard = input::next(buffer, left);
-    let left = return_heard.left;
-    let window = read_window(buffer, left);
-    let listening = window.listening;
-    let left = window.left;
-    ReadNode {
-        node: Node {
-            n: n.value,
-            k: k.value,
-            own: own.value,
-            slots: slots.value,
-            state: state_of(state.byte),
-            set: set.value,
-            present: present.value,
-            returning: returning.value,
-            return_heard: return_heard.byte == 1,
-            listening: listening,
-        },
-        left: left,
-    }
-}
-
-fn write_window(buffer: &mut [u8; 4096], held: usize, window: Window) -> usize {
-    let held = output::word(buffer, held, window.done);
-    let held = output::word(buffer, held, window.heard);
-    let held = output::word(buffer, held, window.shortest);
-    let held = output::yes_or_no(buffer, held, window.return_seen);
-    output::word(buffer, held, window.last)
-}
-
-pub fn write(buffer: &mut [u8; 4096], held: usize, node: Node) -> usize {
+pub fn set_node(bytes: &mut Block, node: Node) {
     let state = node.state;
-    let listening = node.listening;
-    let held = output::word(buffer, held, node.n);
-    let held = output::word(buffer, held, node.k);
-    let held = output::word(buffer, held, node.own);
-    let held = output::long_word(buffer, held, node.slots);
-    let held = output::byte(buffer, held, number_of(state));
-    let held = output::word(buffer, held, node.set);
-    let held = output::word(buffer, held, node.present);
-    let held = output::word(buffer, held, node.returning);
-    let held = output::yes_or_no(buffer, held, node.return_heard);
-    write_window(buffer, held, listening)
+    let window = node.listening;
+    block::set_word(bytes, 0, node.n);
+    block::set_word(bytes, 4, node.k);
+    block::set_word(bytes, 8, node.own);
+    block::set_long_word(bytes, 12, node.slots);
+    bytes[20] = number_of(state);
+    block::set_word(bytes, 21, node.set);
+    block::set_word(bytes, 25, node.present);
+    block::set_word(bytes, 29, node.returning);
+    bytes[33] = if node.return_heard { 1 } else { 0 };
+    set_window(bytes, window);
 }

@@ -1,4 +1,5 @@
 // Standard output, byte by byte, through a buffer. `held` is the number of bytes that wait in it.
+use crate::block::Block;
 
 fn write_part(buffer: &[u8], length: usize) {
     if length <= buffer.len() {
@@ -12,39 +13,23 @@ pub fn flush(buffer: &[u8; 4096], held: usize) {
     write_part(buffer, held);
 }
 
-pub fn byte(buffer: &mut [u8; 4096], held: usize, value: u8) -> usize {
+pub fn put(buffer: &mut [u8; 4096], held: usize, byte: u8) -> usize {
     if held < 4096 {
-        buffer[held] = value;
+        buffer[held] = byte;
         held + 1
     } else {
         flush(buffer, held);
-        buffer[0] = value;
+        buffer[0] = byte;
         1
     }
 }
 
-// Lowest byte first.
-pub fn word(buffer: &mut [u8; 4096], held: usize, value: u32) -> usize {
-    let a = byte(buffer, held, (value % 256) as u8);
-    let b = byte(buffer, a, (value / 256 % 256) as u8);
-    let c = byte(buffer, b, (value / 65536 % 256) as u8);
-    byte(buffer, c, (value / 16777216) as u8)
-}
-
-pub fn long_word(buffer: &mut [u8; 4096], held: usize, value: u64) -> usize {
-    let low = word(buffer, held, (value % 4294967296) as u32);
-    word(buffer, low, (value / 4294967296) as u32)
-}
-
-pub fn yes_or_no(buffer: &mut [u8; 4096], held: usize, value: bool) -> usize {
-    byte(buffer, held, if value { 1 } else { 0 })
-}
-
-pub fn bytes(buffer: &mut [u8; 4096], held: usize, values: &[u8]) -> usize {
+// The first `length` bytes of `block`.
+pub fn put_block(buffer: &mut [u8; 4096], held: usize, block: &Block, length: u8) -> usize {
     let mut held = held;
-    let mut i = 0;
-    while i < values.len() {
-        held = byte(buffer, held, values[i]);
+    let mut i: u8 = 0;
+    while i < length {
+        held = put(buffer, held, block[i as usize]);
         i += 1;
     }
     held

@@ -6,22 +6,22 @@ use Rattle.node_runs.proofs.input.fill.Statement.{statement}
 use Rattle.node_runs.proofs.input.fill.Tie as tie
 
 abbrev Inv-loop : tie.InvT-loop
-Inv-loop buffer₀ bytes₀ length left₀ i₀ buffer bytes left i = Unit {0}
+Inv-loop buffer₀ block₀ length left₀ i₀ buffer block left i = Unit {0}
 
 abbrev μ-loop : tie.MeasureT-loop
-μ-loop buffer₀ bytes₀ length left₀ i₀ buffer bytes left i = length - i
+μ-loop buffer₀ block₀ length left₀ i₀ buffer block left i = length - i
 
 loop-holds : tie.Need-loop-holds Inv-loop μ-loop
 loop-holds c = tt
 
 next-requires : tie.Need-next-requires Inv-loop μ-loop
-next-requires c κs = search needs
+next-requires c κs = tt
 
-cast-bytes : tie.Need-cast-bytes Inv-loop μ-loop
-cast-bytes c = search needs
+cast-block : tie.Need-cast-block Inv-loop μ-loop
+cast-block c = search needs
 
-element-write-bytes : tie.Need-element-write-bytes Inv-loop μ-loop
-element-write-bytes c = search needs
+element-write-block : tie.Need-element-write-block Inv-loop μ-loop
+element-write-block c = search needs
 
 add-i : tie.Need-add-i Inv-loop μ-loop
 add-i c = search needs
@@ -33,7 +33,7 @@ loop-again : tie.Need-loop-again Inv-loop μ-loop
 loop-again c = tt
 
 returns : tie.Need-returns Inv-loop μ-loop
-returns c = search needs
+returns c = tt
 
 pub fill-spec : {M : Type 1} → statement M
 fill-spec =
@@ -43,8 +43,8 @@ fill-spec =
     μ-loop
     loop-holds
     next-requires
-    cast-bytes
-    element-write-bytes
+    cast-block
+    element-write-block
     add-i
     loop-less
     loop-again
