@@ -1,6 +1,7 @@
 //! The library beside a model written from document 01 alone.
 
 pub mod library;
+pub mod messages;
 pub mod model;
 pub mod random;
 pub mod report;

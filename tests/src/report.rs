@@ -1,5 +1,6 @@
 //! Named cases, the comparisons that each makes, and the closing line.
 
+use std::collections::BTreeMap;
 use std::process::ExitCode;
 
 /// The refusals' numbers reach to 12; 0 stands for an accepted call.
@@ -10,6 +11,7 @@ const ANSWERS: usize = 13;
 pub struct Count {
     comparisons: u64,
     answers: [u64; ANSWERS],
+    events: BTreeMap<&'static str, u64>,
 }
 
 impl Count {
@@ -28,6 +30,19 @@ impl Count {
         self.answers[number as usize] += 1;
     }
 
+    /// Notes that something happens in the inputs.
+    pub fn event(&mut self, name: &'static str) {
+        *self.events.entry(name).or_default() += 1;
+    }
+
+    /// Fails if one of these never happens: then the inputs would show nothing about it.
+    pub fn needs(&self, names: &[&str]) -> Result<(), String> {
+        match names.iter().find(|&name| !self.events.contains_key(name)) {
+            Some(name) => Err(format!("no input leads to: {name}")),
+            None => Ok(()),
+        }
+    }
+
     fn summary(&self) -> String {
         let mut text = format!("{} comparisons", self.comparisons);
         for (number, &times) in self.answers.iter().enumerate() {
@@ -36,6 +51,24 @@ impl Count {
             } else if times > 0 {
                 text += &format!("; refusal {number}: {times}");
             }
+        }
+        text += ")";
+        text + &self.events_summary()
+    }
+
+    /// A line for each kind of events, "kind: this = 12; that = 3"; an event is named "kind: this".
+    fn events_summary(&self) -> String {
+        let mut text = String::new();
+        let mut last = "";
+        for (name, times) in &self.events {
+            let (kind, what) = name.split_once(": ").unwrap_or(("", name));
+            if last == kind && !text.is_empty() {
+                text += &format!("; {what} = {times}");
+            } else {
+                text +=
+                    &format!("\n        {kind}{}{what} = {times}", if kind.is_empty() { "" } else { ": " });
+            }
+            last = kind;
         }
         text
     }
@@ -68,7 +101,7 @@ pub fn run(cases: &[Case]) -> ExitCode {
     let mut failed = 0;
     for case in cases {
         match case.passes() {
-            Ok(count) => println!("ok      {} ({})", case.name, count.summary()),
+            Ok(count) => println!("ok      {} ({}", case.name, count.summary()),
             Err(why) => {
                 failed += 1;
                 println!("FAILED  {}\n        {why}", case.name);

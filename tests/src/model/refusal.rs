@@ -1,7 +1,15 @@
 //! The numbers of document 01's table "Causes and their numbers".
 
+/// "n not 3 to 32"
+pub const N: u32 = 1;
 /// "k not 2 to n - 1 (reader and writer alone: 2 to 31)"
 pub const K: u32 = 2;
+/// "node number not 1 to n"
+pub const NODE: u32 = 3;
+/// "record not sound, table not as above"
+pub const UNSOUND: u32 = 4;
+/// "slot count at the limit"
+pub const LIMIT: u32 = 5;
 /// "message length wrong for k"
 pub const LENGTH: u32 = 6;
 /// "a section's count wrong"
@@ -10,3 +18,7 @@ pub const COUNT: u32 = 7;
 pub const SPARE: u32 = 8;
 /// "lent output too short"
 pub const OUTPUT: u32 = 9;
+/// "the next slot is not this node's, or it neither is a member nor follows with returning 0"
+pub const TURN: u32 = 10;
+/// "restart of a node that is not out"
+pub const NOT_OUT: u32 = 11;

@@ -1,6 +1,7 @@
 //! One comparison of the reader, one of the writer.
 
 use comparison::library;
+use comparison::messages::hex;
 use comparison::model::message;
 use comparison::report::Count;
 
@@ -11,16 +12,6 @@ pub const LARGE_K: [u32; 14] =
 /// The k from 0 to 40, then the large ones.
 pub fn all_k() -> impl Iterator<Item = u32> {
     (0..=40).chain(LARGE_K)
-}
-
-/// The bytes in hexadecimal; of a long string its start and its length.
-pub fn hex(bytes: &[u8]) -> String {
-    let shown = bytes.len().min(32);
-    let mut text: Vec<String> = bytes[..shown].iter().map(|byte| format!("{byte:02X}")).collect();
-    if shown < bytes.len() {
-        text.push(format!(".. {} bytes", bytes.len()));
-    }
-    text.join(" ")
 }
 
 /// Reads by both and compares the answers.

@@ -1,21 +1,10 @@
 //! Byte strings for the reader.
 
 use super::compare::{all_k, read};
+use comparison::messages::{all_yes, damage, message_of};
 use comparison::model::message;
 use comparison::random::Random;
 use comparison::report::Count;
-
-/// A message of k, by the model. It only makes inputs: the vectors test the model itself.
-pub fn message_of(k: u32, acks: u32, ret: bool) -> Vec<u8> {
-    let mut bytes = vec![0; message::length(k)];
-    message::write(k, acks, ret, &mut bytes).expect("k and acknowledgements are in range");
-    bytes
-}
-
-/// All k acknowledgements yes, for k from 2 to 31.
-fn all_yes(k: u32) -> u32 {
-    (1 << k) - 1
-}
 
 /// Cuts `bytes` to `length`, or extends them by `filler`.
 fn resized(bytes: &[u8], length: usize, filler: u8) -> Vec<u8> {
@@ -122,31 +111,6 @@ pub fn several_faults(count: &mut Count) -> Result<(), String> {
         }
     }
     Ok(())
-}
-
-/// Damages `bytes` in one of the ways that a cable or a careless sender might.
-fn damage(random: &mut Random, bytes: &mut Vec<u8>) {
-    let kind = random.below(6);
-    let length = bytes.len() as u64;
-    if kind == 1 {
-        for _ in 0..random.within(1, 6) {
-            bytes.push(random.byte());
-        }
-    }
-    if length < 3 {
-        return;
-    }
-    match kind {
-        0 => bytes.truncate(random.below(length) as usize),
-        2 => bytes[0] = random.within(0, 33) as u8,
-        3 => bytes[length as usize - 2] = random.byte(),
-        4 => bytes[length as usize - random.within(1, 3) as usize] |= 1 << random.below(8),
-        _ => {
-            for _ in 0..random.within(1, 3) {
-                bytes[random.below(length) as usize] ^= 1 << random.below(8);
-            }
-        }
-    }
 }
 
 pub fn random(count: &mut Count) -> Result<(), String> {

@@ -1,8 +1,7 @@
 //! Both functions together. The expected answer is what went in.
 
-use super::compare::hex;
-use super::reader::message_of;
 use comparison::library;
+use comparison::messages::{hex, message_of};
 use comparison::model::message;
 use comparison::random::Random;
 use comparison::report::Count;

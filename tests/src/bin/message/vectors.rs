@@ -1,7 +1,7 @@
 //! Literal inputs and answers, typed from document 01; neither side makes an expected answer.
 
-use super::compare::hex;
 use comparison::library;
+use comparison::messages::hex;
 use comparison::model::message;
 use comparison::report::Count;
 

@@ -1,0 +1,127 @@
+//! A whole cable by the model: it makes what each node of a run hears. Each node has a script of its
+//! own, so that the program carries its record through the run by itself.
+
+use super::protocol::{Command, Script};
+use super::{events, heard};
+use comparison::model::message;
+use comparison::model::node::{Node, State};
+use comparison::model::ring::{self, Set};
+use comparison::random::Random;
+use comparison::report::Count;
+
+/// What happens to the message of a slot.
+#[derive(Clone, Copy, Default)]
+pub struct Fate {
+    pub lost: bool,
+    pub missed_by: Set,
+    /// One receiver in four gets other bytes, and the sender is handed some too.
+    pub tampered: bool,
+}
+
+pub struct Cable {
+    pub n: u32,
+    pub k: u32,
+    pub nodes: Vec<Node>,
+    scripts: Vec<Script>,
+}
+
+impl Cable {
+    pub fn new(n: u32, k: u32) -> Cable {
+        let scripts = (0..n).map(|_| Script::default()).collect();
+        let mut cable = Cable { n, k, nodes: Vec::new(), scripts };
+        cable.set_up();
+        cable
+    }
+
+    /// All nodes start anew.
+    pub fn set_up(&mut self) {
+        let (n, k) = (self.n, self.k);
+        self.nodes = (1..=n).map(|own| Node::set_up(n, k, own).expect("n and k are in range")).collect();
+        for own in 1..=n {
+            self.tell(own, &Command::SetUp { n, k, own });
+        }
+    }
+
+    fn tell(&mut self, x: u32, command: &Command) {
+        self.scripts[x as usize - 1].push(command);
+    }
+
+    pub fn node(&self, x: u32) -> &Node {
+        &self.nodes[x as usize - 1]
+    }
+
+    /// The sender of the next slot.
+    pub fn sender(&self) -> u32 {
+        ring::sender(self.n, self.nodes[0].slots + 1)
+    }
+
+    /// The nodes in a state.
+    pub fn those(&self, wanted: impl Fn(&Node) -> bool) -> Set {
+        self.nodes.iter().filter(|node| wanted(node)).fold(Set::EMPTY, |set, node| set.with(node.own))
+    }
+
+    pub fn members(&self) -> Set {
+        self.those(|node| node.state == State::Member)
+    }
+
+    pub fn off(&mut self, count: &mut Count, x: u32) {
+        events::off(count, self.node(x));
+        self.tell(x, &Command::Off);
+        self.nodes[x as usize - 1] = self.node(x).off().expect("the record is sound");
+    }
+
+    /// Restarts a node; one that is not out is asked too, and refuses.
+    pub fn on(&mut self, count: &mut Count, x: u32) {
+        events::restart(count, self.node(x));
+        self.tell(x, &Command::Restart);
+        if let Ok(next) = self.node(x).restart() {
+            self.nodes[x as usize - 1] = next;
+        }
+    }
+
+    /// What is sent in the next slot, nothing if the sender is silent. Sometimes the buffer is too short
+    /// first, and sometimes another node is asked.
+    fn sent(&mut self, random: &mut Random) -> Vec<u8> {
+        let sender = self.sender();
+        let length = message::length(self.k);
+        if random.below(8) == 0 {
+            let room = random.below(length as u64) as u8;
+            self.tell(sender, &Command::Send { room });
+        }
+        if random.below(4) == 0 {
+            let other = random.within(1, u64::from(self.n)) as u32;
+            let room = random.below(12) as u8;
+            self.tell(other, &Command::Send { room });
+        }
+        let room = length + random.below(4) as usize;
+        self.tell(sender, &Command::Send { room: room as u8 });
+        let mut out = vec![0; length];
+        match self.node(sender).send(&mut out) {
+            Ok(_) => out,
+            Err(_) => Vec::new(),
+        }
+    }
+
+    pub fn slot(&mut self, count: &mut Count, random: &mut Random, fate: Fate) {
+        let sender = self.sender();
+        let sent = self.sent(random);
+        for x in 1..=self.n {
+            let silent = fate.lost || fate.missed_by.has(x) || x == sender;
+            let mut bytes = if silent { Vec::new() } else { sent.clone() };
+            if fate.tampered && random.below(4) == 0 {
+                bytes = heard::changed(random, self.node(x), &bytes);
+            }
+            self.tell(x, &Command::Slot(&bytes));
+            let next = self.node(x).slot(&bytes).expect("a sound record below the limit");
+            events::slot(count, self.node(x), &next, &bytes);
+            self.nodes[x as usize - 1] = next;
+        }
+    }
+
+    /// The scripts of all nodes, one after the other.
+    pub fn into_script(self, whole: &mut Script) {
+        for script in &self.scripts {
+            whole.append(script);
+        }
+    }
+}

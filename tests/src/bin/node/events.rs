@@ -1,0 +1,207 @@
+//! What happens to a node in a call, told from the records before and after it and from the bytes
+//! heard. It only counts, so that no case passes without meeting what it is for.
+
+use comparison::model::message;
+use comparison::model::node::{Cause, Node, State};
+use comparison::model::ring;
+use comparison::report::Count;
+
+/// What whole cables must meet.
+pub const OF_CABLES: &[&str] = &[
+    "member: out, cause 1",
+    "member: out, cause 2",
+    "member: out, cause 3",
+    "member: sees a node join",
+    "member: hears a knock",
+    "member: hears a later knock",
+    "member: drops another",
+    "member: drops another, sender not heard",
+    "member: drops one and sees one join in one slot",
+    "listening: first clean window",
+    "listening: clean window with other nodes",
+    "listening: unclean window",
+    "listening: unclean window wipes a clean one",
+    "listening: to following",
+    "following: knocks",
+    "following: silent in the own slot",
+    "following: sees a node join",
+    "following: drops a member",
+    "following: to listening, return bit",
+    "following: to listening, too few members",
+    "following: to listening, no mark",
+    "knocking: joins",
+    "knocking: joins by the joining slot's return bit alone",
+    "knocking: hears another knock",
+    "knocking: to following",
+    "knocking: to listening, too few members",
+    "knocking: to listening, no mark",
+    "off: of a member",
+    "off: of a listening node",
+    "off: of a following node",
+    "off: of a knocking node",
+    "off: of an out node",
+    "restart: after cause 1",
+    "restart: after cause 2",
+    "restart: after cause 3",
+    "restart: after cause 4",
+];
+
+pub fn off(count: &mut Count, before: &Node) {
+    count.event(match before.state {
+        State::Member => "off: of a member",
+        State::Listening => "off: of a listening node",
+        State::Following => "off: of a following node",
+        State::Knocking => "off: of a knocking node",
+        State::Out(_) => "off: of an out node",
+    });
+}
+
+pub fn restart(count: &mut Count, before: &Node) {
+    match before.state {
+        State::Out(Cause::Unconfirmed) => count.event("restart: after cause 1"),
+        State::Out(Cause::NothingHeard) => count.event("restart: after cause 2"),
+        State::Out(Cause::MissedReturn) => count.event("restart: after cause 3"),
+        State::Out(Cause::SwitchedOff) => count.event("restart: after cause 4"),
+        _ => {}
+    }
+}
+
+/// A slot that was not refused.
+struct Slot<'a> {
+    before: &'a Node,
+    after: &'a Node,
+    sender: u32,
+    heard: Option<(u32, bool)>,
+}
+
+pub fn slot(count: &mut Count, before: &Node, after: &Node, bytes: &[u8]) {
+    let sender = ring::sender(before.n, after.slots);
+    let heard = if sender == before.own { None } else { message::read(before.k, bytes).ok() };
+    let slot = Slot { before, after, sender, heard };
+    match before.state {
+        State::Member => slot.of_member(count),
+        State::Listening => slot.of_listening(count),
+        State::Following => slot.of_following(count),
+        State::Knocking => slot.of_knocking(count),
+        State::Out(_) => count.event("out: counts a slot"),
+    }
+}
+
+impl Slot<'_> {
+    fn of_member(&self, count: &mut Count) {
+        match self.after.state {
+            State::Out(Cause::Unconfirmed) => count.event("member: out, cause 1"),
+            State::Out(Cause::NothingHeard) => count.event("member: out, cause 2"),
+            State::Out(Cause::MissedReturn) => count.event("member: out, cause 3"),
+            _ => {
+                let (drops, joins) = (self.drops(), self.joins());
+                if joins {
+                    count.event("member: sees a node join");
+                }
+                if drops {
+                    count.event("member: drops another");
+                }
+                if drops && self.heard.is_none() && self.sender != self.before.own {
+                    count.event("member: drops another, sender not heard");
+                }
+                if drops && joins {
+                    count.event("member: drops one and sees one join in one slot");
+                }
+                if self.hears_knock() && self.before.returning == 0 {
+                    count.event("member: hears a knock");
+                }
+                if self.hears_knock() && self.before.returning != 0 {
+                    count.event("member: hears a later knock");
+                }
+            }
+        }
+    }
+
+    fn of_listening(&self, count: &mut Count) {
+        let (before, after) = (&self.before.listening, &self.after.listening);
+        if self.after.state == State::Following {
+            count.event("listening: to following");
+        } else if after.done != 0 {
+            count.event("listening: goes on");
+        } else if after.last.count() == 0 {
+            count.event("listening: unclean window");
+            if before.last.count() != 0 {
+                count.event("listening: unclean window wipes a clean one");
+            }
+        } else if before.last.count() == 0 {
+            count.event("listening: first clean window");
+        } else {
+            count.event("listening: clean window with other nodes");
+        }
+    }
+
+    fn of_following(&self, count: &mut Count) {
+        match self.after.state {
+            State::Knocking => count.event("following: knocks"),
+            State::Listening if self.returns_unawaited() => {
+                count.event("following: to listening, return bit")
+            }
+            State::Listening if self.leaves_too_few() => {
+                count.event("following: to listening, too few members")
+            }
+            State::Listening => count.event("following: to listening, no mark"),
+            _ => {
+                if self.sender == self.before.own {
+                    count.event("following: silent in the own slot");
+                }
+                if self.drops() {
+                    count.event("following: drops a member");
+                }
+                if self.joins() {
+                    count.event("following: sees a node join");
+                }
+            }
+        }
+    }
+
+    fn of_knocking(&self, count: &mut Count) {
+        match self.after.state {
+            State::Member if self.before.return_heard => count.event("knocking: joins"),
+            State::Member => count.event("knocking: joins by the joining slot's return bit alone"),
+            State::Following => count.event("knocking: to following"),
+            State::Listening if self.leaves_too_few() => {
+                count.event("knocking: to listening, too few members")
+            }
+            State::Listening => count.event("knocking: to listening, no mark"),
+            _ => {
+                if self.hears_knock() {
+                    count.event("knocking: hears another knock");
+                }
+                if self.sender == self.before.own {
+                    count.event("knocking: silent in the own slot");
+                }
+            }
+        }
+    }
+
+    /// A member was dropped, and the node stayed.
+    fn drops(&self) -> bool {
+        !self.before.set.within(self.after.set)
+    }
+
+    fn joins(&self) -> bool {
+        !self.after.set.within(self.before.set)
+    }
+
+    fn hears_knock(&self) -> bool {
+        self.heard.is_some() && !self.before.set.has(self.sender)
+    }
+
+    fn returns_unawaited(&self) -> bool {
+        let listed = self.before.set.has(self.sender);
+        listed && self.before.returning == 0 && self.heard.is_some_and(|(_, return_bit)| return_bit)
+    }
+
+    /// Two members, and the decided one goes because neither its mark nor the sender's bit says yes.
+    fn leaves_too_few(&self) -> bool {
+        let Node { n, k, set, marks, .. } = *self.before;
+        let yes = self.heard.is_some_and(|(acks, _)| acks & 1 == 1);
+        let decided = ring::decided(n, k, set, self.sender);
+        set.has(self.sender) && set.count() == 2 && decided.is_some_and(|x| !marks.has(x) && !yes)
+    }
+}

@@ -1,0 +1,133 @@
+//! Whole cables with literal tables after them: the examples of document 01 that concern a cable, and
+//! runs that break a premise of the agreement each.
+
+use super::cable::{Cable, Fate};
+use super::compare::compare;
+use super::protocol::Script;
+use comparison::model::node::{Cause, State};
+use comparison::model::ring::Set;
+use comparison::random::Random;
+use comparison::report::Count;
+
+enum Line {
+    Ok,
+    Lost,
+    Miss(&'static [u32]),
+    Off(u32),
+    On(u32),
+}
+use Line::*;
+
+/// A node's state and its set after a plan.
+type After = (u32, State, &'static [u32]);
+
+/// n and k, the lines with the times that each is run, and what is then known of some nodes.
+struct Plan {
+    what: &'static str,
+    ring: (u32, u32),
+    lines: &'static [(u32, Line)],
+    after: &'static [After],
+}
+
+const MEMBER: State = State::Member;
+const UNCONFIRMED: State = State::Out(Cause::Unconfirmed);
+const OFF: State = State::Out(Cause::SwitchedOff);
+
+#[rustfmt::skip]
+const PLANS: &[Plan] = &[
+    Plan { what: "the listing", ring: (4, 2), lines: &[(1, Ok), (1, Lost), (2, Ok)], after: &[
+        (1, MEMBER, &[1, 3, 4]), (2, UNCONFIRMED, &[]), (3, MEMBER, &[1, 3, 4]), (4, MEMBER, &[1, 3, 4]),
+    ] },
+    Plan { what: "node 3 alone misses slot 2", ring: (4, 2), lines: &[(1, Ok), (1, Miss(&[3])), (2, Ok)], after: &[
+        (1, MEMBER, &[1, 2, 3, 4]), (2, MEMBER, &[1, 2, 3, 4]), (3, MEMBER, &[1, 2, 3, 4]), (4, MEMBER, &[1, 2, 3, 4]),
+    ] },
+    Plan { what: "the same with slot 4 lost", ring: (4, 2), lines: &[(1, Ok), (1, Miss(&[3])), (1, Ok), (1, Lost)], after: &[
+        (1, MEMBER, &[1, 2, 3, 4]), (2, UNCONFIRMED, &[]), (3, MEMBER, &[1, 3, 4]),
+    ] },
+    Plan { what: "two off, slot 3", ring: (4, 3), lines: &[(1, Off(1)), (1, Off(2)), (3, Ok)], after: &[
+        (1, OFF, &[]), (2, OFF, &[]), (3, MEMBER, &[1, 2, 3, 4]), (4, MEMBER, &[1, 2, 3, 4]),
+    ] },
+    Plan { what: "two off, slot 4", ring: (4, 3), lines: &[(1, Off(1)), (1, Off(2)), (4, Ok)], after: &[
+        (3, MEMBER, &[2, 3, 4]), (4, MEMBER, &[2, 3, 4]),
+    ] },
+    Plan { what: "two off, slot 7", ring: (4, 3), lines: &[(1, Off(1)), (1, Off(2)), (7, Ok)], after: &[
+        (3, MEMBER, &[2, 3, 4]), (4, MEMBER, &[2, 3, 4]),
+    ] },
+    Plan { what: "two off, slot 8", ring: (4, 3), lines: &[(1, Off(1)), (1, Off(2)), (8, Ok)], after: &[
+        (1, OFF, &[]), (2, OFF, &[]), (3, MEMBER, &[3, 4]), (4, MEMBER, &[3, 4]),
+    ] },
+    // Both sponsors of node 1 miss it.
+    Plan { what: "k failures", ring: (4, 2), lines: &[(1, Miss(&[2, 3])), (2, Ok)], after: &[
+        (1, UNCONFIRMED, &[]), (2, MEMBER, &[2, 3, 4]), (3, MEMBER, &[2, 3, 4]), (4, MEMBER, &[1, 2, 3, 4]),
+    ] },
+    // The knock of node 1 in slot 21 is lost, and node 2 knocks in slot 22.
+    Plan { what: "two transmissions from outside", ring: (5, 2),
+           lines: &[(1, Lost), (3, Ok), (1, On(1)), (2, Ok), (1, Lost), (2, Ok), (1, On(2)), (11, Ok), (1, Lost), (4, Ok)], after: &[
+        (1, MEMBER, &[1, 3, 4, 5]), (3, MEMBER, &[2, 3, 4, 5]), (4, MEMBER, &[2, 3, 4, 5]), (5, MEMBER, &[2, 3, 4, 5]),
+    ] },
+    // Node 4 decides node 2 with ks = 2, and node 1, which heard it, joins with all four.
+    Plan { what: "fewer than k + 1 members", ring: (4, 3),
+           lines: &[(1, Lost), (3, Ok), (1, On(1)), (9, Ok), (1, Miss(&[3, 4])), (2, Ok)], after: &[
+        (1, MEMBER, &[1, 2, 3, 4]), (3, MEMBER, &[1, 3, 4]), (4, MEMBER, &[1, 3, 4]),
+    ] },
+    // The third member after node 2 is node 2 itself.
+    Plan { what: "no deciding slot", ring: (4, 3), lines: &[(2, Lost), (2, Ok)], after: &[
+        (1, UNCONFIRMED, &[]), (3, MEMBER, &[2, 3, 4]), (4, MEMBER, &[2, 3, 4]),
+    ] },
+    // Node 1 misses node 2 in both windows, follows the other two and joins.
+    Plan { what: "a returning node that misses", ring: (4, 2),
+           lines: &[(1, Off(1)), (1, On(1)), (1, Ok), (1, Miss(&[1])), (3, Ok), (1, Miss(&[1])), (2, Ok)], after: &[
+        (1, State::Following, &[3, 4]),
+    ] },
+    Plan { what: "a returning node that misses, later", ring: (4, 2),
+           lines: &[(1, Off(1)), (1, On(1)), (1, Ok), (1, Miss(&[1])), (3, Ok), (1, Miss(&[1])), (6, Ok)], after: &[
+        (1, MEMBER, &[1, 3, 4]),
+    ] },
+];
+
+fn follow(count: &mut Count, random: &mut Random, plan: &Plan) -> Result<Cable, String> {
+    let (n, k) = plan.ring;
+    let mut cable = Cable::new(n, k);
+    for &(times, ref line) in plan.lines {
+        for _ in 0..times {
+            let fate = match *line {
+                Off(x) => {
+                    cable.off(count, x);
+                    continue;
+                }
+                On(x) => {
+                    cable.on(count, x);
+                    continue;
+                }
+                Ok => Fate::default(),
+                Lost => Fate { lost: true, ..Fate::default() },
+                Miss(nodes) => Fate {
+                    missed_by: nodes.iter().fold(Set::EMPTY, |set, &x| set.with(x)),
+                    ..Fate::default()
+                },
+            };
+            cable.slot(count, random, fate);
+        }
+    }
+    Result::Ok(cable)
+}
+
+pub fn whole_cables(count: &mut Count) -> Result<(), String> {
+    let mut random = Random::new(1);
+    let mut script = Script::default();
+    for plan in PLANS {
+        let cable = follow(count, &mut random, plan)?;
+        for &(x, state, set) in plan.after {
+            let node = cable.node(x);
+            let got = node.set.nodes().collect::<Vec<u32>>();
+            count.check(node.state == state && got == set, || {
+                format!(
+                    "{}: model: node {x} is {:?} with {got:?}, by the plan {state:?} with {set:?}",
+                    plan.what, node.state
+                )
+            })?;
+        }
+        cable.into_script(&mut script);
+    }
+    compare(count, &script)
+}

@@ -1,0 +1,202 @@
+//! Long random runs of whole cables. Most break a premise of the agreement sooner or later: the rules
+//! say what a node does then too.
+
+use super::cable::{Cable, Fate};
+use super::compare::compare;
+use super::events;
+use super::protocol::Script;
+use comparison::model::node::State;
+use comparison::model::ring::{members_before, Set};
+use comparison::random::Random;
+use comparison::report::Count;
+
+/// What goes wrong for some slots.
+#[derive(Clone, Copy)]
+enum Trouble {
+    Nothing,
+    /// One message in eight is lost.
+    Losses,
+    /// Three messages in four are lost.
+    Storm,
+    /// Members that sponsor the sender miss its message, often all of them.
+    Sponsors,
+    /// A knock is lost, or missed by some nodes; knocking nodes miss three messages in four.
+    Knocks,
+    /// Nodes that are not members miss every other message.
+    Returning,
+    /// Following and knocking nodes hear nothing.
+    Cut,
+    /// These nodes hear nothing.
+    Deaf(Set),
+    /// Members are switched off until this many remain.
+    FewMembers(u32),
+}
+
+fn some_of(random: &mut Random, set: Set) -> Set {
+    Set(set.0 & random.number() as u32)
+}
+
+fn one_of(random: &mut Random, set: Set) -> Option<u32> {
+    match u64::from(set.count()) {
+        0 => None,
+        c => set.nodes().nth(random.below(c) as usize),
+    }
+}
+
+impl Trouble {
+    fn draw(random: &mut Random, n: u32) -> Trouble {
+        match random.below(13) {
+            0..=2 => Trouble::Nothing,
+            3 => Trouble::Losses,
+            4 => Trouble::Storm,
+            5 | 6 => Trouble::Sponsors,
+            7 | 8 => Trouble::Knocks,
+            9 => Trouble::Returning,
+            10 => Trouble::Cut,
+            11 => {
+                let nodes = some_of(random, Set::full(n));
+                Trouble::Deaf(some_of(random, nodes))
+            }
+            _ => Trouble::FewMembers(random.within(1, 3) as u32),
+        }
+    }
+
+    fn fate(self, random: &mut Random, cable: &Cable) -> Fate {
+        let all = Set::full(cable.n);
+        let sender = cable.sender();
+        let lost = |lost| Fate { lost, ..Fate::default() };
+        let missed_by = |missed_by| Fate { missed_by, ..Fate::default() };
+        match self {
+            Trouble::Nothing | Trouble::FewMembers(_) => Fate::default(),
+            Trouble::Losses => lost(random.below(8) == 0),
+            Trouble::Storm => lost(random.below(4) != 0),
+            Trouble::Sponsors if random.bit() => {
+                let sponsors = sponsors(cable, sender);
+                missed_by(if random.bit() { sponsors } else { some_of(random, sponsors) })
+            }
+            Trouble::Sponsors => Fate::default(),
+            Trouble::Knocks if cable.node(sender).state != State::Member => match random.below(3) {
+                0 => lost(true),
+                1 => missed_by(some_of(random, all)),
+                _ => missed_by(some_of(random, cable.those(|node| node.state == State::Following))),
+            },
+            Trouble::Knocks if random.below(4) != 0 => {
+                missed_by(cable.those(|node| node.state == State::Knocking))
+            }
+            Trouble::Knocks => Fate::default(),
+            Trouble::Returning => {
+                let returning = cable.those(|node| node.state != State::Member);
+                missed_by(some_of(random, returning))
+            }
+            Trouble::Cut => {
+                missed_by(cable.those(|node| matches!(node.state, State::Following | State::Knocking)))
+            }
+            Trouble::Deaf(nodes) => missed_by(nodes),
+        }
+    }
+
+    /// Nodes are switched off and on. Where a node follows two members, one of them is a good choice.
+    fn switches(self, count: &mut Count, random: &mut Random, cable: &mut Cable) {
+        if let Trouble::FewMembers(least) = self {
+            let members = cable.members();
+            if members.count() > least && random.bit() {
+                one_of(random, members).into_iter().for_each(|x| cable.off(count, x));
+            }
+        }
+        if random.below(8) == 0 {
+            let pairs =
+                cable.nodes.iter().filter(|node| node.state != State::Member && node.set.count() == 2);
+            let pair = pairs.last().map_or(Set::EMPTY, |node| node.set);
+            one_of(random, pair).into_iter().for_each(|x| cable.off(count, x));
+        }
+        if random.below(48) == 0 {
+            one_of(random, Set::full(cable.n)).into_iter().for_each(|x| cable.off(count, x));
+        }
+        let out = cable.those(|node| matches!(node.state, State::Out(_)));
+        if random.below(12) == 0 {
+            one_of(random, out).into_iter().for_each(|x| cable.on(count, x));
+        }
+        if random.below(48) == 0 {
+            one_of(random, Set::full(cable.n)).into_iter().for_each(|x| cable.on(count, x));
+        }
+    }
+}
+
+/// The members that sponsor the sender, on the list of the lowest-numbered member.
+fn sponsors(cable: &Cable, sender: u32) -> Set {
+    let list =
+        cable.nodes.iter().find(|node| node.state == State::Member).map_or(Set::EMPTY, |node| node.set);
+    let sponsor = |&x: &u32| members_before(cable.n, list, x).take(cable.k as usize).any(|y| y == sender);
+    list.nodes().filter(sponsor).fold(Set::EMPTY, Set::with)
+}
+
+/// How a run goes: troubles come after about `calm` slots and last for about n / 2; in `tampered` of
+/// 100 slots some receivers get other bytes.
+struct Kind {
+    slots: u32,
+    calm: u32,
+    tampered: u64,
+}
+
+/// Runs a cable; it starts anew some time after its last member has left.
+fn run(count: &mut Count, random: &mut Random, n: u32, k: u32, kind: &Kind) -> Cable {
+    let mut cable = Cable::new(n, k);
+    let mut trouble = Trouble::Nothing;
+    let mut without_member = 0;
+    for _ in 0..kind.slots {
+        let lasts = if let Trouble::Nothing = trouble { kind.calm } else { n / 2 + 1 };
+        if random.below(u64::from(lasts)) == 0 {
+            trouble = Trouble::draw(random, n);
+        }
+        trouble.switches(count, random, &mut cable);
+        let tampered = random.below(100) < kind.tampered;
+        let fate = Fate { tampered, ..trouble.fate(random, &cable) };
+        cable.slot(count, random, fate);
+        without_member = if cable.members() == Set::EMPTY { without_member + 1 } else { 0 };
+        if without_member > n + n / 2 {
+            cable.set_up();
+            without_member = 0;
+        }
+    }
+    cable
+}
+
+pub fn every_n_and_k(count: &mut Count) -> Result<(), String> {
+    let mut random = Random::new(11);
+    let mut script = Script::default();
+    for n in 3..=32 {
+        for k in 2..n {
+            let kind = Kind { slots: 10 * n, calm: 4 * n, tampered: 0 };
+            run(count, &mut random, n, k, &kind).into_script(&mut script);
+        }
+    }
+    compare(count, &script)
+}
+
+/// Long runs over the sizes given, with any k. All that can happen must happen.
+fn long_runs(count: &mut Count, seed: u64, sizes: &[u32], kind: impl Fn(u32) -> Kind) -> Result<(), String> {
+    let mut random = Random::new(seed);
+    let mut script = Script::default();
+    for &n in sizes {
+        for _ in 0..6 {
+            let k = random.within(2, u64::from(n) - 1) as u32;
+            run(count, &mut random, n, k, &kind(n)).into_script(&mut script);
+        }
+    }
+    count.needs(events::OF_CABLES)?;
+    compare(count, &script)
+}
+
+const SIZES: &[u32] = &[3, 4, 5, 6, 7, 8, 9, 10, 13, 17, 24, 25, 32];
+
+pub fn calm(count: &mut Count) -> Result<(), String> {
+    long_runs(count, 12, SIZES, |n| Kind { slots: 12_000 / n, calm: 4 * n, tampered: 0 })
+}
+
+pub fn rough(count: &mut Count) -> Result<(), String> {
+    long_runs(count, 13, SIZES, |n| Kind { slots: 12_000 / n, calm: n / 2 + 1, tampered: 0 })
+}
+
+pub fn tampered(count: &mut Count) -> Result<(), String> {
+    long_runs(count, 14, SIZES, |n| Kind { slots: 12_000 / n, calm: 4 * n, tampered: 8 })
+}

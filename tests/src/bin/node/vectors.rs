@@ -1,0 +1,459 @@
+//! Runs of single nodes with literal answers, typed from document 01; neither side makes an expected
+//! answer. The examples of whole cables are followed on each of their nodes.
+
+use super::compare::{compare, shown_record};
+use super::protocol::{Command, Script};
+use comparison::messages::hex;
+use comparison::model::node::{Cause, ListeningData, Node, State};
+use comparison::model::ring::Set;
+use comparison::report::Count;
+
+type Nodes = &'static [u32];
+type Bytes = &'static [u8];
+
+/// A record but for n, k, own number and slot count, which are told by the run.
+#[derive(Clone, Copy)]
+enum Is {
+    /// Set, marks, returning.
+    Member(Nodes, Nodes, u32),
+    Following(Nodes, Nodes, u32),
+    /// Set, marks, return heard.
+    Knocking(Nodes, Nodes, bool),
+    /// Slots done, nodes heard, shortest run, return bit seen, nodes of the last clean window.
+    Listening(u32, Nodes, u32, bool, Nodes),
+    Out(Cause),
+}
+
+enum Step {
+    /// One slot with these bytes heard, none for nothing.
+    Slot(Bytes, Is),
+    /// The node sends these bytes; the slot is the next step.
+    Sends(Bytes),
+    SendRefused(u32),
+    Off,
+    Restart(Is),
+    RestartRefused,
+}
+
+use Is::*;
+use Step::*;
+
+/// n, k, own number; slot count and record where it does not start at set-up; the steps.
+struct Run {
+    what: &'static str,
+    ring: (u32, u32, u32),
+    from: Option<(u64, Is)>,
+    steps: &'static [Step],
+}
+
+/// The messages of k = 2 and of k = 3, named by their acknowledgement bits, bit 1 first.
+const YY: Bytes = &[0x02, 0x03, 0x01, 0x00];
+const NY: Bytes = &[0x02, 0x02, 0x01, 0x00];
+const YN: Bytes = &[0x02, 0x01, 0x01, 0x00];
+const NN: Bytes = &[0x02, 0x00, 0x01, 0x00];
+const YY_RETURN: Bytes = &[0x02, 0x03, 0x01, 0x01];
+const NNN: Bytes = &[0x03, 0x00, 0x01, 0x00];
+const YNN: Bytes = &[0x03, 0x01, 0x01, 0x00];
+const NYN: Bytes = &[0x03, 0x02, 0x01, 0x00];
+const NNY: Bytes = &[0x03, 0x04, 0x01, 0x00];
+const NYY: Bytes = &[0x03, 0x06, 0x01, 0x00];
+const NOTHING: Bytes = &[];
+
+const ALL: Nodes = &[1, 2, 3, 4];
+
+#[rustfmt::skip]
+const RUNS: &[Run] = &[
+    // "P: the listing above; node 2 is out, cause 1."
+    Run { what: "the listing, node 1", ring: (4, 2, 1), from: None, steps: &[
+        Sends(YY),
+        Slot(NOTHING, Member(ALL, &[2, 3, 4], 0)),
+        Slot(NOTHING, Member(ALL, &[3, 4], 0)),
+        Slot(NY, Member(ALL, &[1, 3, 4], 0)),
+        Slot(YN, Member(&[1, 3, 4], &[1, 3, 4], 0)),
+    ] },
+    Run { what: "the listing, node 2", ring: (4, 2, 2), from: None, steps: &[
+        Slot(YY, Member(ALL, ALL, 0)),
+        Sends(YY),
+        Slot(NOTHING, Member(ALL, &[1, 3, 4], 0)),
+        Slot(NY, Member(ALL, &[1, 3, 4], 0)),
+        Slot(YN, Out(Cause::Unconfirmed)),
+        SendRefused(10),
+        Slot(YY, Out(Cause::Unconfirmed)),
+        SendRefused(10),
+    ] },
+    Run { what: "the listing, node 3", ring: (4, 2, 3), from: None, steps: &[
+        Slot(YY, Member(ALL, ALL, 0)),
+        Slot(NOTHING, Member(ALL, &[1, 3, 4], 0)),
+        Sends(NY),
+        Slot(NOTHING, Member(ALL, &[1, 4], 0)),
+        Slot(YN, Member(&[1, 3, 4], &[1, 3, 4], 0)),
+    ] },
+    Run { what: "the listing, node 4", ring: (4, 2, 4), from: None, steps: &[
+        Slot(YY, Member(ALL, ALL, 0)),
+        Slot(NOTHING, Member(ALL, &[1, 3, 4], 0)),
+        Slot(NY, Member(ALL, &[1, 3, 4], 0)),
+        Sends(YN),
+        Slot(NOTHING, Member(&[1, 3, 4], &[1, 3], 0)),
+    ] },
+    // "P: n = 4, k = 2, node 3 alone misses slot 2: after slot 4 all hold {1,2,3,4}."
+    Run { what: "node 3 misses slot 2, node 1", ring: (4, 2, 1), from: None, steps: &[
+        Sends(YY),
+        Slot(NOTHING, Member(ALL, &[2, 3, 4], 0)),
+        Slot(YY, Member(ALL, ALL, 0)),
+        Slot(NY, Member(ALL, ALL, 0)),
+        Slot(YY, Member(ALL, ALL, 0)),
+    ] },
+    Run { what: "node 3 misses slot 2, node 2", ring: (4, 2, 2), from: None, steps: &[
+        Slot(YY, Member(ALL, ALL, 0)),
+        Sends(YY),
+        Slot(NOTHING, Member(ALL, &[1, 3, 4], 0)),
+        Slot(NY, Member(ALL, &[1, 3, 4], 0)),
+        Slot(YY, Member(ALL, ALL, 0)),
+    ] },
+    Run { what: "node 3 misses slot 2, node 3", ring: (4, 2, 3), from: None, steps: &[
+        Slot(YY, Member(ALL, ALL, 0)),
+        Slot(NOTHING, Member(ALL, &[1, 3, 4], 0)),
+        Sends(NY),
+        Slot(NOTHING, Member(ALL, &[1, 4], 0)),
+        Slot(YY, Member(ALL, ALL, 0)),
+    ] },
+    // "Letting a later no erase a yes": node 3's no leaves the mark of node 2.
+    Run { what: "node 3 misses slot 2, node 4", ring: (4, 2, 4), from: None, steps: &[
+        Slot(YY, Member(ALL, ALL, 0)),
+        Slot(YY, Member(ALL, ALL, 0)),
+        Slot(NY, Member(ALL, ALL, 0)),
+        Sends(YY),
+        Slot(NOTHING, Member(ALL, &[1, 2, 3], 0)),
+    ] },
+    // "P: the same with slot 4 lost: two failures; node 3 holds {1,3,4}, node 1 all four, node 2 is out"
+    // "Skipping the decision because the sender was silent": it is made on each node.
+    Run { what: "slot 4 lost too, node 1", ring: (4, 2, 1), from: None, steps: &[
+        Slot(NOTHING, Member(ALL, &[2, 3, 4], 0)),
+        Slot(YY, Member(ALL, ALL, 0)),
+        Slot(NY, Member(ALL, ALL, 0)),
+        Slot(NOTHING, Member(ALL, &[1, 2, 3], 0)),
+    ] },
+    Run { what: "slot 4 lost too, node 2", ring: (4, 2, 2), from: None, steps: &[
+        Slot(YY, Member(ALL, ALL, 0)),
+        Slot(NOTHING, Member(ALL, &[1, 3, 4], 0)),
+        Slot(NY, Member(ALL, &[1, 3, 4], 0)),
+        Slot(NOTHING, Out(Cause::Unconfirmed)),
+    ] },
+    Run { what: "slot 4 lost too, node 3", ring: (4, 2, 3), from: None, steps: &[
+        Slot(YY, Member(ALL, ALL, 0)),
+        Slot(NOTHING, Member(ALL, &[1, 3, 4], 0)),
+        Slot(NOTHING, Member(ALL, &[1, 4], 0)),
+        Slot(NOTHING, Member(&[1, 3, 4], &[1], 0)),
+    ] },
+    // "P: n = 4, k = 3, nodes 1 and 2 off from the start: 1 leaves at slot 4, 2 at slot 8."
+    Run { what: "nodes 1 and 2 off, node 1", ring: (4, 3, 1), from: None, steps: &[
+        Off,
+        SendRefused(10),
+        Slot(NOTHING, Out(Cause::SwitchedOff)),
+        Slot(NOTHING, Out(Cause::SwitchedOff)),
+        Slot(NNY, Out(Cause::SwitchedOff)),
+    ] },
+    Run { what: "nodes 1 and 2 off, node 3", ring: (4, 3, 3), from: None, steps: &[
+        Slot(NOTHING, Member(ALL, &[2, 3, 4], 0)),
+        Slot(NOTHING, Member(ALL, &[3, 4], 0)),
+        Sends(NNY),
+        Slot(NOTHING, Member(ALL, &[4], 0)),
+        Slot(YNN, Member(&[2, 3, 4], &[3, 4], 0)),
+        Slot(NOTHING, Member(&[2, 3, 4], &[3, 4], 0)),
+        Slot(NOTHING, Member(&[2, 3, 4], &[3, 4], 0)),
+        Sends(NYN),
+        Slot(NOTHING, Member(&[2, 3, 4], &[4], 0)),
+        Slot(YNN, Member(&[3, 4], &[3, 4], 0)),
+    ] },
+    Run { what: "nodes 1 and 2 off, node 4", ring: (4, 3, 4), from: None, steps: &[
+        Slot(NOTHING, Member(ALL, &[2, 3, 4], 0)),
+        Slot(NOTHING, Member(ALL, &[3, 4], 0)),
+        Slot(NNY, Member(ALL, &[3, 4], 0)),
+        Sends(YNN),
+        Slot(NOTHING, Member(&[2, 3, 4], &[3], 0)),
+        Slot(NOTHING, Member(&[2, 3, 4], &[3], 0)),
+        Slot(NOTHING, Member(&[2, 3, 4], &[3], 0)),
+        Slot(NYN, Member(&[2, 3, 4], &[3, 4], 0)),
+        Sends(YNN),
+        Slot(NOTHING, Member(&[3, 4], &[3], 0)),
+    ] },
+    // "P: n = 4, slot 4 has sender 4; slot 5 has 1."
+    Run { what: "sender of slot 4", ring: (4, 2, 4), from: Some((3, Member(ALL, ALL, 0))), steps: &[Sends(YY)] },
+    Run { what: "sender of slot 5", ring: (4, 2, 1), from: Some((4, Member(ALL, ALL, 0))), steps: &[Sends(YY)] },
+    // "P: set {1,3,4}, k = 2: node 1 sponsors 4, 3 and decides 3."
+    Run { what: "sponsored by 1", ring: (4, 2, 1), from: Some((0, Member(&[1, 3, 4], &[1, 3], 0))), steps: &[Sends(NY)] },
+    Run { what: "decided by 1: no", ring: (4, 2, 4), from: Some((0, Member(&[1, 3, 4], &[4], 0))), steps: &[
+        Slot(NN, Member(&[1, 4], &[1, 4], 0)),
+    ] },
+    Run { what: "decided by 1: yes", ring: (4, 2, 4), from: Some((0, Member(&[1, 3, 4], &[4], 0))), steps: &[
+        Slot(NY, Member(&[1, 3, 4], &[1, 3, 4], 0)),
+    ] },
+    // "P: set {2,5}, k = 3: node 5 sponsors and decides 2." Bits past ks are "ignored when heard".
+    Run { what: "sponsored by 5", ring: (5, 3, 5), from: Some((4, Member(&[2, 5], &[2, 5], 0))), steps: &[Sends(YNN)] },
+    Run { what: "decided by 5: no", ring: (5, 3, 2), from: Some((4, Member(&[2, 5], &[5], 0))), steps: &[
+        Slot(NYY, Out(Cause::Unconfirmed)),
+    ] },
+    Run { what: "decided by 5: yes", ring: (5, 3, 2), from: Some((4, Member(&[2, 5], &[5], 0))), steps: &[
+        Slot(YNN, Member(&[2, 5], &[2, 5], 0)),
+    ] },
+    // "P: set {2}: nobody."
+    Run { what: "alone", ring: (5, 3, 2), from: Some((1, Member(&[2], &[2], 0))), steps: &[
+        Sends(NNN),
+        Slot(NOTHING, Out(Cause::NothingHeard)),
+    ] },
+    // "P: k = 9, all yes, return: 09 FF 01 01 01."
+    Run { what: "all yes, return", ring: (11, 9, 1),
+          from: Some((11, Member(&[1, 2, 3, 4, 5, 6, 7, 8, 9, 10], &[1, 2, 3, 4, 5, 6, 7, 8, 9, 10], 11))),
+          steps: &[Sends(&[0x09, 0xFF, 0x01, 0x01, 0x01])] },
+    // "P: for k = 2, 02 07 01 00 is refusal 8; 02 03 02 00 is 7." "An unreadable message counts as not heard."
+    Run { what: "a spare bit", ring: (4, 2, 1), from: Some((1, Member(ALL, ALL, 0))), steps: &[
+        Slot(&[0x02, 0x07, 0x01, 0x00], Member(ALL, &[1, 3, 4], 0)),
+    ] },
+    Run { what: "a wrong count", ring: (4, 2, 1), from: Some((1, Member(ALL, ALL, 0))), steps: &[
+        Slot(&[0x02, 0x03, 0x02, 0x00], Member(ALL, &[1, 3, 4], 0)),
+    ] },
+    // Node 1 is away from the start and comes back. The first window meets the bits that say no to it.
+    Run { what: "coming back", ring: (4, 2, 1), from: None, steps: &[
+        RestartRefused,
+        Off,
+        Restart(Listening(0, &[], 2, false, &[])),
+        RestartRefused,
+        SendRefused(10),
+        Slot(NOTHING, Listening(1, &[], 2, false, &[])),
+        Slot(NY, Listening(2, &[2], 0, false, &[])),
+        Slot(YN, Listening(3, &[2, 3], 0, false, &[])),
+        Slot(YY, Listening(0, &[], 2, false, &[])),
+        Slot(NOTHING, Listening(1, &[], 2, false, &[])),
+        Slot(YY, Listening(2, &[2], 2, false, &[])),
+        Slot(YY, Listening(3, &[2, 3], 2, false, &[])),
+        Slot(YY, Listening(0, &[], 2, false, &[2, 3, 4])),
+        Slot(NOTHING, Listening(1, &[], 2, false, &[2, 3, 4])),
+        Slot(YY, Listening(2, &[2], 2, false, &[2, 3, 4])),
+        Slot(YY, Listening(3, &[2, 3], 2, false, &[2, 3, 4])),
+        Slot(YY, Following(&[2, 3, 4], &[2, 3, 4], 0)),
+        Sends(NN),
+        Slot(NOTHING, Knocking(&[2, 3, 4], &[2, 3, 4], false)),
+        Slot(YY_RETURN, Knocking(&[2, 3, 4], &[2, 3, 4], true)),
+        Slot(YY_RETURN, Knocking(&[2, 3, 4], &[2, 3, 4], true)),
+        Slot(YY_RETURN, Member(ALL, ALL, 0)),
+        Sends(YY),
+        Slot(NOTHING, Member(ALL, &[2, 3, 4], 0)),
+        Slot(YY, Member(ALL, ALL, 0)),
+    ] },
+    Run { what: "seen by node 2", ring: (4, 2, 2), from: None, steps: &[
+        Slot(NOTHING, Member(ALL, &[2, 3, 4], 0)),
+        Sends(NY),
+        Slot(NOTHING, Member(ALL, &[3, 4], 0)),
+        Slot(YN, Member(&[2, 3, 4], &[2, 3, 4], 0)),
+        Slot(YY, Member(&[2, 3, 4], &[2, 3, 4], 0)),
+        Slot(NN, Member(&[2, 3, 4], &[2, 3, 4], 1)),
+        Sends(YY_RETURN),
+        Slot(NOTHING, Member(&[2, 3, 4], &[3, 4], 1)),
+        Slot(YY_RETURN, Member(&[2, 3, 4], &[2, 3, 4], 1)),
+        Slot(YY_RETURN, Member(ALL, ALL, 0)),
+        Slot(YY, Member(ALL, ALL, 0)),
+        Sends(YY),
+    ] },
+    // "Joining a knocker that nobody heard"
+    Run { what: "a knock that nobody heard", ring: (4, 2, 1), from: Some((12, Following(&[2, 3, 4], &[2, 3, 4], 0))), steps: &[
+        Slot(NOTHING, Knocking(&[2, 3, 4], &[2, 3, 4], false)),
+        Slot(YY, Knocking(&[2, 3, 4], &[2, 3, 4], false)),
+        Slot(YY, Knocking(&[2, 3, 4], &[2, 3, 4], false)),
+        Slot(YY, Following(&[2, 3, 4], &[2, 3, 4], 0)),
+        Sends(NN),
+    ] },
+    // The bit of the joining slot counts: step 1 comes before step 5.
+    Run { what: "a return bit in the joining slot", ring: (4, 2, 1), from: Some((14, Knocking(&[2, 3, 4], &[2, 3, 4], false))), steps: &[
+        Slot(NOTHING, Knocking(&[2, 3, 4], &[2, 4], false)),
+        Slot(YY_RETURN, Member(ALL, ALL, 0)),
+    ] },
+    // "A return bit of 1 heard while returning is 0 means leaving with cause 3"
+    Run { what: "a knock missed by a member", ring: (4, 2, 3), from: Some((12, Member(&[2, 3, 4], &[2, 3, 4], 0))), steps: &[
+        Slot(NOTHING, Member(&[2, 3, 4], &[2, 3, 4], 0)),
+        Slot(YY_RETURN, Out(Cause::MissedReturn)),
+    ] },
+    Run { what: "a knock missed by a following node", ring: (5, 2, 5), from: Some((15, Following(&[2, 3, 4], &[2, 3, 4], 0))), steps: &[
+        Slot(NOTHING, Following(&[2, 3, 4], &[2, 3, 4], 0)),
+        Slot(YY_RETURN, Listening(0, &[], 2, false, &[])),
+    ] },
+    // "A following node in its own slot with returning 0 knocks": not with returning 1.
+    Run { what: "another is returning", ring: (5, 2, 5), from: Some((15, Following(&[2, 3, 4], &[2, 3, 4], 0))), steps: &[
+        Slot(NN, Following(&[2, 3, 4], &[2, 3, 4], 1)),
+        Slot(YY_RETURN, Following(&[2, 3, 4], &[2, 3, 4], 1)),
+        Slot(YY_RETURN, Following(&[2, 3, 4], &[2, 3, 4], 1)),
+        Slot(YY_RETURN, Following(ALL, ALL, 0)),
+        Sends(NN),
+        Slot(NOTHING, Knocking(ALL, ALL, false)),
+    ] },
+    // Node 5 is outside the set; its own slot is silent while node 1 is returning.
+    Run { what: "another is returning, own slot", ring: (5, 2, 5), from: Some((4, Following(&[2, 3, 4], &[2, 3, 4], 1))), steps: &[
+        SendRefused(10),
+        Slot(YY, Following(&[2, 3, 4], &[2, 3, 4], 1)),
+        Slot(NN, Following(&[2, 3, 4], &[2, 3, 4], 1)),
+    ] },
+    // "if returning is not 0 it is ignored. The contents don't matter."
+    Run { what: "a later knock", ring: (6, 2, 3), from: Some((4, Member(&[2, 3, 4], &[2, 3, 4], 0))), steps: &[
+        Slot(YY_RETURN, Member(&[2, 3, 4], &[2, 3, 4], 5)),
+        Slot(NN, Member(&[2, 3, 4], &[2, 3, 4], 5)),
+        Slot(NN, Member(&[2, 3, 4], &[2, 3, 4], 5)),
+        Slot(YY_RETURN, Member(&[2, 3, 4], &[2, 3, 4], 5)),
+        Sends(YY_RETURN),
+        Slot(NOTHING, Member(&[2, 3, 4], &[2, 4], 5)),
+        Slot(YY_RETURN, Member(&[2, 3, 4, 5], &[2, 3, 4, 5], 0)),
+    ] },
+    // "if no other member is marked, this node leaves with cause 2"
+    Run { what: "nothing heard", ring: (5, 2, 1), from: None, steps: &[
+        Sends(YY),
+        Slot(NOTHING, Member(&[1, 2, 3, 4, 5], &[2, 3, 4, 5], 0)),
+        Slot(YY, Member(&[1, 2, 3, 4, 5], &[1, 2, 3, 4, 5], 0)),
+        Slot(NOTHING, Member(&[1, 2, 3, 4, 5], &[1, 2, 4, 5], 0)),
+        Slot(NOTHING, Member(&[1, 2, 3, 4, 5], &[1, 2, 5], 0)),
+        Slot(NOTHING, Member(&[1, 2, 4, 5], &[1, 2], 0)),
+        Sends(NN),
+        Slot(NOTHING, Member(&[1, 2, 5], &[2], 0)),
+        Slot(NOTHING, Out(Cause::NothingHeard)),
+    ] },
+    // "Following and knocking need two members or more in the set"
+    Run { what: "one member remains", ring: (5, 2, 1), from: Some((2, Following(&[3, 4], &[3, 4], 0))), steps: &[
+        Slot(YY, Following(&[3, 4], &[3, 4], 0)),
+        Slot(NOTHING, Following(&[3, 4], &[3], 0)),
+        Slot(NOTHING, Following(&[3, 4], &[3], 0)),
+        Sends(NN),
+        Slot(NOTHING, Knocking(&[3, 4], &[3], false)),
+        Slot(NOTHING, Knocking(&[3, 4], &[3], false)),
+        Slot(NN, Listening(0, &[], 2, false, &[])),
+    ] },
+    // "Joining before departing in one slot": 3 decides 4, which leaves; then 3 is the nearest before 5.
+    Run { what: "departing and joining", ring: (5, 3, 1), from: Some((2, Member(&[1, 2, 3, 4], &[1, 2, 3], 5))), steps: &[
+        Slot(&[0x03, 0x03, 0x01, 0x01], Member(&[1, 2, 3, 5], &[1, 2, 3, 5], 0)),
+    ] },
+    // Six windows: other nodes replace the clean one, with a run of 1, enough for two nodes heard; a run
+    // of 1 is too short for three and wipes it out; clean; a return bit; a knock; one node heard.
+    Run { what: "windows", ring: (4, 2, 1), from: Some((0, Listening(0, &[], 2, false, &[2, 3]))), steps: &[
+        Slot(YY, Listening(1, &[], 2, false, &[2, 3])),
+        Slot(YN, Listening(2, &[2], 1, false, &[2, 3])),
+        Slot(NOTHING, Listening(3, &[2], 1, false, &[2, 3])),
+        Slot(YY, Listening(0, &[], 2, false, &[2, 4])),
+        Slot(YY, Listening(1, &[], 2, false, &[2, 4])),
+        Slot(YN, Listening(2, &[2], 1, false, &[2, 4])),
+        Slot(YY, Listening(3, &[2, 3], 1, false, &[2, 4])),
+        Slot(YY, Listening(0, &[], 2, false, &[])),
+        Slot(YY, Listening(1, &[], 2, false, &[])),
+        Slot(YY, Listening(2, &[2], 2, false, &[])),
+        Slot(YY, Listening(3, &[2, 3], 2, false, &[])),
+        Slot(NOTHING, Listening(0, &[], 2, false, &[2, 3])),
+        Slot(YY, Listening(1, &[], 2, false, &[2, 3])),
+        Slot(YY_RETURN, Listening(2, &[2], 2, true, &[2, 3])),
+        Slot(YY, Listening(3, &[2, 3], 2, true, &[2, 3])),
+        Slot(NOTHING, Listening(0, &[], 2, false, &[])),
+        Slot(YY, Listening(1, &[], 2, false, &[])),
+        Slot(YY, Listening(2, &[2], 2, false, &[])),
+        Slot(NN, Listening(3, &[2, 3], 0, false, &[])),
+        Slot(YY, Listening(0, &[], 2, false, &[])),
+        Slot(YY, Listening(1, &[], 2, false, &[])),
+        Slot(YY, Listening(2, &[2], 2, false, &[])),
+        Slot(NOTHING, Listening(3, &[2], 2, false, &[])),
+        Slot(NOTHING, Listening(0, &[], 2, false, &[])),
+    ] },
+];
+
+fn nodes(nodes: Nodes) -> Set {
+    nodes.iter().fold(Set::EMPTY, |set, &x| set.with(x))
+}
+
+fn record((n, k, own): (u32, u32, u32), slots: u64, is: Is) -> Node {
+    let (mut set, mut marks, mut returning, mut return_heard) = (&[][..], &[][..], 0, false);
+    let mut listening = ListeningData::default();
+    let state = match is {
+        Member(..) => State::Member,
+        Following(..) => State::Following,
+        Knocking(..) => State::Knocking,
+        Listening(..) => State::Listening,
+        Out(cause) => State::Out(cause),
+    };
+    match is {
+        Member(s, m, r) | Following(s, m, r) => (set, marks, returning) = (s, m, r),
+        Knocking(s, m, r) => (set, marks, returning, return_heard) = (s, m, own, r),
+        Listening(done, heard, shortest, return_seen, last) => {
+            listening = ListeningData { done, heard: nodes(heard), shortest, return_seen, last: nodes(last) };
+        }
+        Out(_) => {}
+    }
+    let (set, marks) = (nodes(set), nodes(marks));
+    Node { n, k, own, slots, state, set, marks, returning, return_heard, listening }
+}
+
+/// The record must be this one.
+fn see(
+    count: &mut Count,
+    what: &str,
+    got: Result<Node, u32>,
+    expected: Result<Node, u32>,
+) -> Result<(), String> {
+    count.expected(expected.err().unwrap_or(0));
+    let shown = |answer: &Result<Node, u32>| match answer {
+        Ok(record) => shown_record(record),
+        Err(number) => format!("refusal {number}"),
+    };
+    count.check(got == expected, || {
+        format!("{what}:\n        model:       {}\n        document 01: {}", shown(&got), shown(&expected))
+    })
+}
+
+fn see_sent(count: &mut Count, what: &str, node: &Node, expected: Result<Bytes, u32>) -> Result<(), String> {
+    count.expected(expected.err().unwrap_or(0));
+    let mut out = [0; 8];
+    let got = node.send(&mut out).map(|length| &out[..length]);
+    count.check(got == expected, || {
+        let shown = |answer: Result<&[u8], u32>| answer.map(hex);
+        format!("{what}: model sends {:?}, document 01 {:?}", shown(got), shown(expected))
+    })
+}
+
+/// The model against the document, step by step; the script is for the program.
+fn follow(count: &mut Count, script: &mut Script, run: &Run) -> Result<(), String> {
+    let (n, k, own) = run.ring;
+    let mut slots = 0;
+    let mut node = Node::set_up(n, k, own).map_err(|number| format!("{}: refusal {number}", run.what))?;
+    script.push(&Command::SetUp { n, k, own });
+    if let Some((from, is)) = run.from {
+        slots = from;
+        node = record(run.ring, slots, is);
+        script.push(&Command::Load(node));
+    }
+    for (i, step) in run.steps.iter().enumerate() {
+        let what = format!("{}, step {}", run.what, i + 1);
+        let (command, got, expected) = match *step {
+            Slot(bytes, is) => {
+                slots += 1;
+                (Command::Slot(bytes), node.slot(bytes), Ok(is))
+            }
+            Off => (Command::Off, node.off(), Ok(Out(Cause::SwitchedOff))),
+            Restart(is) => (Command::Restart, node.restart(), Ok(is)),
+            RestartRefused => (Command::Restart, node.restart(), Err(11)),
+            Sends(bytes) => {
+                script.push(&Command::Send { room: 8 });
+                see_sent(count, &what, &node, Ok(bytes))?;
+                continue;
+            }
+            SendRefused(number) => {
+                script.push(&Command::Send { room: 8 });
+                see_sent(count, &what, &node, Err(number))?;
+                continue;
+            }
+        };
+        script.push(&command);
+        let expected = expected.map(|is| record(run.ring, slots, is));
+        see(count, &what, got, expected)?;
+        node = expected.unwrap_or(node);
+    }
+    Ok(())
+}
+
+pub fn single_nodes(count: &mut Count) -> Result<(), String> {
+    let mut script = Script::default();
+    for run in RUNS {
+        follow(count, &mut script, run)?;
+    }
+    compare(count, &script)
+}

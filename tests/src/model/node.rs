@@ -1,0 +1,398 @@
+//! Document 01, "The node record", "One slot, for a member, following or knocking node" and
+//! "Listening". Every call takes a record and gives the next one, or the number of the refusal: a
+//! refused record stays as it was.
+
+use super::ring::{self, Set};
+use super::{message, refusal};
+
+/// "The out state carries its cause"
+#[derive(Clone, Copy, PartialEq, Eq, Debug)]
+pub enum Cause {
+    Unconfirmed = 1,
+    NothingHeard = 2,
+    MissedReturn = 3,
+    SwitchedOff = 4,
+}
+
+/// "States: member, listening, following, knocking, out."
+#[derive(Clone, Copy, PartialEq, Eq, Debug)]
+pub enum State {
+    Member,
+    Listening,
+    Following,
+    Knocking,
+    Out(Cause),
+}
+
+/// "Listening data: slots done in this window, nodes heard in it, the shortest run of ones in it,
+/// whether a return bit of 1 was heard in it, and the nodes of the last clean window"
+#[derive(Clone, Copy, PartialEq, Eq, Default)]
+pub struct ListeningData {
+    pub done: u32,
+    pub heard: Set,
+    pub shortest: u32,
+    pub return_seen: bool,
+    pub last: Set,
+}
+
+#[derive(Clone, Copy, PartialEq, Eq)]
+pub struct Node {
+    pub n: u32,
+    pub k: u32,
+    pub own: u32,
+    pub slots: u64,
+    pub state: State,
+    pub set: Set,
+    pub marks: Set,
+    pub returning: u32,
+    pub return_heard: bool,
+    pub listening: ListeningData,
+}
+
+/// A clause of the soundness sentence and whether a record keeps it.
+pub struct Clause {
+    pub says: &'static str,
+    pub kept: fn(&Node) -> bool,
+}
+
+/// "A record is sound if ..": its clauses in the document's order, and what "The node record" and
+/// "Listening" say of the values.
+#[rustfmt::skip]
+pub const CLAUSES: &[Clause] = &[
+    Clause { says: "n in range", kept: |r| ring::is_size(r.n) },
+    Clause { says: "k in range", kept: |r| ring::is_sponsor_count(r.n, r.k) },
+    Clause { says: "own number in range", kept: |r| ring::is_node(r.n, r.own) },
+    Clause { says: "slot count at most the limit", kept: |r| r.slots <= ring::LIMIT },
+    Clause { says: "set holds only 1 to n", kept: |r| r.set.within(Set::full(r.n)) },
+    Clause { says: "marks hold only 1 to n", kept: |r| r.marks.within(Set::full(r.n)) },
+    Clause { says: "each marked node is in the set", kept: |r| r.marks.within(r.set) },
+    Clause { says: "returning is 0 or a node", kept: |r| r.returning == 0 || ring::is_node(r.n, r.returning) },
+    Clause { says: "returning is outside the set", kept: |r| !r.set.has(r.returning) },
+    Clause { says: "own number in a member's set and otherwise not", kept: |r| r.set.has(r.own) == (r.state == State::Member) },
+    Clause { says: "returning is the own number exactly when knocking", kept: |r| (r.returning == r.own) == (r.state == State::Knocking) },
+    Clause { says: "set empty when listening or out", kept: |r| !r.knows_nobody() || r.set == Set::EMPTY },
+    Clause { says: "marks empty when listening or out", kept: |r| !r.knows_nobody() || r.marks == Set::EMPTY },
+    Clause { says: "returning 0 when listening or out", kept: |r| !r.knows_nobody() || r.returning == 0 },
+    Clause { says: "return heard no except when knocking", kept: |r| !r.return_heard || r.state == State::Knocking },
+    Clause { says: "slots done 0 to n - 1", kept: |r| !r.listens() || r.listening.done < r.n },
+    Clause { says: "nodes heard are nodes", kept: |r| !r.listens() || r.listening.heard.within(Set::full(r.n)) },
+    Clause { says: "nodes heard without own number", kept: |r| !r.listens() || !r.listening.heard.has(r.own) },
+    Clause { says: "shortest run 0 to k", kept: |r| !r.listens() || r.listening.shortest <= r.k },
+    Clause { says: "shortest run k while nothing is heard", kept: |r| !r.listens() || r.listening.heard != Set::EMPTY || r.listening.shortest == r.k },
+    Clause { says: "last clean window's nodes are nodes", kept: |r| !r.listens() || r.listening.last.within(Set::full(r.n)) },
+    Clause { says: "last clean window without own number", kept: |r| !r.listens() || !r.listening.last.has(r.own) },
+    Clause { says: "last clean window none, or two or more", kept: |r| !r.listens() || r.listening.last.count() != 1 },
+    Clause { says: "listening data zero or no in every other state", kept: |r| r.listens() || r.listening == ListeningData::default() },
+    Clause { says: "following and knocking need two members", kept: |r| !r.returns() || r.set.count() >= 2 },
+];
+
+/// A node must leave: with a cause, or because too few members remain.
+enum Leaving {
+    With(Cause),
+    TooFewMembers,
+}
+
+/// What a readable message says: the acknowledgements, bit 1 lowest, and the return bit.
+type Said = (u32, bool);
+
+impl Node {
+    /// "All start as members, set full, all marks on, returning 0."
+    pub fn set_up(n: u32, k: u32, own: u32) -> Result<Node, u32> {
+        if !ring::is_size(n) {
+            return Err(refusal::N);
+        }
+        if !ring::is_sponsor_count(n, k) {
+            return Err(refusal::K);
+        }
+        if !ring::is_node(n, own) {
+            return Err(refusal::NODE);
+        }
+        Ok(Node {
+            n,
+            k,
+            own,
+            slots: 0,
+            state: State::Member,
+            set: Set::full(n),
+            marks: Set::full(n),
+            returning: 0,
+            return_heard: false,
+            listening: ListeningData::default(),
+        })
+    }
+
+    fn listens(&self) -> bool {
+        self.state == State::Listening
+    }
+
+    fn knows_nobody(&self) -> bool {
+        matches!(self.state, State::Listening | State::Out(_))
+    }
+
+    /// Following or knocking.
+    fn returns(&self) -> bool {
+        matches!(self.state, State::Following | State::Knocking)
+    }
+
+    pub fn is_sound(&self) -> bool {
+        CLAUSES.iter().all(|clause| (clause.kept)(self))
+    }
+
+    fn check_sound(&self) -> Result<(), u32> {
+        if self.is_sound() {
+            Ok(())
+        } else {
+            Err(refusal::UNSOUND)
+        }
+    }
+
+    fn check_limit(&self) -> Result<(), u32> {
+        if self.slots < ring::LIMIT {
+            Ok(())
+        } else {
+            Err(refusal::LIMIT)
+        }
+    }
+
+    /// The sender of the next slot.
+    fn next_sender(&self) -> u32 {
+        ring::sender(self.n, self.slots + 1)
+    }
+
+    /// Numbers and slot count stay; all that was known or heard goes.
+    fn emptied(&self, state: State) -> Node {
+        Node {
+            state,
+            set: Set::EMPTY,
+            marks: Set::EMPTY,
+            returning: 0,
+            return_heard: false,
+            listening: ListeningData::default(),
+            ..*self
+        }
+    }
+
+    fn listening_afresh(&self) -> Node {
+        Node { listening: new_window(self.k, Set::EMPTY), ..self.emptied(State::Listening) }
+    }
+
+    /// "`off` works in every state, giving cause 4."
+    pub fn off(&self) -> Result<Node, u32> {
+        self.check_sound()?;
+        Ok(self.emptied(State::Out(Cause::SwitchedOff)))
+    }
+
+    /// "Restart takes a node from out to listening."
+    pub fn restart(&self) -> Result<Node, u32> {
+        self.check_sound()?;
+        match self.state {
+            State::Out(_) => Ok(self.listening_afresh()),
+            _ => Err(refusal::NOT_OUT),
+        }
+    }
+
+    /// The number of bytes written. "Members send in their own slots, bits taken from the marks before
+    /// the slot; the return bit is 1 if returning is not 0. A knock carries zero bits and return bit 0."
+    pub fn send(&self, out: &mut [u8]) -> Result<usize, u32> {
+        self.check_sound()?;
+        self.check_limit()?;
+        if self.next_sender() != self.own {
+            return Err(refusal::TURN);
+        }
+        match self.state {
+            State::Member => message::write(self.k, self.acknowledgements(), self.returning != 0, out),
+            State::Following if self.returning == 0 => message::write(self.k, 0, false, out),
+            _ => Err(refusal::TURN),
+        }
+    }
+
+    /// "bit 1 concerns the nearest member before the sender"; "Acknowledgement bits past ks are sent as 0"
+    fn acknowledgements(&self) -> u32 {
+        let mut acks = 0;
+        for (bit, member) in ring::sponsored(self.n, self.k, self.set, self.own).enumerate() {
+            if self.marks.has(member) {
+                acks |= 1 << bit;
+            }
+        }
+        acks
+    }
+
+    /// One slot; `bytes` are what is heard in it, none for nothing.
+    pub fn slot(&self, bytes: &[u8]) -> Result<Node, u32> {
+        self.check_sound()?;
+        self.check_limit()?;
+        let sender = self.next_sender();
+        // "An unreadable message counts as not heard."
+        // "A message handed over in the own slot is ignored."
+        let heard = if sender == self.own { None } else { message::read(self.k, bytes).ok() };
+        let mut next = Node { slots: self.slots + 1, ..*self };
+        match self.state {
+            State::Out(_) => {}
+            State::Listening => next.listen(sender, heard),
+            State::Member | State::Following | State::Knocking => {
+                if let Err(why) = next.steps(sender, heard) {
+                    next.leave(why);
+                }
+            }
+        }
+        Ok(next)
+    }
+
+    /// The five steps. An error ends them: the node leaves.
+    fn steps(&mut self, sender: u32, heard: Option<Said>) -> Result<(), Leaving> {
+        let in_set = self.set.has(sender);
+        if in_set {
+            self.step_1(sender, heard)?;
+        } else {
+            self.step_2(sender, heard);
+        }
+        if in_set {
+            self.step_3(sender)?;
+        }
+        self.enough_members()?;
+        self.step_4()?;
+        if in_set {
+            self.step_5(sender);
+        }
+        Ok(())
+    }
+
+    /// "The sender is in the set." In its own slot the node hears nothing, so its own mark goes off.
+    fn step_1(&mut self, sender: u32, heard: Option<Said>) -> Result<(), Leaving> {
+        let Some((acks, return_bit)) = heard else {
+            self.marks = self.marks.without(sender);
+            return Ok(());
+        };
+        self.marks = self.marks.with(sender);
+        // "ignored when heard": bits past ks concern nobody.
+        for (bit, member) in ring::sponsored(self.n, self.k, self.set, sender).enumerate() {
+            if acks >> bit & 1 == 1 {
+                self.marks = self.marks.with(member);
+            }
+        }
+        if return_bit && self.returning == 0 {
+            return Err(Leaving::With(Cause::MissedReturn));
+        }
+        if return_bit && self.state == State::Knocking {
+            self.return_heard = true;
+        }
+        Ok(())
+    }
+
+    /// "The sender is outside the set."
+    fn step_2(&mut self, sender: u32, heard: Option<Said>) {
+        if self.returning != 0 {
+            return;
+        }
+        if sender == self.own {
+            // Own slot, outside the own set, returning 0: a following node. "it sends and sets returning to itself"
+            self.state = State::Knocking;
+            self.returning = sender;
+        } else if heard.is_some() {
+            self.returning = sender;
+        }
+    }
+
+    /// "the decided member leaves if its mark is off. If that is this node, it leaves with cause 1"
+    fn step_3(&mut self, sender: u32) -> Result<(), Leaving> {
+        match ring::decided(self.n, self.k, self.set, sender) {
+            Some(member) if !self.marks.has(member) => {
+                if member == self.own {
+                    return Err(Leaving::With(Cause::Unconfirmed));
+                }
+                self.set = self.set.without(member);
+            }
+            _ => {}
+        }
+        Ok(())
+    }
+
+    /// "Following and knocking need two members or more in the set; if fewer remain after step 3, the
+    /// node goes to fresh listening."
+    fn enough_members(&self) -> Result<(), Leaving> {
+        if self.returns() && self.set.count() < 2 {
+            Err(Leaving::TooFewMembers)
+        } else {
+            Ok(())
+        }
+    }
+
+    /// "if no other member is marked, this node leaves with cause 2"
+    fn step_4(&self) -> Result<(), Leaving> {
+        if self.marks.without(self.own) == Set::EMPTY {
+            Err(Leaving::With(Cause::NothingHeard))
+        } else {
+            Ok(())
+        }
+    }
+
+    /// "only if the sender is in the set and is the nearest member before the returning node"
+    fn step_5(&mut self, sender: u32) {
+        if self.returning == 0 {
+            return;
+        }
+        let nearest = ring::members_before(self.n, self.set, self.returning).next();
+        if nearest != Some(sender) {
+            return;
+        }
+        if self.state == State::Knocking && !self.return_heard {
+            self.state = State::Following;
+        } else {
+            self.set = self.set.with(self.returning);
+            self.marks = self.marks.with(self.returning);
+            if self.state == State::Knocking {
+                self.state = State::Member;
+            }
+        }
+        self.returning = 0;
+        self.return_heard = false;
+    }
+
+    /// "A member that leaves is out"; "A following or knocking node that must leave starts listening afresh"
+    fn leave(&mut self, why: Leaving) {
+        *self = match (self.state, why) {
+            (State::Member, Leaving::With(cause)) => self.emptied(State::Out(cause)),
+            _ => self.listening_afresh(),
+        };
+    }
+
+    /// One slot of a listening node.
+    fn listen(&mut self, sender: u32, heard: Option<Said>) {
+        let data = &mut self.listening;
+        data.done += 1;
+        if let Some((acks, return_bit)) = heard {
+            data.heard = data.heard.with(sender);
+            data.shortest = data.shortest.min(acks.trailing_ones());
+            data.return_seen |= return_bit;
+        }
+        if data.done == self.n {
+            self.end_window();
+        }
+    }
+
+    /// "Two clean windows in a row with the same nodes heard, two or more: these become the set, all
+    /// marked, state following." "An unclean window also wipes out the clean one before it; a clean one
+    /// with other nodes replaces it."
+    fn end_window(&mut self) {
+        let ListeningData { heard, last, .. } = self.listening;
+        if !self.window_is_clean() {
+            self.listening = new_window(self.k, Set::EMPTY);
+        } else if heard != last {
+            self.listening = new_window(self.k, heard);
+        } else {
+            *self = Node { set: heard, marks: heard, ..self.emptied(State::Following) };
+        }
+    }
+
+    /// "every message heard has return bit 0, and the run of ones from bit 1 in each is at least the
+    /// smaller of k and (number of nodes heard) - 1"; "fewer than two nodes heard is unclean"
+    fn window_is_clean(&self) -> bool {
+        let ListeningData { heard, shortest, return_seen, .. } = self.listening;
+        heard.count() >= 2 && !return_seen && shortest >= self.k.min(heard.count() - 1)
+    }
+}
+
+/// A window with no slot done: "the shortest run of ones in it (0 to k, k while nothing is heard)".
+fn new_window(k: u32, last: Set) -> ListeningData {
+    ListeningData { done: 0, heard: Set::EMPTY, shortest: k, return_seen: false, last }
+}

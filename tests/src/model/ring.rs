@@ -1,0 +1,87 @@
+//! Document 01, "The ring".
+
+/// "the limit is 1,000,000,000,000,000"
+pub const LIMIT: u64 = 1_000_000_000_000_000;
+
+/// "n from 3 to 32"
+pub fn is_size(n: u32) -> bool {
+    (3..=32).contains(&n)
+}
+
+/// "k is from 2 to n - 1."
+pub fn is_sponsor_count(n: u32, k: u32) -> bool {
+    2 <= k && k < n
+}
+
+/// "n nodes are numbered 1 to n"
+pub fn is_node(n: u32, x: u32) -> bool {
+    1 <= x && x <= n
+}
+
+/// "The sender of slot s is ((s - 1) mod n) + 1."
+pub fn sender(n: u32, slot: u64) -> u32 {
+    ((slot - 1) % u64::from(n)) as u32 + 1
+}
+
+/// Nodes of 1 to 32; node 1 is the lowest bit.
+#[derive(Clone, Copy, PartialEq, Eq, Default)]
+pub struct Set(pub u32);
+
+impl Set {
+    pub const EMPTY: Set = Set(0);
+
+    /// The nodes 1 to n, of those that a set can hold.
+    pub fn full(n: u32) -> Set {
+        Set(if n < 32 { (1 << n) - 1 } else { u32::MAX })
+    }
+
+    fn only(x: u32) -> Set {
+        Set(if is_node(32, x) { 1 << (x - 1) } else { 0 })
+    }
+
+    pub fn has(self, x: u32) -> bool {
+        self.0 & Set::only(x).0 != 0
+    }
+
+    pub fn with(self, x: u32) -> Set {
+        Set(self.0 | Set::only(x).0)
+    }
+
+    pub fn without(self, x: u32) -> Set {
+        Set(self.0 & !Set::only(x).0)
+    }
+
+    pub fn count(self) -> u32 {
+        self.0.count_ones()
+    }
+
+    /// Each of these nodes is one of the others.
+    pub fn within(self, others: Set) -> bool {
+        self.0 & !others.0 == 0
+    }
+
+    /// The nodes in rising order.
+    pub fn nodes(self) -> impl Iterator<Item = u32> {
+        (1..=32).filter(move |&x| self.has(x))
+    }
+}
+
+/// The members before x, the nearest first, "going back round the ring in slot order".
+pub fn members_before(n: u32, set: Set, x: u32) -> impl Iterator<Item = u32> {
+    (1..n).map(move |back| (x + n - back - 1) % n + 1).filter(move |&y| set.has(y))
+}
+
+/// "With c members, ks is the smaller of k and c - 1." Nobody is sponsored where there is no member.
+pub fn ks(k: u32, set: Set) -> u32 {
+    k.min(set.count().saturating_sub(1))
+}
+
+/// "A member *sponsors* the ks members before it": the nearest first, as the acknowledgement bits.
+pub fn sponsored(n: u32, k: u32, set: Set, x: u32) -> impl Iterator<Item = u32> {
+    members_before(n, set, x).take(ks(k, set) as usize)
+}
+
+/// "The one furthest back is the member it *decides*. With one member nobody is decided."
+pub fn decided(n: u32, k: u32, set: Set, x: u32) -> Option<u32> {
+    sponsored(n, k, set, x).last()
+}
