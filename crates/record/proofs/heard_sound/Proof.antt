@@ -1,4 +1,6 @@
 -- `record::heard_sound` meets its contract: it makes the tests of its definition. Assumes nothing.
+use mathlib.Core.Path.{ap}
+use Rattle.record.specs.Soundness.{implies}
 use borrow.Author.Needs.{needs}
 use Rattle.record.proofs.heard_sound.Statement.{statement}
 use Rattle.record.proofs.heard_sound.Tie as tie
@@ -7,7 +9,7 @@ is-knocking-requires : tie.Need-is-knocking-requires
 is-knocking-requires c κs = search needs
 
 returns : tie.Need-returns
-returns c = cc
+returns c = ap (implies (c .before .before .args .v .«return_heard»)) (c .is-knocking .ensures)
 
 pub heard-sound-spec : {M : Type 1} → statement M
 heard-sound-spec = tie.close (tie.spec is-knocking-requires returns)

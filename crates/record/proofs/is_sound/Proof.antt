@@ -1,4 +1,6 @@
 -- `record::is_sound` meets its contract: it makes the tests of its definition. Assumes nothing.
+use mathlib.Core.Path.{ap₂}
+use mathlib.Core.Bool.{_&&_}
 use borrow.Author.Needs.{needs}
 use Rattle.record.specs.Soundness.{sound}
 use Rattle.record.proofs.is_sound.Statement.{statement}
@@ -33,7 +35,16 @@ enough-sound-requires c κs = search needs
 
 returns : tie.Need-returns
 unfolding sound
-returns c = cc
+returns c =
+    ap₂ _&&_ (c .before .before .before .before .before .before .before .before .numbers-sound .ensures)
+    (ap₂ _&&_ (c .before .before .before .before .before .before .before .sets-sound .ensures)
+    (ap₂ _&&_ (c .before .before .before .before .before .before .returning-sound .ensures)
+    (ap₂ _&&_ (c .before .before .before .before .before .own-sound .ensures)
+    (ap₂ _&&_ (c .before .before .before .before .knock-sound .ensures)
+    (ap₂ _&&_ (c .before .before .before .empty-sound .ensures)
+    (ap₂ _&&_ (c .before .before .heard-sound .ensures)
+    (ap₂ _&&_ (c .before .window-sound .ensures)
+    (c .enough-sound .ensures))))))))
 
 pub is-sound-spec : {M : Type 1} → statement M
 is-sound-spec =

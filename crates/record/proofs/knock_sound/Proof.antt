@@ -1,4 +1,6 @@
 -- `record::knock_sound` meets its contract: it makes the tests of its definition. Assumes nothing.
+use mathlib.Core.Path.{refl, ap₂}
+use Rattle.record.specs.Soundness.{exactly}
 use borrow.Author.Needs.{needs}
 use Rattle.record.proofs.knock_sound.Statement.{statement}
 use Rattle.record.proofs.knock_sound.Tie as tie
@@ -7,7 +9,7 @@ is-knocking-requires : tie.Need-is-knocking-requires
 is-knocking-requires c κs = search needs
 
 returns : tie.Need-returns
-returns c = cc
+returns c = ap₂ exactly (c .before .is-knocking .ensures) refl
 
 pub knock-sound-spec : {M : Type 1} → statement M
 knock-sound-spec = tie.close (tie.spec is-knocking-requires returns)

@@ -1,4 +1,6 @@
 -- `record::numbers_sound` meets its contract: it makes the tests of its definition. Assumes nothing.
+use mathlib.Core.Path.{refl, ap₂}
+use mathlib.Core.Bool.{_&&_}
 use borrow.Author.Needs.{needs}
 use Rattle.record.proofs.numbers_sound.Statement.{statement}
 use Rattle.record.proofs.numbers_sound.Tie as tie
@@ -13,7 +15,9 @@ is-node-number-requires : tie.Need-is-node-number-requires
 is-node-number-requires c κs = search needs
 
 returns : tie.Need-returns
-returns c = cc
+returns c =
+    ap₂ _&&_ (c .before .before .before .is-ring-size .ensures)
+    (ap₂ _&&_ (c .before .before .is-sponsor-count .ensures) (ap₂ _&&_ (c .before .is-node-number .ensures) refl))
 
 pub numbers-sound-spec : {M : Type 1} → statement M
 numbers-sound-spec =

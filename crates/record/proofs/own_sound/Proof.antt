@@ -1,4 +1,6 @@
 -- `record::own_sound` meets its contract: it makes the tests of its definition. Assumes nothing.
+use mathlib.Core.Path.{ap₂}
+use Rattle.record.specs.Soundness.{exactly}
 use borrow.Author.Needs.{needs}
 use Rattle.record.proofs.own_sound.Statement.{statement}
 use Rattle.record.proofs.own_sound.Tie as tie
@@ -10,7 +12,7 @@ has-requires : tie.Need-has-requires
 has-requires c κs = search needs
 
 returns : tie.Need-returns
-returns c = cc
+returns c = ap₂ exactly (c .before .is-member .ensures) (c .has .ensures)
 
 pub own-sound-spec : {M : Type 1} → statement M
 own-sound-spec = tie.close (tie.spec is-member-requires has-requires returns)

@@ -1,4 +1,6 @@
 -- `record::sets_sound` meets its contract: it makes the tests of its definition. Assumes nothing.
+use mathlib.Core.Path.{ap₂}
+use mathlib.Core.Bool.{_&&_}
 use borrow.Author.Needs.{needs}
 use Rattle.record.proofs.sets_sound.Statement.{statement}
 use Rattle.record.proofs.sets_sound.Tie as tie
@@ -13,7 +15,7 @@ is-subset-requires : tie.Need-is-subset-requires
 is-subset-requires c κs = search needs
 
 returns : tie.Need-returns
-returns c = cc
+returns c = ap₂ _&&_ (c .before .before .is-within .ensures) (ap₂ _&&_ (c .before .is-within2 .ensures) (c .is-subset .ensures))
 
 pub sets-sound-spec : {M : Type 1} → statement M
 sets-sound-spec =

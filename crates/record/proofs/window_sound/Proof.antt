@@ -1,4 +1,7 @@
 -- `record::window_sound` meets its contract: it makes the tests of its definition. Assumes nothing.
+use mathlib.Core.Path.{ap₂}
+use mathlib.Core.Bool.{_&&_, _||_}
+use Rattle.record.specs.Soundness.{implies}
 use borrow.Author.Needs.{needs}
 use Rattle.record.proofs.window_sound.Statement.{statement}
 use Rattle.record.proofs.window_sound.Tie as tie
@@ -13,7 +16,9 @@ window-empty-requires : tie.Need-window-empty-requires
 window-empty-requires c κs = search needs
 
 returns : tie.Need-returns
-returns c = cc
+returns c =
+    ap₂ _&&_ (ap₂ implies (c .before .before .is-listening .ensures) (c .before .window-in-range .ensures))
+    (ap₂ _||_ (c .before .before .is-listening .ensures) (c .window-empty .ensures))
 
 pub window-sound-spec : {M : Type 1} → statement M
 window-sound-spec =
