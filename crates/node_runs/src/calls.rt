@@ -1,4 +1,4 @@
-// The calls of `node` on a record of 51 bytes. Each answers 0 or the refusal's number.
+// The calls of `node` on a record of 51 bytes.
 use crate::block;
 use crate::block::Block;
 use crate::bytes;
@@ -7,11 +7,10 @@ use node::Answer;
 use node::Stepped;
 use record::Node;
 
-fn number_of(answer: Answer) -> u32 {
-    match answer {
-        Answer::Done => 0,
-        Answer::Refused(refusal) => refusal::number(refusal),
-    }
+// 0 or the refusal's number, and how many bytes were sent.
+pub struct Outcome {
+    pub number: u32,
+    pub sent: usize,
 }
 
 // The record becomes the one of the answer.
@@ -19,11 +18,14 @@ fn kept(record: &mut Block, stepped: Stepped) -> u32 {
     let node = stepped.node;
     let answer = stepped.answer;
     bytes::set_node(record, node);
-    number_of(answer)
+    match answer {
+        Answer::Done => 0,
+        Answer::Refused(refusal) => refusal::number(refusal),
+    }
 }
 
 // A refused set-up leaves the record that there was.
-pub fn set_up(record: &mut Block, arguments: &Block) -> u32 {
+fn set_up(record: &mut Block, arguments: &Block) -> u32 {
     let n = block::word(arguments, 0);
     let k = block::word(arguments, 4);
     let own = block::word(arguments, 8);
@@ -35,40 +37,63 @@ pub fn set_up(record: &mut Block, arguments: &Block) -> u32 {
     }
 }
 
-// A slot in which the first `length` of these bytes are heard.
-fn slot_of(node: Node, heard: &[u8], length: usize) -> Stepped {
-    if length <= heard.len() {
-        let part = &heard[0..length];
-        node::slot(part, node)
+// The first bytes, all if there are not so many.
+fn part(bytes: &[u8], length: usize) -> &[u8] {
+    if length <= bytes.len() {
+        &bytes[0..length]
     } else {
-        node::slot(heard, node)
+        bytes
     }
 }
 
-pub fn slot(record: &mut Block, heard: &Block, length: u8) -> u32 {
-    let node = bytes::node_of(record);
-    kept(record, slot_of(node, heard, length as usize))
-}
-
-pub fn off(record: &mut Block) -> u32 {
-    let node = bytes::node_of(record);
-    kept(record, node::off(node))
-}
-
-pub fn restart(record: &mut Block) -> u32 {
-    let node = bytes::node_of(record);
-    kept(record, node::restart(node))
+fn slot(node: Node, heard: &[u8], length: u8) -> Stepped {
+    node::slot(part(heard, length as usize), node)
 }
 
 fn send_into(node: Node, out: &mut [u8], room: usize) -> Written {
     if room <= out.len() {
         node::send(node, &mut out[0..room])
     } else {
-        node::send(node, out)
+        Written::Bytes(0)
     }
 }
 
 // Sends into the first `room` bytes of `out`.
-pub fn send(record: &Block, out: &mut Block, room: u8) -> Written {
-    send_into(bytes::node_of(record), out, room as usize)
+fn send(record: &Block, out: &mut Block, room: u8) -> Outcome {
+    let written = send_into(bytes::node_of(record), out, room as usize);
+    match written {
+        Written::Bytes(n) => Outcome { number: 0, sent: n },
+        Written::Refused(refusal) => Outcome {
+            number: refusal::number(refusal),
+            sent: 0,
+        },
+    }
+}
+
+fn stepped(record: &Block, arguments: &Block, letter: u8, size: u8) -> Stepped {
+    let node = bytes::node_of(record);
+    match letter {
+        b'S' => slot(node, arguments, size),
+        b'F' => node::off(node),
+        _ => node::restart(node),
+    }
+}
+
+// Carries a command out. What it hears or loads, and where it sends, are the first bytes of `block`.
+pub fn call(record: &mut Block, block: &mut Block, letter: u8, size: u8) -> Outcome {
+    match letter {
+        b'L' => {
+            *record = *block;
+            Outcome { number: 0, sent: 0 }
+        }
+        b'T' => send(record, block, size),
+        b'U' => Outcome {
+            number: set_up(record, block),
+            sent: 0,
+        },
+        _ => Outcome {
+            number: kept(record, stepped(record, block, letter, size)),
+            sent: 0,
+        },
+    }
 }
