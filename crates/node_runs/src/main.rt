@@ -11,15 +11,14 @@
 //
 // U, S, F and R are answered by a byte, 0 or the refusal's number, and the record; T by such a byte,
 // the number of bytes written, and the whole buffer. Any other byte ends the run.
-mod block;
-mod bytes;
-mod calls;
 mod input;
 mod output;
 
-use block::Block;
-use calls::Outcome;
 use input::Unread;
+use node_bytes::block::Block;
+use node_bytes::bytes;
+use node_bytes::calls;
+use node_bytes::calls::Outcome;
 
 // A command: its letter, and its size if it has one.
 struct Command {
