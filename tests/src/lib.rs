@@ -1,4 +1,4 @@
-//! The library beside a model written from document 01 alone.
+//! The library beside a model written from document 01, not from the library's code.
 
 pub mod library;
 pub mod messages;
