@@ -1,0 +1,147 @@
+-- What each call of the bench answers and what table it leaves, refusals included (document 01, "The bench" and "Causes and their numbers"):
+-- "Checks run in table order, except that .. 4 comes just before 3 where n is taken from a record .. Off and restart don't test 5." A refused call
+-- leaves the table as it was.
+use Prim.Native.Nat.{ℕ, max}
+use mathlib.Core.Bool.{Bool, true, false, cond, not, _&&_, _||_}
+use mathlib.Core.List.{List, [], _∷_}
+use lib.Dec.{eqb, leb, ltb}
+use lib.ListN.{length}
+use Rattle.refusal.specs.declared.Refusal.{Refusal}
+use Rattle.refusal.specs.declared.Refusal.the-variants.{RingSize, SponsorCount, NodeNumber, Unsound, SlotLimit, MessageLength, OutputShort, NotOut}
+use Rattle.nodeset.specs.Sets.{has, within, distance}
+use Rattle.ring.specs.Ring.{ringSize, sponsorCount, nodeNumber}
+use Rattle.message.specs.declared.Reading.{Reading}
+use Rattle.message.specs.declared.Reading.the-variants as reading
+use Rattle.record.specs.declared.Node.{Node}
+use Rattle.record.specs.States.{isMember, isOut}
+use Rattle.record.specs.Soundness.{limit}
+use Rattle.changes.specs.Changes.{starting}
+use Rattle.sending.specs.Sending.{sends, bitsSent, returnSent}
+use Rattle.node.specs.declared.Answer.{Answer}
+use Rattle.node.specs.declared.Answer.the-variants.{Done, Refused}
+use Rattle.node.specs.Calls as node
+use Rattle.bench.specs.declared.Listed.{Listed}
+use Rattle.bench.specs.declared.Listed.the-variants as listed
+use Rattle.bench.specs.declared.Apart.{Apart}
+use Rattle.bench.specs.declared.Apart.the-variants as apart
+use Rattle.bench.specs.declared.Fate.{Fate}
+use Rattle.bench.specs.declared.Fate.the-variants as fate
+use Rattle.bench.specs.declared.Next.{Next}
+use Rattle.bench.specs.declared.Next.the-variants as next
+use Rattle.bench.specs.Table.{Table, recordOf, each, tableSound, ringOf, slotsOf, speaker}
+
+-- The table after a call, and what is answered.
+pub record Called : Type 0 where
+  pub table : Table
+  pub answer : Answer
+
+abbrev pub done : Table → Called
+done t = record { table = t; answer = Done }
+
+-- What comes of a call where a test holds; where it does not, the refusal.
+abbrev pub ifPassed : Bool → Refusal → Table → Called → Called
+ifPassed true cause t called = called
+ifPassed false cause t called = record { table = t; answer = Refused cause }
+
+-- ---- set-up: 1, 2 and 4
+
+-- "All start as members, set full, all marks on, returning 0."
+abbrev pub startTable : ℕ → ℕ → Table → Table
+startTable n k t = each (λ i v. starting n k i) t
+
+unfoldable pub setUpOf : ℕ → ℕ → Table → Called
+setUpOf n k t =
+    ifPassed (ringSize n) RingSize t
+    (ifPassed (sponsorCount n k) SponsorCount t
+    (ifPassed (eqb (length t) n) Unsound t
+    (done (startTable n k t))))
+
+-- ---- slot: 4, 3, 5 and 9
+
+-- The next slot's sender sends.
+unfoldable pub transmits : Table → Bool
+transmits t = sends (recordOf t (speaker t))
+
+-- What is read where nothing is heard.
+abbrev pub unheard : Reading
+unheard = reading.Refused MessageLength
+
+-- What is read of the next slot's message by those that hear it. (The bytes that the node call `send` writes are read as just this: node's proofs/Sent.)
+unfoldable pub spoken : Table → Reading
+spoken t =
+    cond (transmits t) (reading.Heard (bitsSent (recordOf t (speaker t))) (returnSent (recordOf t (speaker t)))) unheard
+
+-- "One slot takes: message lost to all or not, and which nodes miss it. .. A lost message is heard by nobody, named or not." A sender hears nothing in
+-- its own slot and in a silent slot there is nothing to hear, so that being named changes nothing there.
+unfoldable pub heardBy : Bool → ℕ → Table → ℕ → Reading
+heardBy lost missed t i = cond (lost || has missed i) unheard (spoken t)
+
+-- Each record goes through the slot of the node call `step`.
+unfoldable pub afterSlot : Bool → ℕ → Table → Table
+afterSlot lost missed t = each (λ i v. node.stepOf (heardBy lost missed t i) v .node) t
+
+-- "A lent buffer of at least 64 bytes".
+unfoldable pub slotOf : Bool → ℕ → ℕ → Table → Called
+slotOf lost missed room t =
+    ifPassed (tableSound t) Unsound t
+    (ifPassed (within (ringOf t) missed) NodeNumber t
+    (ifPassed (ltb (slotsOf t) limit) SlotLimit t
+    (ifPassed (leb 64 room) OutputShort t
+    (done (afterSlot lost missed t)))))
+
+-- ---- off: 4 and 3
+
+abbrev pub afterOff : ℕ → Table → Table
+afterOff a t = each (λ i v. cond (eqb i a) (node.offOf v .node) v) t
+
+unfoldable pub offOf : ℕ → Table → Called
+offOf a t = ifPassed (tableSound t) Unsound t (ifPassed (nodeNumber (ringOf t) a) NodeNumber t (done (afterOff a t)))
+
+-- ---- restart: 4, 3 and 11
+
+abbrev pub afterRestart : ℕ → Table → Table
+afterRestart a t = each (λ i v. cond (eqb i a) (node.restartOf v .node) v) t
+
+unfoldable pub restartOf : ℕ → Table → Called
+restartOf a t =
+    ifPassed (tableSound t) Unsound t
+    (ifPassed (nodeNumber (ringOf t) a) NodeNumber t
+    (ifPassed (isOut (recordOf t a .state)) NotOut t
+    (done (afterRestart a t))))
+
+-- ---- the list: 4
+
+-- "The list is the set of the lowest-numbered member-state node".
+unfoldable pub listIn : Table → Listed
+listIn [] = listed.Nobody
+listIn (v ∷ t) = cond (isMember (v .state)) (listed.Set (v .set)) (listIn t)
+
+abbrev pub listedOf : Table → Listed
+listedOf t = cond (tableSound t) (listIn t) (listed.Refused Unsound)
+
+-- ---- the distance: 4
+
+-- The greatest distance of a set from those of the members of a table.
+unfoldable pub farthest : ℕ → ℕ → Table → ℕ
+farthest n set [] = 0
+farthest n set (v ∷ t) = max (cond (isMember (v .state)) (distance n set (v .set)) 0) (farthest n set t)
+
+-- "The greatest distance between sets of two members (0 if fewer than two)".
+unfoldable pub greatest : ℕ → Table → ℕ
+greatest n [] = 0
+greatest n (v ∷ t) = max (cond (isMember (v .state)) (farthest n (v .set) t) 0) (greatest n t)
+
+abbrev pub distanceOf : Table → Apart
+distanceOf t = cond (tableSound t) (apart.Nodes (greatest (ringOf t) t)) (apart.Refused Unsound)
+
+-- ---- the next slot: 4
+
+-- "Fate (`silent` if nothing is sent, also on a `lost` line; else `lost` if lost, a knock included; else `knock` or `sent`)" ("The bench program").
+unfoldable pub fateOf : Bool → Table → Fate
+fateOf lost t =
+    cond (transmits t)
+    (cond lost fate.Lost (cond (isMember (recordOf t (speaker t) .state)) fate.Sent fate.Knock))
+    fate.Silent
+
+abbrev pub nextOf : Bool → Table → Next
+nextOf lost t = cond (tableSound t) (next.Slot (speaker t) (fateOf lost t)) (next.Refused Unsound)

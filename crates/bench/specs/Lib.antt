@@ -1,0 +1,5 @@
+pub mod Table
+pub mod Calls
+pub mod Pairs
+pub mod Runs
+pub mod Demand

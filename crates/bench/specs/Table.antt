@@ -1,0 +1,52 @@
+-- The table (document 01, "The bench"): "a lent slice of node records, one per node in number order, all with the same n, k and slot count".
+use Prim.Native.Nat.{ℕ, zero, suc, _+_, _-_}
+use mathlib.Core.Bool.{Bool, true, false, _&&_}
+use mathlib.Core.List.{List, [], _∷_}
+use lib.Dec.{eqb}
+use lib.ListN.{length, getD}
+use Rattle.ring.specs.Ring.{sender}
+use Rattle.record.specs.declared.Node.{Node}
+use Rattle.record.specs.Soundness.{sound}
+use Rattle.node.specs.Calls.{noNode}
+
+abbrev pub Table : Type 0
+Table = List Node
+
+-- The record of node i: the i-th.
+unfoldable pub recordOf : Table → ℕ → Node
+recordOf t i = getD t (i - 1) noNode
+
+-- Each record made anew from its place and itself; the first of them stands at place i.
+unfoldable pub eachFrom : (ℕ → Node → Node) → ℕ → Table → Table
+eachFrom f i [] = []
+eachFrom f i (v ∷ t) = f i v ∷ eachFrom f (suc i) t
+
+abbrev pub each : (ℕ → Node → Node) → Table → Table
+each f t = eachFrom f 1 t
+
+-- ---- a table that is not refused by 4
+
+-- A sound record at place i of a table of n nodes with k sponsors after so many slots.
+abbrev pub inPlace : ℕ → ℕ → ℕ → ℕ → Node → Bool
+inPlace n k slots i v = sound v && (eqb (v .n) n && (eqb (v .k) k && (eqb (v .slots) slots && eqb (v .own) i)))
+
+unfoldable pub placedFrom : ℕ → ℕ → ℕ → ℕ → Table → Bool
+placedFrom n k slots i [] = true
+placedFrom n k slots i (v ∷ t) = inPlace n k slots i v && placedFrom n k slots (suc i) t
+
+-- "One per node", and n, k and slot count are those of the first record.
+unfoldable pub tableSound : Table → Bool
+tableSound [] = false
+tableSound (v ∷ t) = eqb (v .n) (suc (length t)) && placedFrom (v .n) (v .k) (v .slots) 1 (v ∷ t)
+
+-- ---- what a sound table says of the next slot
+
+abbrev pub ringOf : Table → ℕ
+ringOf t = length t
+
+unfoldable pub slotsOf : Table → ℕ
+slotsOf t = recordOf t 1 .slots
+
+-- The next slot's sender.
+unfoldable pub speaker : Table → ℕ
+speaker t = sender (ringOf t) (slotsOf t + 1)
