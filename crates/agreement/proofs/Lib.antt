@@ -1,0 +1,4 @@
+pub mod History
+pub mod Invariant
+pub mod Marks
+pub mod Outcome
