@@ -5,3 +5,5 @@ pub mod Outcome
 pub mod Listed
 pub mod Depart
 pub mod Join
+pub mod Rounds
+pub mod Outside
