@@ -7,3 +7,5 @@ pub mod Depart
 pub mod Join
 pub mod Rounds
 pub mod Outside
+pub mod Hearing
+pub mod Nodes
