@@ -2,3 +2,5 @@ pub mod History
 pub mod Invariant
 pub mod Marks
 pub mod Outcome
+pub mod Places
+pub mod Counted
