@@ -9,3 +9,5 @@ pub mod Rounds
 pub mod Outside
 pub mod Hearing
 pub mod Nodes
+pub mod Places
+pub mod Counted
