@@ -11,3 +11,4 @@ pub mod Hearing
 pub mod Nodes
 pub mod Places
 pub mod Counted
+pub mod Tables
