@@ -12,3 +12,4 @@ pub mod Nodes
 pub mod Places
 pub mod Counted
 pub mod Tables
+pub mod Slots
