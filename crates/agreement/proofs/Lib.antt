@@ -4,3 +4,5 @@ pub mod Marks
 pub mod Outcome
 pub mod Places
 pub mod Counted
+pub mod Accepted
+pub mod Runs
