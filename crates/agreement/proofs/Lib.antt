@@ -6,3 +6,4 @@ pub mod Places
 pub mod Counted
 pub mod Accepted
 pub mod Runs
+pub mod Entries
