@@ -7,3 +7,5 @@ pub mod Counted
 pub mod Accepted
 pub mod Runs
 pub mod Entries
+pub mod Onwards
+pub mod Leaving
