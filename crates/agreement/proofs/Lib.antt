@@ -2,6 +2,13 @@ pub mod History
 pub mod Invariant
 pub mod Marks
 pub mod Outcome
+pub mod Listed
+pub mod Depart
+pub mod Join
+pub mod Rounds
+pub mod Outside
+pub mod Hearing
+pub mod Nodes
 pub mod Places
 pub mod Counted
 pub mod Accepted

@@ -1,0 +1,347 @@
+-- One slot, for any node: what it was and what it is after the slot. Assumes nothing.
+use Prim.Native.Nat.{ℕ, zero, suc, _+_, _-_, _^_, _≤_, _<_}
+use mathlib.Core.Path.{_≡_, refl, sym, ap, _∙_, subst}
+use mathlib.Core.Logic.{_⊎_, inl, inr}
+use mathlib.Core.Bool.{Bool, true, false, cond, false≢true}
+use native.Mathlib.Omega.{arith}
+use lib.Dec.{eqb, ltb}
+use Rattle.nodeset.specs.Sets.{has}
+use Rattle.ring.specs.declared.Found.the-variants as found
+use Rattle.ring.specs.Ring.{sender}
+use Rattle.ring.specs.Answers.{decidedOf}
+use Rattle.message.specs.declared.Reading.{Reading}
+use Rattle.record.specs.declared.Node.{Node}
+use Rattle.record.specs.declared.Window.{Window}
+use Rattle.record.specs.declared.State.{State}
+use Rattle.record.specs.declared.State.the-variants.{Member, Listening, Following, Knocking, Out}
+use Rattle.record.specs.declared.Cause.{Cause}
+use Rattle.record.specs.States.{isMember, isListening}
+use Rattle.record.proofs.Tracking.{tracks}
+use Rattle.changes.specs.Changes.{counted, withSet, withWindow, followingWith, listeningAfter}
+use Rattle.steps.specs.Steps.{isHeard, marked, noted, settle, insideSlot, outsideSlot, trackingSlot}
+use Rattle.hearing.specs.Hearing.{overheard, clean, windowEnd, listeningSlot}
+use Rattle.node.specs.Slot.{slotIn}
+use Rattle.bench.specs.Runs.{Entry}
+use Rattle.agreement.proofs.History.{World, K, Decision}
+use Rattle.agreement.proofs.Invariant.{Tracking, ListeningInv, Awaits, aware, unaware}
+use Rattle.agreement.proofs.Marks.{no-both, bitsIn}
+use Rattle.agreement.proofs.Outcome.{choose, Gone, isout, listens, Settled, gone, kept, backed, became, joined, Departed, left, settled, Inside, missed, went, inside-law, noted-law, Noted, knocks, silent, awaits, ignores, settle-outside, setAfter}
+use Rattle.agreement.proofs.Listed.{Begins, Hears, Says}
+use Rattle.agreement.proofs.Join.{A, Next, set-after, after-inside, next-from}
+use Rattle.agreement.proofs.Outside.{OwnSlot, after-noted}
+use Rattle.agreement.proofs.Rounds.{K′}
+use Rattle.agreement.proofs.Hearing.{fresh-inv, listening-law, Hearkened, on, again, follows}
+
+pub not-listening : (st : State) → tracks st ≡ true → isListening st ≡ false
+not-listening Member f = refl
+not-listening Listening f = absurd (false≢true f)
+not-listening Following f = refl
+not-listening Knocking f = refl
+not-listening (Out x) f = refl
+
+pub listening-only : (st : State) → isListening st ≡ true → tracks st ≡ false
+listening-only Member f = absurd (false≢true f)
+listening-only Listening f = refl
+listening-only Following f = absurd (false≢true f)
+listening-only Knocking f = absurd (false≢true f)
+listening-only (Out x) f = refl
+
+-- the numbers that no slot changes, and the slot count
+pub record Basic (a b c d : ℕ) (x : Node) : Type 0 where
+  pub n-is : x .n ≡ a
+  pub k-is : x .k ≡ b
+  pub own-is : x .own ≡ c
+  pub slots-is : x .slots ≡ d
+
+-- if it listens, it has just begun
+abbrev pub JustBegun : Node → Type 0
+JustBegun x = isListening (x .state) ≡ true → (x .listening .done ≡ 0) × (x .listening .heard ≡ 0) × (x .listening .last ≡ 0)
+
+abbrev pub Like : Node → Node → Type 0
+Like v x = Basic (v .n) (v .k) (v .own) (v .slots) x × JustBegun x
+
+abbrev same-basic : (v : Node) → Basic (v .n) (v .k) (v .own) (v .slots) v
+same-basic v = record { n-is = refl; k-is = refl; own-is = refl; slots-is = refl }
+
+pub gone-like : (v x : Node) → Gone v x → Like v x
+gone-like v x (isout c e) = rw e (record { n-is = refl; k-is = refl; own-is = refl; slots-is = refl }, λ p. absurd (false≢true p))
+gone-like v x (listens e) = rw e (record { n-is = refl; k-is = refl; own-is = refl; slots-is = refl }, λ p. (refl, refl, refl))
+
+pub gone-not : (v x : Node) → Gone v x → tracks (x .state) ≡ false
+gone-not v x (isout c e) = rw e refl
+gone-not v x (listens e) = rw e refl
+
+settled-like : (b : Bool) (s : ℕ) (v x : Node) → isListening (v .state) ≡ false → Settled b s v x → Like v x
+settled-like b s v x nl (gone g) = gone-like v x g
+settled-like b s v x nl (kept f e) = rw e (same-basic v, λ p. absurd (no-both p nl))
+settled-like b s v x nl (backed j kn h e) = rw e (record { n-is = refl; k-is = refl; own-is = refl; slots-is = refl }, λ p. absurd (false≢true p))
+settled-like b s v x nl (became j kn h e) = rw e (record { n-is = refl; k-is = refl; own-is = refl; slots-is = refl }, λ p. absurd (false≢true p))
+settled-like b s v x nl (joined j nk e) = rw e (record { n-is = refl; k-is = refl; own-is = refl; slots-is = refl }, λ p. absurd (no-both p nl))
+
+departed-like : (s m : ℕ) (v x : Node) → isListening (v .state) ≡ false → Departed s m v x → Like v x
+departed-like s m v x nl (left g) = gone-like v x g
+departed-like s m v x nl (settled ne st) = settled-like true s (withSet (setAfter m v) v) x nl st
+
+inside-like : (s m : ℕ) (r : Reading) (v x : Node) → isListening (v .state) ≡ false → Inside s m r v x → Like v x
+inside-like s m r v x nl (missed g) = gone-like v x g
+inside-like s m r v x nl (went f d) = departed-like s m (marked s r v) x nl d
+
+noted-like : (s : ℕ) (heard : Reading) (v x : Node) → isListening (v .state) ≡ false → Noted s heard v x → Basic (v .n) (v .k) (v .own) (v .slots) x × (isListening (x .state) ≡ false)
+noted-like s heard v x nl (knocks a b c e) = rw e (record { n-is = refl; k-is = refl; own-is = refl; slots-is = refl }, refl)
+noted-like s heard v x nl (silent a b e) = rw e (same-basic v, nl)
+noted-like s heard v x nl (awaits a b c e) = rw e (record { n-is = refl; k-is = refl; own-is = refl; slots-is = refl }, nl)
+noted-like s heard v x nl (ignores a b e) = rw e (same-basic v, nl)
+
+pub member-tracks : (st : State) → isMember st ≡ true → tracks st ≡ true
+member-tracks Member f = refl
+member-tracks Listening f = absurd (false≢true f)
+member-tracks Following f = refl
+member-tracks Knocking f = refl
+member-tracks (Out x) f = absurd (false≢true f)
+
+listening-no-member : (st : State) → isListening st ≡ true → isMember st ≡ false
+listening-no-member Member f = absurd (false≢true f)
+listening-no-member Listening f = refl
+listening-no-member Following f = refl
+listening-no-member Knocking f = refl
+listening-no-member (Out x) f = refl
+
+listening-not-member : (s : ℕ) (r : Reading) (v : Node) → isListening (v .state) ≡ true → isMember (listeningSlot s r v .state) ≡ false
+unfolding listeningSlot windowEnd
+listening-not-member s r v li = go (overheard s r (v .listening))
+  where
+    go : (l : Window) → isMember (cond (ltb (l .done) (v .n)) (withWindow l v) (cond (clean (v .n) (v .k) l) (cond (eqb (l .last) (l .heard)) (followingWith (l .heard) v) (listeningAfter (l .heard) v)) (listeningAfter 0 v)) .state) ≡ false
+    go l = choose (λ (x : Node). isMember (x .state) ≡ false) (ltb (l .done) (v .n)) (withWindow l v) _
+        (λ _. listening-no-member (v .state) li)
+        (λ _. choose (λ (x : Node). isMember (x .state) ≡ false) (clean (v .n) (v .k) l) _ (listeningAfter 0 v)
+        (λ _. choose (λ (x : Node). isMember (x .state) ≡ false) (eqb (l .last) (l .heard)) (followingWith (l .heard) v) (listeningAfter (l .heard) v) (λ _. refl) (λ _. refl))
+        (λ _. refl))
+
+-- by what a node is
+pub by-state : (P : Node → Type 0) (v : Node) (s : ℕ) (r : Reading)
+    → (tracks (v .state) ≡ true → P (trackingSlot s r (counted v)))
+    → (isListening (v .state) ≡ true → P (listeningSlot s r (counted v)))
+    → ((c : Cause) → v .state ≡ Out c → P (counted v))
+    → P (slotIn (v .state) s r (counted v))
+by-state P v s r f g o = go (v .state) refl
+  where
+    go : (st : State) → v .state ≡ st → P (slotIn st s r (counted v))
+    go Member e = f (rw e refl)
+    go Listening e = g (rw e refl)
+    go Following e = f (rw e refl)
+    go Knocking e = f (rw e refl)
+    go (Out c) e = o c e
+
+module _ (W : World) where
+  open World W using (n, k, n-pos, E)
+
+  pub record NodeInv (N L i : ℕ) (v : Node) : Type 0 where
+    pub n-is : v .n ≡ n
+    pub k-is : v .k ≡ k
+    pub own-is : v .own ≡ i
+    pub slots-is : v .slots + n ≡ N
+    pub track : tracks (v .state) ≡ true → Tracking W N L i v
+    pub listen : isListening (v .state) ≡ true → ListeningInv W N i v
+
+  -- counting the slot changes nothing else
+  pub counted-inv : (N L i : ℕ) (v : Node) → Tracking W N L i v → Tracking W N L i (counted v)
+  counted-inv N L i v iv = record {
+    set-is = iv .set-is;
+    own-in = iv .own-in;
+    own-out = iv .own-out;
+    marks-off = iv .marks-off;
+    marks-on = λ u e z l p q off. let o = iv .marks-on u e z l p q off in record { member = o .member; listed = o .listed; who = o .who; untold = o .untold };
+    knock = λ nz. let κ = iv .knock nz in record { w = κ .w; e = κ .e; ago = κ .ago; recent = κ .recent; unlisted = κ .unlisted; outer = κ .outer; it = κ .it; away = κ .away; p = κ .p; ahead = κ .ahead; soon = κ .soon; next = κ .next; how = κ .how };
+    open-knock = λ w e z l a b c. copy w (iv .open-knock w e z l a b c);
+    knocking-own = iv .knocking-own;
+    own-knocking = iv .own-knocking;
+    quiet = iv .quiet;
+    lost-knock = iv .lost-knock;
+  }
+    where
+      copy : (w : ℕ) → Awaits W N i w v → Awaits W N i w (counted v)
+      copy w (aware q f) = aware q f
+      copy w (unaware q f g x un) = unaware q f g x un
+
+  counted-listening : (N i : ℕ) (v : Node) → ListeningInv W N i v → ListeningInv W N i (counted v)
+  counted-listening N i v iv = record { short = iv .short; heard-lt = iv .heard-lt; last-lt = iv .last-lt; own-unheard = iv .own-unheard; heard-is = iv .heard-is; heard-only = iv .heard-only; knock-shows = iv .knock-shows; last-is = iv .last-is }
+
+  counted-hears : (N i : ℕ) (v : Node) (r : Reading) → Hears W N i v r → Hears W N i (counted v) r
+  counted-hears N i v r h = record { own = h .own; unsent = h .unsent; missing = h .missing }
+
+  -- a node's claims after the slot
+  finish : (N L L′ i : ℕ) (v x : Node) → NodeInv N L i v → Like (counted v) x → (tracks (x .state) ≡ false) ⊎ Tracking W (suc N) L′ i x → NodeInv (suc N) L′ i x
+  finish N L L′ i v x nv lk r = record {
+    n-is = lk .0 .n-is ∙ nv .n-is;
+    k-is = lk .0 .k-is ∙ nv .k-is;
+    own-is = lk .0 .own-is ∙ nv .own-is;
+    slots-is = omega (arith, lk .0 .slots-is, nv .slots-is);
+    track = λ p. go p r;
+    listen = λ p. fresh-inv W (suc N) i x (lk .1 p .0) (lk .1 p .1) (lk .1 p .2);
+  }
+    where
+      go : tracks (x .state) ≡ true → (tracks (x .state) ≡ false) ⊎ Tracking W (suc N) L′ i x → Tracking W (suc N) L′ i x
+      go p (inl g) = absurd (no-both p g)
+      go p (inr t) = t
+
+  out-after : (N L L′ i : ℕ) (v : Node) → NodeInv N L i v → (c : Cause) → v .state ≡ Out c → NodeInv (suc N) L′ i (counted v)
+  out-after N L L′ i v nv c e = record {
+    n-is = nv .n-is;
+    k-is = nv .k-is;
+    own-is = nv .own-is;
+    slots-is = omega (arith, nv .slots-is);
+    track = λ p. absurd (false≢true (sym (ap tracks e) ∙ p));
+    listen = λ p. absurd (false≢true (sym (ap isListening e) ∙ p));
+  }
+
+  -- a listening node
+  pub listening-after : (N L L′ i : ℕ) → n ≤ N → 1 ≤ i → K W (suc N) L′ → K′ W (suc N) → L′ < 2 ^ n → (v : Node) → NodeInv N L i v → isListening (v .state) ≡ true
+      → (r : Reading) → isHeard r ≡ E (suc N) .sent → (i ≡ sender n (suc N) → isHeard r ≡ false)
+      → (E (suc N) .sent ≡ true → E (suc N) .listed ≡ false → bitsIn r ≡ 0)
+      → NodeInv (suc N) L′ i (listeningSlot (sender n (suc N)) r (counted v))
+  listening-after N L L′ i late i-pos κ κ′ small v nv li r hq own kb =
+      go _ (listening-law W N i late (counted v) (counted-listening N i v (nv .listen li)) r hq own kb (nv .n-is) (nv .k-is) i-pos L′ κ κ′ small)
+    where
+      go : (x : Node) → Hearkened W N i late (counted v) (counted-listening N i v (nv .listen li)) r hq own kb L′ x → NodeInv (suc N) L′ i x
+      go x (on l e q) = record {
+        n-is = ap (λ (y : Node). y .n) e ∙ nv .n-is;
+        k-is = ap (λ (y : Node). y .k) e ∙ nv .k-is;
+        own-is = ap (λ (y : Node). y .own) e ∙ nv .own-is;
+        slots-is = omega (arith, ap (λ (y : Node). y .slots) e, nv .slots-is);
+        track = λ p. absurd (no-both p (ap (λ (y : Node). tracks (y .state)) e ∙ listening-only (v .state) li));
+        listen = λ p. q;
+      }
+      go x (again b e q) = record {
+        n-is = ap (λ (y : Node). y .n) e ∙ nv .n-is;
+        k-is = ap (λ (y : Node). y .k) e ∙ nv .k-is;
+        own-is = ap (λ (y : Node). y .own) e ∙ nv .own-is;
+        slots-is = omega (arith, ap (λ (y : Node). y .slots) e, nv .slots-is);
+        track = λ p. absurd (no-both p (ap (λ (y : Node). tracks (y .state)) e));
+        listen = λ p. q;
+      }
+      go x (follows b e q) = record {
+        n-is = ap (λ (y : Node). y .n) e ∙ nv .n-is;
+        k-is = ap (λ (y : Node). y .k) e ∙ nv .k-is;
+        own-is = ap (λ (y : Node). y .own) e ∙ nv .own-is;
+        slots-is = omega (arith, ap (λ (y : Node). y .slots) e, nv .slots-is);
+        track = λ p. q;
+        listen = λ p. absurd (no-both p (ap (λ (y : Node). isListening (y .state)) e));
+      }
+
+  -- what node i hears of the slot, whatever it is
+  pub record HearsAny (N i : ℕ) (v : Node) (r : Reading) : Type 0 where
+    pub own : i ≡ sender n (suc N) → isHeard r ≡ false
+    pub tracking : tracks (v .state) ≡ true → Hears W N i v r
+    pub listening : isListening (v .state) ≡ true → isHeard r ≡ E (suc N) .sent
+
+  -- a listed slot
+  module _ (N L : ℕ) (B : Begins W N L) (lT : E (suc N) .listed ≡ true) (onL : has L (sender n (suc N)) ≡ true) (D : Decision W N L) where
+    abbrev s : ℕ
+    s = sender n (suc N)
+
+    -- the decided member
+    abbrev d : ℕ
+    d = sender n (D .u)
+
+    module _ (r : Reading) (says : isHeard r ≡ true → Says W N L r)
+        (i : ℕ) (i-pos : 1 ≤ i) (i-le : i ≤ n) (v : Node) (nv : NodeInv N L i v) (h : HearsAny N i v r) where
+      is-inside : (tr : tracks (v .state) ≡ true) → trackingSlot s r (counted v) ≡ insideSlot s r (counted v)
+      unfolding trackingSlot
+      is-inside tr =
+          let e : has (v .set) s ≡ true = ap (λ (y : ℕ). has y s) (nv .track tr .set-is) ∙ onL in
+          rw e refl
+
+      module _ (tr : tracks (v .state) ≡ true) where
+        iv : Tracking W N L i (counted v)
+        iv = counted-inv N L i v (nv .track tr)
+
+        hv : Hears W N i (counted v) r
+        hv = counted-hears N i v r (h .tracking tr)
+
+        decides-it : decidedOf (v .n) (v .k) (v .set) s ≡ found.Member d
+        decides-it = rw (nv .n-is, nv .k-is, nv .track tr .set-is) (D .it)
+
+        outcome : Inside s d r (counted v) (insideSlot s r (counted v))
+        outcome = inside-law s d r (counted v) decides-it
+
+        settled-at : (x : Node) → Settled true s (withSet (setAfter d (marked s r (counted v))) (marked s r (counted v))) x
+            → Settled true s (withSet (A W N L B lT onL D) (marked s r (counted v))) x
+        settled-at x st = subst (λ (y : ℕ). Settled true s (withSet y (marked s r (counted v))) x)
+            (set-after W N L B lT onL D r says i i-pos i-le (counted v) (nv .n-is) (nv .k-is) (nv .own-is) iv hv) st
+
+        tracked : (L′ : ℕ) → Next W N L B lT onL D L′ → (x : Node) → Inside s d r (counted v) x → (tracks (x .state) ≡ false) ⊎ Tracking W (suc N) L′ i x
+        tracked L′ nx x (missed g) = inl (gone-not (counted v) x g)
+        tracked L′ nx x (went ok (left g)) = inl (gone-not (marked s r (counted v)) x g)
+        tracked L′ nx x (went ok (settled ne st)) =
+            go (after-inside W N L B lT onL D r says i i-pos i-le (counted v) (nv .n-is) (nv .k-is) (nv .own-is) iv hv L′ nx ok ne x (settled-at x st))
+          where
+            go : Gone (withSet (A W N L B lT onL D) (marked s r (counted v))) x ⊎ Tracking W (suc N) L′ i x → (tracks (x .state) ≡ false) ⊎ Tracking W (suc N) L′ i x
+            go (inl g) = inl (gone-not _ x g)
+            go (inr t) = inr t
+
+        next-of : (x : Node) → Inside s d r (counted v) x → tracks (x .state) ≡ true → Next W N L B lT onL D (x .set)
+        next-of x (missed g) p = absurd (no-both p (gone-not (counted v) x g))
+        next-of x (went ok (left g)) p = absurd (no-both p (gone-not (marked s r (counted v)) x g))
+        next-of x (went ok (settled ne st)) p =
+            go (next-from W N L B lT onL D r says i i-pos i-le (counted v) (nv .n-is) (nv .k-is) (nv .own-is) iv hv ok x (settled-at x st))
+          where
+            go : Gone (withSet (A W N L B lT onL D) (marked s r (counted v))) x ⊎ Next W N L B lT onL D (x .set) → Next W N L B lT onL D (x .set)
+            go (inl g) = absurd (no-both p (gone-not _ x g))
+            go (inr t) = t
+
+        tracking-after : (L′ : ℕ) → Next W N L B lT onL D L′ → NodeInv (suc N) L′ i (trackingSlot s r (counted v))
+        tracking-after L′ nx = rw (is-inside tr) (finish N L L′ i v _ nv
+            (inside-like s d r (counted v) _ (not-listening (v .state) tr) outcome)
+            (tracked L′ nx _ outcome))
+
+      pub listed-after : (L′ : ℕ) → Next W N L B lT onL D L′ → K W (suc N) L′ → K′ W (suc N) → L′ < 2 ^ n → NodeInv (suc N) L′ i (slotIn (v .state) s r (counted v))
+      listed-after L′ nx κ κ′ small = by-state (NodeInv (suc N) L′ i) v s r
+          (λ tr. tracking-after tr L′ nx)
+          (λ li. listening-after N L L′ i (B .late) i-pos κ κ′ small v nv li r (h .listening li) (h .own) (λ _ u. absurd (no-both lT u)))
+          (λ c e. out-after N L L′ i v nv c e)
+
+      -- the list after the slot, as a member-state node has it
+      pub next-list : isMember (slotIn (v .state) s r (counted v) .state) ≡ true → Next W N L B lT onL D (slotIn (v .state) s r (counted v) .set)
+      next-list = by-state (λ (x : Node). isMember (x .state) ≡ true → Next W N L B lT onL D (x .set)) v s r
+          (λ tr. rw (is-inside tr) (λ p. next-of tr _ (outcome tr) (member-tracks (insideSlot s r (counted v) .state) p)))
+          (λ li p. absurd (no-both p (listening-not-member s r (counted v) li)))
+          (λ c e p. absurd (false≢true (sym (ap isMember e) ∙ p)))
+
+  -- a slot outside the list
+  module _ (N L : ℕ) (B : Begins W N L) (lT : E (suc N) .listed ≡ false) (offL : has L (sender n (suc N)) ≡ false)
+      (i : ℕ) (i-pos : 1 ≤ i) (v : Node) (nv : NodeInv N L i v) (r : Reading) (h : HearsAny N i v r) (o : OwnSlot W N i v)
+      (knock-bits : E (suc N) .sent ≡ true → bitsIn r ≡ 0) where
+    is-outside : (tr : tracks (v .state) ≡ true) → trackingSlot (sender n (suc N)) r (counted v) ≡ outsideSlot (sender n (suc N)) r (counted v)
+    unfolding trackingSlot
+    is-outside tr =
+        let e : has (v .set) (sender n (suc N)) ≡ false = ap (λ (y : ℕ). has y (sender n (suc N))) (nv .track tr .set-is) ∙ offL in
+        rw e refl
+
+    own-counted : OwnSlot W N i (counted v)
+    own-counted = record { out = o .out; sent = o .sent }
+
+    outside-slot : (tr : tracks (v .state) ≡ true) → Like (counted v) (outsideSlot (sender n (suc N)) r (counted v)) × ((tracks (outsideSlot (sender n (suc N)) r (counted v) .state) ≡ false) ⊎ Tracking W (suc N) L i (outsideSlot (sender n (suc N)) r (counted v)))
+    unfolding outsideSlot
+    outside-slot tr = go (noted (sender n (suc N)) r (counted v)) (noted-law (sender n (suc N)) r (counted v))
+      where
+        go : (y : Node) → Noted (sender n (suc N)) r (counted v) y → Like (counted v) (settle false (sender n (suc N)) y) × ((tracks (settle false (sender n (suc N)) y .state) ≡ false) ⊎ Tracking W (suc N) L i (settle false (sender n (suc N)) y))
+        go y nt = two (settle false (sender n (suc N)) y) (settle-outside (sender n (suc N)) y)
+          where
+            b : Basic (v .n) (v .k) (v .own) (v .slots + 1) y × (isListening (y .state) ≡ false)
+            b = noted-like (sender n (suc N)) r (counted v) y (not-listening (v .state) tr) nt
+
+            over : (x : Node) → Basic (y .n) (y .k) (y .own) (y .slots) x → Basic (v .n) (v .k) (v .own) (v .slots + 1) x
+            over x c = record { n-is = c .n-is ∙ b .0 .n-is; k-is = c .k-is ∙ b .0 .k-is; own-is = c .own-is ∙ b .0 .own-is; slots-is = c .slots-is ∙ b .0 .slots-is }
+
+            two : (x : Node) → Gone y x ⊎ (x ≡ y) → Like (counted v) x × ((tracks (x .state) ≡ false) ⊎ Tracking W (suc N) L i x)
+            two x (inl g) = ((over x (gone-like y x g .0), gone-like y x g .1), inl (gone-not y x g))
+            two x (inr e) = rw e (
+              (b .0, λ p. absurd (no-both p (b .1))),
+              inr (after-noted W N L B lT offL i i-pos (counted v) (nv .own-is) (counted-inv N L i v (nv .track tr)) r (counted-hears N i v r (h .tracking tr)) own-counted y nt),
+            )
+
+    pub outside-after : K W (suc N) L → K′ W (suc N) → L < 2 ^ n → NodeInv (suc N) L i (slotIn (v .state) (sender n (suc N)) r (counted v))
+    outside-after κ κ′ small = by-state (NodeInv (suc N) L i) v (sender n (suc N)) r
+        (λ tr. rw (is-outside tr) (finish N L L i v _ nv (outside-slot tr .0) (outside-slot tr .1)))
+        (λ li. listening-after N L L i (B .late) i-pos κ κ′ small v nv li r (h .listening li) (h .own) (λ q _. knock-bits q))
+        (λ c e. out-after N L L i v nv c e)
