@@ -1,31 +1,34 @@
 -- The leaving time: the slot of the k-th member after a failed sender is the one in which k listed slots have been since. Assumes nothing.
 use Prim.Native.Nat.{ℕ, suc, _+_, _-_, _≤_, _<_}
-use mathlib.Core.Path.{_≡_, sym, ap, _∙_}
+use mathlib.Core.Path.{_≡_, refl, sym, ap, _∙_}
 use mathlib.Core.Logic.{_≢_}
+use mathlib.Core.Bool.{false, true≢false}
 use native.Mathlib.Omega.{arith}
 use native.Mathlib.Decide.{decLt}
+use borrow.Author.Tests.{eq-eqb}
 use Rattle.nodeset.specs.Sums.{sum, num}
 use Rattle.nodeset.specs.Sets.{has, size}
 use Rattle.nodeset.proofs.Sums.{sum-next}
+use Rattle.ring.specs.declared.Found.{Found}
 use Rattle.ring.specs.declared.Found.the-variants.{Member}
 use Rattle.ring.specs.Ring.{sender}
 use Rattle.ring.proofs.Senders.{same-slot, size-round}
 use Rattle.ring.proofs.Walks.{member}
+use Rattle.steps.specs.Steps.{isFound}
 use Rattle.bench.specs.Demand.{memberAfter}
 use Rattle.agreement.proofs.History.{World, K, lst, span, num-is, sum-more}
+use Rattle.agreement.proofs.Depart.{since-next}
 use Rattle.agreement.proofs.Onwards.{Ahead, onwards-meets}
 
 same-member : (x y : ℕ) → Member x ≡ Member y → x ≡ y
 same-member x y e = cc
 
+-- the test of the found member says no
+pub not-found : (x : ℕ) (f : Found) → isFound x f ≡ false → f ≢ Member x
+not-found x f e q = true≢false (sym (ap (isFound x) q ∙ eq-eqb x x refl) ∙ e)
+
 module _ (W : World) where
   open World W using (n, k, n-pos, k-two, E)
-
-  -- the listed slots since u, with one slot more
-  since-next : (N u e : ℕ) → u + e ≡ N → sum (lst W) (suc u) (suc e) ≡ sum (lst W) (suc u) e + lst W (suc N)
-  since-next N u e z =
-      let y : suc u + e ≡ suc N = omega arith in
-      omega (arith, sum-next (lst W) (suc u) e, ap (lst W) y)
 
   module _ (N L : ℕ) (κ : K W N L) (enough : k < size n L) (listed-is : E (suc N) .listed ≡ has L (sender n (suc N)))
       (u e : ℕ) (u-pos : 1 ≤ u) (ago : u + e ≡ N) (recent : suc e < n) (waits : sum (lst W) (suc u) e < k) where
@@ -39,7 +42,7 @@ module _ (W : World) where
     counts : sum m (suc u) (suc e) ≡ sum (lst W) (suc u) (suc e)
     counts =
         let z : suc u + e ≡ suc N = omega arith in
-        omega (arith, sum-next m (suc u) e, ap m z, span W N L κ e u ago (omega arith) waits, since-next N u e ago, ap num listed-is)
+        omega (arith, sum-next m (suc u) e, ap m z, span W N L κ e u ago (omega arith) waits, since-next W N u e ago, ap num listed-is)
 
     pub deciding : memberAfter n L (sender n u) k ≡ Member (sender n (suc N)) → k ≤ sum (lst W) (suc u) (suc e)
     deciding q = go ahead

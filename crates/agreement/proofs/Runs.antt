@@ -12,7 +12,7 @@ use borrow.Author.Tests.{le-leb, ltb-true}
 use Rattle.nodeset.specs.Sums.{num}
 use Rattle.nodeset.specs.Sets.{within}
 use Rattle.nodeset.proofs.Tests.{by-cases, both, all}
-use Rattle.ring.specs.Ring.{ringSize, sponsorCount, nodeNumber}
+use Rattle.ring.specs.Ring.{ringSize, sponsorCount, nodeNumber, sender}
 use Rattle.message.specs.declared.Reading.{Reading}
 use Rattle.record.specs.declared.Node.{Node}
 use Rattle.record.specs.Soundness.{limit, sound}
@@ -20,7 +20,7 @@ use Rattle.changes.specs.Changes.{starting}
 use Rattle.changes.proofs.Sound.{starting-sound}
 use Rattle.node.specs.Calls.{stepOf, offOf, restartOf}
 use Rattle.node.proofs.Sound.{step-sound, off-sound, restart-sound}
-use Rattle.bench.specs.Table.{Table, recordOf, each, tableSound, ringOf, slotsOf}
+use Rattle.bench.specs.Table.{Table, recordOf, each, tableSound, ringOf, slotsOf, speaker}
 use Rattle.bench.specs.Calls.{startTable, setUpOf, heardBy, afterSlot, afterOff, afterRestart}
 use Rattle.bench.specs.Runs.{Call, slot, off, restart, callOf, tableAfter, isSlot}
 use Rattle.agreement.proofs.Outcome.{choose}
@@ -63,6 +63,10 @@ module _ (n k slots : ℕ) (t : Table) (pos : 1 ≤ n) (P : Placed n k slots t) 
   -- the slot count that the slot call tests
   slots-are : slotsOf t ≡ slots
   slots-are = slots-of-placed n k slots t pos P
+
+  pub speaker-placed : speaker t ≡ sender n (slots + 1)
+  unfolding speaker
+  speaker-placed = ap (λ (m : ℕ). sender m (slotsOf t + 1)) (P .length-is) ∙ ap (λ (s : ℕ). sender n (s + 1)) slots-are
 
   placed-slot : (lost : Bool) (missed : ℕ) → slots < limit → Placed n k (slots + 1) (afterSlot lost missed t)
   placed-slot lost missed l = record { length-is = after-slot-length lost missed t ∙ P .length-is; at = at }
@@ -160,6 +164,9 @@ module _ (n k : ℕ) (pos : 1 ≤ n) (start : Table) (begins : Placed n k 0 star
 
   pub run-length : (cs : List Call) → length (tableAfter start cs) ≡ n
   run-length cs = placed-run cs .length-is
+
+  pub speaker-run : (cs : List Call) → speaker (tableAfter start cs) ≡ sender n (slotsOf (tableAfter start cs) + 1)
+  speaker-run cs = speaker-placed n k (slotsOf (tableAfter start cs)) (tableAfter start cs) pos (placed-run cs)
 
   pub slots-next : (c : Call) (cs : List Call) → slotsOf (tableAfter start (c ∷ cs)) ≡ slotsOf (tableAfter start cs) + num (isSlot c (tableAfter start cs))
   unfolding tableAfter
