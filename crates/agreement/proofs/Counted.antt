@@ -1,8 +1,8 @@
 -- The calls on a record keep its n, k and own number; a slot counts one, off and restart count none (node's specs/Calls). Assumes nothing.
 use Prim.Native.Nat.{ℕ, _+_, _<_}
-use mathlib.Core.Path.{_≡_, refl, sym, ap, _∙_}
+use mathlib.Core.Path.{_≡_, refl, ap, _∙_}
 use mathlib.Core.Bool.{Bool, true, false, cond, not, _&&_}
-use lib.Dec.{eqb, leb, ltb}
+use lib.Dec.{eqb, ltb}
 use borrow.Author.Tests.{lt-leb}
 use Rattle.nodeset.specs.Sets.{has, without}
 use Rattle.nodeset.proofs.Tests.{chosen, otherwise}

@@ -40,7 +40,7 @@ use Rattle.agreement.proofs.Depart.{drop-sub, drop-keeps, since-next, L
 pub or-true : (a b : Bool) → a ≡ true → (a || b) ≡ true
 or-true a b e = rw e
 
-found-it : (s : ℕ) (f : Found) → isFound s f ≡ true → f ≡ found.Member s
+pub found-it : (s : ℕ) (f : Found) → isFound s f ≡ true → f ≡ found.Member s
 found-it s (found.Member m) e = ap found.Member (eqb-true m s e)
 found-it s found.Nobody e = absurd (false≢true e)
 found-it s (found.Refused c) e = absurd (false≢true e)

@@ -13,3 +13,8 @@ pub mod Places
 pub mod Counted
 pub mod Tables
 pub mod Slots
+pub mod Accepted
+pub mod Runs
+pub mod Entries
+pub mod Onwards
+pub mod Leaving
