@@ -18,3 +18,6 @@ pub mod Runs
 pub mod Entries
 pub mod Onwards
 pub mod Leaving
+pub mod Beginnings
+pub mod Kept
+pub mod Demanded
