@@ -17,7 +17,6 @@ use Rattle.ring.specs.Answers.{beforeOf}
 use Rattle.ring.proofs.Senders.{sender-range, sender-period, same-slot}
 use Rattle.ring.proofs.Walks as walks
 use Rattle.ring.proofs.Walks.{Met, walk-meets, before-is, others}
-use Rattle.bench.specs.Runs.{Entry}
 use Rattle.agreement.proofs.History.{World, K, KFact, lst, one-knock, size-from, before-answer, Decision, num-is, num-isnt}
 use Rattle.agreement.proofs.Marks.{no-both, not-true, same-member}
 use Rattle.agreement.proofs.Listed.{Begins, other-sender, same-window}

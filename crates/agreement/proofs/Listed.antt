@@ -1,8 +1,8 @@
 -- A listed slot, step 1: the marks (M). Assumes nothing.
 use Prim.Native.Nat.{ℕ, zero, suc, _+_, _-_, _^_, _≤_, _<_}
-use mathlib.Core.Path.{_≡_, refl, sym, ap, _∙_}
+use mathlib.Core.Path.{_≡_, sym, ap, _∙_}
 use mathlib.Core.Logic.{_≢_, _⊎_, inl, inr}
-use mathlib.Core.Bool.{Bool, true, false, not}
+use mathlib.Core.Bool.{true, false, not}
 use native.Mathlib.Omega.{arith}
 use native.Mathlib.Decide.{ℕ-discrete}
 use lib.Dec.{eqb}
@@ -18,7 +18,6 @@ use Rattle.message.specs.declared.Reading.{Reading}
 use Rattle.record.specs.declared.Node.{Node}
 use Rattle.record.specs.States.{isMember}
 use Rattle.steps.specs.Steps.{isHeard, returnIn, marksAfter}
-use Rattle.bench.specs.Runs.{Entry}
 use Rattle.agreement.proofs.History.{World, Untold, K, lst, told-in-time, ks-is, sponsored-since, Sponsored, num-is}
 use Rattle.agreement.proofs.Invariant.{Tracking, Off}
 use Rattle.agreement.proofs.Marks.{no-both, not-true, not-false, bitsIn, Told, sponsors, mark-of-sender, off-before, on-before}

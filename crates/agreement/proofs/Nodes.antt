@@ -1,5 +1,5 @@
 -- One slot, for any node: what it was and what it is after the slot. Assumes nothing.
-use Prim.Native.Nat.{ℕ, zero, suc, _+_, _-_, _^_, _≤_, _<_}
+use Prim.Native.Nat.{ℕ, suc, _+_, _-_, _^_, _≤_, _<_}
 use mathlib.Core.Path.{_≡_, refl, sym, ap, _∙_, subst}
 use mathlib.Core.Logic.{_⊎_, inl, inr}
 use mathlib.Core.Bool.{Bool, true, false, cond, false≢true}
@@ -21,7 +21,6 @@ use Rattle.changes.specs.Changes.{counted, withSet, withWindow, followingWith, 
 use Rattle.steps.specs.Steps.{isHeard, marked, noted, settle, insideSlot, outsideSlot, trackingSlot}
 use Rattle.hearing.specs.Hearing.{overheard, clean, windowEnd, listeningSlot}
 use Rattle.node.specs.Slot.{slotIn}
-use Rattle.bench.specs.Runs.{Entry}
 use Rattle.agreement.proofs.History.{World, K, Decision}
 use Rattle.agreement.proofs.Invariant.{Tracking, ListeningInv, Awaits, aware, unaware}
 use Rattle.agreement.proofs.Marks.{no-both, bitsIn}

@@ -1,6 +1,6 @@
 -- K and K' after a slot: a listed one, with its joining, and one outside the list. Assumes nothing.
 use Prim.Native.Nat.{ℕ, zero, suc, _+_, _-_, _^_, _≤_, _<_}
-use mathlib.Core.Path.{_≡_, refl, sym, ap, _∙_}
+use mathlib.Core.Path.{_≡_, sym, ap, _∙_}
 use mathlib.Core.Logic.{_≢_}
 use mathlib.Core.Bool.{true, false}
 use native.Mathlib.Omega.{arith}
@@ -12,12 +12,11 @@ use Rattle.nodeset.proofs.Laws.{has-with-other, with-lt}
 use Rattle.ring.specs.Ring.{sender}
 use Rattle.ring.proofs.Senders.{sender-range, sender-period}
 use Rattle.ring.proofs.Walks.{Met, walk-meets}
-use Rattle.bench.specs.Runs.{Entry}
 use Rattle.agreement.proofs.History.{World, K, KFact, lst, full-round, size-from, Decision, num-isnt}
 use Rattle.agreement.proofs.Marks.{no-both}
 use Rattle.agreement.proofs.Listed.{Begins, same-window}
 use Rattle.agreement.proofs.Depart.{since-next, k-after, drop-lt}
-use Rattle.agreement.proofs.Join.{A, Joining, Next, plain, grown}
+use Rattle.agreement.proofs.Join.{A, Next, plain, grown}
 
 module _ (W : World) where
   open World W using (n, k, n-pos, n-most, k-two, k-lt, E, fair, few, once)

@@ -1,5 +1,5 @@
 -- A slot keeps the invariant of a table. Assumes nothing.
-use Prim.Native.Nat.{ℕ, zero, suc, _+_, _-_, _^_, _≤_, _<_}
+use Prim.Native.Nat.{ℕ, suc, _+_, _-_, _^_, _≤_, _<_}
 use mathlib.Core.Path.{_≡_, refl, sym, ap, _∙_, subst}
 use mathlib.Core.Logic.{_≢_}
 use mathlib.Core.Bool.{Bool, true, false, cond, not, _&&_, _||_, true≢false, false≢true}
@@ -23,20 +23,20 @@ use Rattle.record.specs.States.{isMember, isListening, isFollowing, isOut}
 use Rattle.record.specs.Soundness.{sound, limit}
 use Rattle.record.proofs.Tracking.{tracks}
 use Rattle.changes.specs.Changes.{counted}
-use Rattle.steps.specs.Steps.{isHeard, returnIn}
+use Rattle.steps.specs.Steps.{isHeard}
 use Rattle.sending.specs.Sending.{sends, hasFound, markBits, bitsSent, returnSent}
 use Rattle.sending.proofs.Laws.{has-markBits}
 use Rattle.node.specs.Slot as node
 use Rattle.node.specs.declared.Stepped.{Stepped}
 use Rattle.node.specs.Calls as calls
-use Rattle.bench.specs.Table.{Table, recordOf, ringOf, slotsOf, speaker}
+use Rattle.bench.specs.Table.{Table, recordOf, slotsOf, speaker}
 use Rattle.bench.specs.Calls.{transmits, unheard, spoken, heardBy, afterSlot}
 use Rattle.bench.specs.Runs.{Entry, slot, listOf, isListed, misses, entryOf}
 use Rattle.bench.specs.Demand.{AllHear}
 use Rattle.agreement.proofs.History.{World, K, Decision, decision, ks-is}
 use Rattle.agreement.proofs.Invariant.{Tracking}
 use Rattle.agreement.proofs.Marks.{no-both, not-true, not-false, bitsIn}
-use Rattle.agreement.proofs.Listed.{Begins, Hears, Says}
+use Rattle.agreement.proofs.Listed.{Begins, Says}
 use Rattle.agreement.proofs.Join.{Next}
 use Rattle.agreement.proofs.Outside.{OwnSlot}
 use Rattle.agreement.proofs.Rounds.{K′, k-next, next-lt, k′-listed, k′-outside, k-outside}
