@@ -27,11 +27,11 @@ use Rattle.record.specs.declared.State.the-variants.{Member, Listening, Followi
 use Rattle.record.specs.States.{isMember, isKnocking}
 use Rattle.changes.specs.Changes.{withSet, withReturning}
 use Rattle.steps.specs.Steps.{isHeard, returnIn, isFound, marksAfter, missedReturn, returnHeard, marked, joins}
-use Rattle.agreement.proofs.History.{World, Untold, lst, told-in-time, one-knock, Decision, num-is}
+use Rattle.agreement.proofs.History.{World, Untold, lst, told-in-time, one-knock, num-is}
 use Rattle.agreement.proofs.Invariant.{Tracking, Off, Knock, Awaits, aware, unaware}
 use Rattle.agreement.proofs.Marks.{no-both, not-true, not-false, has-with-keeps}
 use Rattle.agreement.proofs.Outcome.{Gone, Settled, gone, kept, backed, became, joined, listedAs, setAfter}
-use Rattle.agreement.proofs.Listed.{Begins, Hears, Says, same-window, extend, missed-failure, off-after, on-after}
+use Rattle.agreement.proofs.Listed.{Says, ListedSlot, Hearer, same-window, extend, missed-failure, off-after, on-after}
 use Rattle.agreement.proofs.Depart.{drop-sub, drop-keeps, since-next, L₁, sender-stays, not-dropped, Nearest, nearest, enough-since}
 
 -- ---- tests taken apart
@@ -99,10 +99,12 @@ module _ (W : World) where
       go (no l) (yes d) = absurd (one-knock W w′ (w - w′) w (omega arith) (omega arith) (omega arith) (omega arith) o′ o)
       go (no l) (no d) = omega arith
 
-  module _ (N L : ℕ) (B : Begins W N L) (lT : E (suc N) .listed ≡ true) (onL : has L (sender n (suc N)) ≡ true) (D : Decision W N L) where
+  module _ (S : ListedSlot W) where
+    open ListedSlot S using (N, L, B, lT, onL, D)
+
     -- the list after step 3
     abbrev pub A : ℕ
-    A = L₁ W N L B lT onL D
+    A = L₁ W S
 
     -- the node of an open knock joins in this slot
     pub record Joining (w e : ℕ) : Type 0 where
@@ -118,9 +120,9 @@ module _ (W : World) where
       plain : ((w e : ℕ) → Joining w e → ⊥) → L′ ≡ A → Next L′
       grown : (w e : ℕ) → Joining w e → L′ ≡ with A (sender n w) → Next L′
 
-    module _ (r : Reading) (says : isHeard r ≡ true → Says W N L r)
-        (i : ℕ) (i-pos : 1 ≤ i) (i-le : i ≤ n) (v : Node) (vn : v .n ≡ n) (vk : v .k ≡ k) (vo : v .own ≡ i)
-        (iv : Tracking W N L i v) (h : Hears W N i v r) where
+    module _ (T : Hearer W (S .N) (S .L)) where
+      open Hearer T using (r, says, i, i-pos, i-le, v, vn, vk, vo, iv, h)
+
       abbrev s : ℕ
       s = sender n (suc N)
 
@@ -136,7 +138,7 @@ module _ (W : World) where
 
       d-marked : E (D .u) .sent ≡ true → has (marksAfter s r v) (sender n (D .u)) ≡ true
       d-marked p = not-false (has (marksAfter s r v) (sender n (D .u))) λ off.
-          let o = on-after W N L B lT onL r says i i-pos i-le v vn vk iv h (D .u) (suc (D .e)) d-ago (D .recent) p (D .member) off in
+          let o = on-after W S T (D .u) (suc (D .e)) d-ago (D .recent) p (D .member) off in
           let un : Untold W (D .u) (D .u + suc (D .e)) = rw d-ago (o .untold) in
           omega (arith, told-in-time W (D .u) (suc (D .e)) (omega (arith, D .ago, D .recent, B .late)) (D .recent) p un, since-next W N (D .u) (D .e) (D .ago), D .exact, num-is lT)
 
@@ -144,7 +146,7 @@ module _ (W : World) where
       marked-is : has (v₁ .present) (sender n (D .u)) ≡ E (D .u) .sent
       marked-is = by-cases (E (D .u) .sent)
           (λ p. d-marked p ∙ sym p)
-          (λ p. off-after W N L B lT onL r says i i-pos i-le v vn vk iv h (D .u) (suc (D .e)) d-ago (D .recent) (D .listed) p ∙ sym p)
+          (λ p. off-after W S T (D .u) (suc (D .e)) d-ago (D .recent) (D .listed) p ∙ sym p)
 
       pub set-after : setAfter (sender n (D .u)) v₁ ≡ A
       set-after = rw (marked-is, iv .set-is) refl
@@ -166,14 +168,14 @@ module _ (W : World) where
           → isHeard r ≡ true → returnIn r ≡ false → E w .missed s ≡ true
       unaware-sender w e z l a b c p q = go (says p)
         where
-          two : (S : Says W N L r) → S .z .returning ≡ 0 → Awaits W N s w (S .z) → E w .missed s ≡ true
-          two S y (aware q f) = let bad : ⊥ = omega (arith, sender-range n n-pos w) in absurd bad
-          two S y (unaware q f g x un) = x
+          two : (Z : Says W N L r) → Z .z .returning ≡ 0 → Awaits W N s w (Z .z) → E w .missed s ≡ true
+          two Z y (aware q f) = let bad : ⊥ = omega (arith, sender-range n n-pos w) in absurd bad
+          two Z y (unaware q f g x un) = x
 
           go : Says W N L r → E w .missed s ≡ true
-          go S =
-              let y : eqb (S .z .returning) 0 ≡ true = not-false (eqb (S .z .returning) 0) (λ f. no-both (S .ret ∙ ap not f) q) in
-              two S (eqb-true (S .z .returning) 0 y) (S .inv .open-knock w e z l a b c)
+          go Z =
+              let y : eqb (Z .z .returning) 0 ≡ true = not-false (eqb (Z .z .returning) 0) (λ f. no-both (Z .ret ∙ ap not f) q) in
+              two Z (eqb-true (Z .z .returning) 0 y) (Z .inv .open-knock w e z l a b c)
 
       -- the entry of this slot keeps those who missed w untold
       still-untold : (w : ℕ) → Untold W w N → (E (suc N) .sent ≡ true → (E w .missed s ≡ true) ⊎ (1 ≤ E (suc N) .failures)) → Untold W w (suc N)
@@ -218,19 +220,19 @@ module _ (W : World) where
           ago : w + e ≡ N
           ago = omega arith
 
-          two : (S : Says W N L r) → Knock W N L (S .z) → Knock W N L v → ⊥
-          two S κ κ′ =
+          two : (Z : Says W N L r) → Knock W N L (Z .z) → Knock W N L v → ⊥
+          two Z κ κ′ =
               let same : κ′ .w ≡ w = same-window W N (κ′ .w) w (κ′ .e) e (B .late) (κ′ .ago) ago (κ′ .recent) (omega arith) (κ′ .it ∙ iv .knocking-own kn ∙ sym y) in
               three κ (same-knock N (κ .w) (κ .e) w e (B .late) (κ .ago) (κ .recent) ago (omega arith) (κ .outer) (rw same at (κ′ .outer))) (κ .how)
             where
-              three : (κ : Knock W N L (S .z)) → κ .w ≡ w → (E (κ .w) .sent ≡ true) ⊎ (isKnocking (S .z .state) ≡ true) → ⊥
+              three : (κ : Knock W N L (Z .z)) → κ .w ≡ w → (E (κ .w) .sent ≡ true) ⊎ (isKnocking (Z .z .state) ≡ true) → ⊥
               three κ q (inl p) = no-both p (rw q f)
-              three κ q (inr p) = no-both p (not-knocking (S .z .state) (S .member))
+              three κ q (inr p) = no-both p (not-knocking (Z .z .state) (Z .member))
 
-          go : (S : Says W N L r) → returnIn r ≡ true → ⊥
-          go S t =
-              let nz : S .z .returning ≢ 0 = λ q. no-both t (S .ret ∙ ap not (eq-eqb (S .z .returning) 0 q)) in
-              two S (S .inv .knock nz) (iv .knock (λ q. let bad : ⊥ = omega (arith, iv .knocking-own kn) in bad))
+          go : (Z : Says W N L r) → returnIn r ≡ true → ⊥
+          go Z t =
+              let nz : Z .z .returning ≢ 0 = λ q. no-both t (Z .ret ∙ ap not (eq-eqb (Z .z .returning) 0 q)) in
+              two Z (Z .inv .knock nz) (iv .knock (λ q. let bad : ⊥ = omega (arith, iv .knocking-own kn) in bad))
 
       quiet-after : isKnocking (v .state) ≡ false → returnHeard r v ≡ false
       quiet-after kn = or-false (v .«return_heard») _ (iv .quiet kn) (rw kn refl)
@@ -244,15 +246,15 @@ module _ (W : World) where
 
       -- off the list after step 3, and never listed: it was off before
       was-away : (w e : ℕ) → w + e ≡ N → e < n → E w .listed ≡ false → has A (sender n w) ≡ false → has L (sender n w) ≡ false
-      was-away w e z l u f = not-true (has L (sender n w)) (λ y. no-both (not-dropped W N L B lT onL D w e z l (λ _ q. no-both (D .listed) (rw (← q) u)) y) f)
+      was-away w e z l u f = not-true (has L (sender n w)) (λ y. no-both (not-dropped W S w e z l (λ _ q. no-both (D .listed) (rw (← q) u)) y) f)
 
-      the-nearest : (κ : Knock W N L v) → Nearest W N L B lT onL D (κ .w)
-      the-nearest κ = nearest W N L B lT onL D (κ .w) (omega (arith, κ .ago, κ .recent, B .late)) (away₁ (κ .w) (κ .away))
+      the-nearest : (κ : Knock W N L v) → Nearest W S (κ .w)
+      the-nearest κ = nearest W S (κ .w) (omega (arith, κ .ago, κ .recent, B .late)) (away₁ (κ .w) (κ .away))
 
       knock-kept : joins s (withSet A v₁) ≡ false → Knock W N L v → Knock W (suc N) A (withSet A v₁)
       knock-kept j κ = go (the-nearest κ)
         where
-          go : Nearest W N L B lT onL D (κ .w) → Knock W (suc N) A (withSet A v₁)
+          go : Nearest W S (κ .w) → Knock W (suc N) A (withSet A v₁)
           go t = record {
             w = κ .w;
             e = suc (κ .e);
@@ -284,7 +286,7 @@ module _ (W : World) where
                     t .alone,
                     num-is (t .member),
                     sum-at f (suc N) d (suc N) (omega arith) (omega (arith, κ .ago, knock-recent κ)),
-                    num-is (sender-stays W N L B lT onL D),
+                    num-is (sender-stays W S),
                   )
 
               go-on : Dec (t .u < suc N) → suc N < t .u
@@ -302,8 +304,8 @@ module _ (W : World) where
         set-is = refl;
         own-in = member-stays ne;
         own-out = outsider-stays;
-        marks-off = off-after W N L B lT onL r says i i-pos i-le v vn vk iv h;
-        marks-on = λ u e z l p q off. off-at (withSet A v₁) refl u (on-after W N L B lT onL r says i i-pos i-le v vn vk iv h u e z l p (drop-sub W (E (D .u) .sent) L (sender n (D .u)) (sender n u) q) off);
+        marks-off = off-after W S T;
+        marks-on = λ u e z l p q off. off-at (withSet A v₁) refl u (on-after W S T u e z l p (drop-sub W (E (D .u) .sent) L (sender n (D .u)) (sender n u) q) off);
         knock = λ nz. knock-kept j (iv .knock nz);
         open-knock = opened;
         knocking-own = iv .knocking-own;
@@ -350,7 +352,7 @@ module _ (W : World) where
             unlisted = κ .unlisted;
             sent = sent;
             away = κ .away;
-            since = enough-since W N L B lT onL D (κ .w) (κ .e) (κ .ago) (knock-recent κ) (κ .outer) (κ .away) at-s;
+            since = enough-since W S (κ .w) (κ .e) (κ .ago) (knock-recent κ) (κ .outer) (κ .away) at-s;
             near = at-s;
           }
 
@@ -370,8 +372,8 @@ module _ (W : World) where
         set-is = refl;
         own-in = λ q. absurd (false≢true q);
         own-out = λ _. outsider-stays nm;
-        marks-off = off-after W N L B lT onL r says i i-pos i-le v vn vk iv h;
-        marks-on = λ u e z l p q off. absurd (no-both (on-after W N L B lT onL r says i i-pos i-le v vn vk iv h u e z l p (drop-sub W (E (D .u) .sent) L (sender n (D .u)) (sender n u) q) off .member) nm);
+        marks-off = off-after W S T;
+        marks-on = λ u e z l p q off. absurd (no-both (on-after W S T u e z l p (drop-sub W (E (D .u) .sent) L (sender n (D .u)) (sender n u) q) off .member) nm);
         knock = λ nz. absurd (nz refl);
         open-knock = λ w e z l a b c. absurd (none-open (iv .knock (joins-yes s (withSet A v₁) j .0)) w e z l a b);
         knocking-own = λ q. absurd (false≢true q);
@@ -397,7 +399,7 @@ module _ (W : World) where
         off-grown u d z l p q =
             let ne : sender n w ≢ sender n u = λ y. no-both (rw (same-window W (suc N) u w d (suc e) (omega (arith, B .late)) z ago′ l (J .recent) (sym y)) at p) (J .unlisted) in
             ap (λ (x : ℕ). has (with (marksAfter s r v) x) (sender n u)) it
-            ∙ has-with-other (marksAfter s r v) (sender n w) (sender n u) ne ∙ off-after W N L B lT onL r says i i-pos i-le v vn vk iv h u d z l p q
+            ∙ has-with-other (marksAfter s r v) (sender n w) (sender n u) ne ∙ off-after W S T u d z l p q
 
         on-grown : (u d : ℕ) → u + d ≡ suc N → d < n → E u .sent ≡ true → has (with A (sender n w)) (sender n u) ≡ true → has (with (marksAfter s r v) (v .returning)) (sender n u) ≡ false → Off W (suc N) i u v
         on-grown u d z l p q off =
@@ -405,7 +407,7 @@ module _ (W : World) where
             let ne : sender n w ≢ sender n u = λ y. no-both (rw y (has-with (marksAfter s r v) (sender n u) (sender-range n n-pos u .0) (most u))) off′ in
             let q′ : has A (sender n u) ≡ true = sym (has-with-other A (sender n w) (sender n u) ne) ∙ q in
             let off″ : has (marksAfter s r v) (sender n u) ≡ false = sym (has-with-other (marksAfter s r v) (sender n w) (sender n u) ne) ∙ off′ in
-            on-after W N L B lT onL r says i i-pos i-le v vn vk iv h u d z l p (drop-sub W (E (D .u) .sent) L (sender n (D .u)) (sender n u) q′) off″
+            on-after W S T u d z l p (drop-sub W (E (D .u) .sent) L (sender n (D .u)) (sender n u) q′) off″
 
         none-grown : (w′ d : ℕ) → w′ + d ≡ suc N → d < n → E w′ .listed ≡ false → E w′ .sent ≡ true → has (with A (sender n w)) (sender n w′) ≡ false → ⊥
         none-grown w′ d z l a b c =

@@ -18,7 +18,7 @@ use Rattle.message.specs.declared.Reading.{Reading}
 use Rattle.record.specs.declared.Node.{Node}
 use Rattle.record.specs.States.{isMember}
 use Rattle.steps.specs.Steps.{isHeard, returnIn, marksAfter}
-use Rattle.agreement.proofs.History.{World, Untold, K, lst, told-in-time, ks-is, sponsored-since, Sponsored, num-is}
+use Rattle.agreement.proofs.History.{World, Untold, K, lst, told-in-time, ks-is, Decision, sponsored-since, Sponsored, num-is}
 use Rattle.agreement.proofs.Invariant.{Tracking, Off}
 use Rattle.agreement.proofs.Marks.{no-both, not-true, not-false, bitsIn, Told, sponsors, mark-of-sender, off-before, on-before}
 
@@ -64,10 +64,33 @@ module _ (W : World) where
   missed-failure t i s m h l =
       omega (arith, fair t .count s, sum-at (λ j. num (E t .missed j)) 1 n i h (omega arith), num-is m)
 
-  module _ (N L : ℕ) (B : Begins N L) (lT : E (suc N) .listed ≡ true) (onL : has L (sender n (suc N)) ≡ true)
-      (r : Reading) (says : isHeard r ≡ true → Says N L r)
-      (i : ℕ) (i-pos : 1 ≤ i) (i-le : i ≤ n) (v : Node) (vn : v .n ≡ n) (vk : v .k ≡ k)
-      (iv : Tracking W N L i v) (h : Hears N i v r) where
+  -- a slot whose sender is on the list
+  pub record ListedSlot : Type 0 where
+    pub N : ℕ  -- the slots before it
+    pub L : ℕ  -- the list as it begins
+    pub B : Begins N L
+    pub lT : E (suc N) .listed ≡ true
+    pub onL : has L (sender n (suc N)) ≡ true
+    pub D : Decision W N L  -- the member that its sender decides
+
+  -- a tracking node i with the record v that reads r in slot N + 1
+  pub record Hearer (N L : ℕ) : Type 0 where
+    pub r : Reading
+    pub says : isHeard r ≡ true → Says N L r
+    pub i : ℕ
+    pub i-pos : 1 ≤ i
+    pub i-le : i ≤ n
+    pub v : Node
+    pub vn : v .n ≡ n
+    pub vk : v .k ≡ k
+    pub vo : v .own ≡ i
+    pub iv : Tracking W N L i v
+    pub h : Hears N i v r
+
+  module _ (S : ListedSlot) (T : Hearer (S .N) (S .L)) where
+    open ListedSlot S using (N, L, B, lT, onL)
+    open Hearer T using (r, says, i, i-pos, i-le, v, vn, vk, iv, h)
+
     abbrev s : ℕ
     s = sender n (suc N)
 
@@ -79,10 +102,10 @@ module _ (W : World) where
     sponsors-is = rw (vn, vk, iv .set-is) (ks-is W L (B .enough))
 
     -- what is told is the sender's mark
-    told-mark : (x : ℕ) (S : Says N L r) → Told s (bitsIn r) v x (sponsors v) → has (S .z .present) x ≡ true
-    told-mark x S t =
+    told-mark : (x : ℕ) (Z : Says N L r) → Told s (bitsIn r) v x (sponsors v) → has (Z .z .present) x ≡ true
+    told-mark x Z t =
         let y : sponsoredOf n k L s (suc (t .i)) ≡ Member x = rw (vn, vk, iv .set-is) at (t .it) in
-        sym (S .bits (t .i) x (omega (arith, t .below, sponsors-is)) y) ∙ t .yes-bit
+        sym (Z .bits (t .i) x (omega (arith, t .below, sponsors-is)) y) ∙ t .yes-bit
 
     pub off-after : (u e : ℕ) → u + e ≡ suc N → e < n → E u .listed ≡ true → E u .sent ≡ false → has (marksAfter s r v) (sender n u) ≡ false
     off-after u zero z l p q =
@@ -97,8 +120,8 @@ module _ (W : World) where
         go : u + e ≡ N → has (v .present) (sender n u) ≡ false → (has (v .present) (sender n u) ≡ true) ⊎ ((isHeard r ≡ true) × Told s (bitsIn r) v (sender n u) (sponsors v)) → ⊥
         go ago was (inl y) = no-both y was
         go ago was (inr t) =
-            let S = says (t .0) in
-            no-both (told-mark (sender n u) S (t .1)) (S .inv .marks-off u e ago (omega arith) p q)
+            let Z = says (t .0) in
+            no-both (told-mark (sender n u) Z (t .1)) (Z .inv .marks-off u e ago (omega arith) p q)
 
     pub untold-after : (u e : ℕ) → u + e ≡ N → suc e < n → E u .sent ≡ true → has L (sender n u) ≡ true → has (marksAfter s r v) (sender n u) ≡ false → Off W N i u v
         → lst W (suc N) ≤ E (suc N) .failures + num (E u .missed s)
@@ -118,18 +141,18 @@ module _ (W : World) where
         the-sender (inl p) = missed-it p
         the-sender (inr p) = absurd (ne p)
 
-        heard-with : isHeard r ≡ true → (S : Says N L r) → Sponsored W N L u → lst W (suc N) ≤ E (suc N) .failures + num (E u .missed s)
-        heard-with p S sp =
+        heard-with : isHeard r ≡ true → (Z : Says N L r) → Sponsored W N L u → lst W (suc N) ≤ E (suc N) .failures + num (E u .missed s)
+        heard-with p Z sp =
             let y : sponsoredOf (v .n) (v .k) (v .set) s (suc (sp .j)) ≡ Member (sender n u) = rw (vn, vk, iv .set-is) (sp .it) in
             let nb : has (bitsIn r) (suc (sp .j)) ≡ false = not-true (has (bitsIn r) (suc (sp .j))) (λ b. off-before s r v (sender n u) (sender-range n n-pos u .0) (most u) ne off .1 p (record { i = sp .j; below = omega (arith, sp .few, sponsors-is); yes-bit = b; it = y })) in
-            let zo : has (S .z .present) (sender n u) ≡ false = sym (S .bits (sp .j) (sender n u) (sp .few) (sp .it)) ∙ nb in
-            the-sender (S .inv .marks-on u e ago (omega arith) sent on zo .who)
+            let zo : has (Z .z .present) (sender n u) ≡ false = sym (Z .bits (sp .j) (sender n u) (sp .few) (sp .it)) ∙ nb in
+            the-sender (Z .inv .marks-on u e ago (omega arith) sent on zo .who)
 
         heard-case : isHeard r ≡ true → Says N L r → lst W (suc N) ≤ E (suc N) .failures + num (E u .missed s)
-        heard-case p S =
+        heard-case p Z =
             let un : Untold W u (u + e) = rw ago (o .untold) in
             let few-since : sum (lst W) (suc u) e < k = told-in-time W u e (omega (arith, B .late)) (omega arith) sent un in
-            heard-with p S (sponsored-since W N L (B .late) (B .kept) (B .enough) u e ago l on few-since)
+            heard-with p Z (sponsored-since W N L (B .late) (B .kept) (B .enough) u e ago l on few-since)
 
         sent-case : E (suc N) .sent ≡ true → Dec (i ≡ s) → lst W (suc N) ≤ E (suc N) .failures + num (E u .missed s)
         sent-case p (yes e) = own-case e (o .who)

@@ -21,11 +21,11 @@ use Rattle.changes.specs.Changes.{counted, withSet, withWindow, followingWith, 
 use Rattle.steps.specs.Steps.{isHeard, marked, noted, settle, insideSlot, outsideSlot, trackingSlot}
 use Rattle.hearing.specs.Hearing.{overheard, clean, windowEnd, listeningSlot}
 use Rattle.node.specs.Slot.{slotIn}
-use Rattle.agreement.proofs.History.{World, K, Decision}
+use Rattle.agreement.proofs.History.{World, K}
 use Rattle.agreement.proofs.Invariant.{Tracking, ListeningInv, Awaits, aware, unaware}
 use Rattle.agreement.proofs.Marks.{no-both, bitsIn}
 use Rattle.agreement.proofs.Outcome.{choose, Gone, isout, listens, Settled, gone, kept, backed, became, joined, Departed, left, settled, Inside, missed, went, inside-law, noted-law, Noted, knocks, silent, awaits, ignores, settle-outside, setAfter}
-use Rattle.agreement.proofs.Listed.{Begins, Hears, Says}
+use Rattle.agreement.proofs.Listed.{Begins, Hears, Says, ListedSlot, Hearer}
 use Rattle.agreement.proofs.Join.{A, Next, set-after, after-inside, next-from}
 use Rattle.agreement.proofs.Outside.{OwnSlot, after-noted}
 use Rattle.agreement.proofs.Rounds.{K′}
@@ -234,7 +234,9 @@ module _ (W : World) where
     pub listening : isListening (v .state) ≡ true → isHeard r ≡ E (suc N) .sent
 
   -- a listed slot
-  module _ (N L : ℕ) (B : Begins W N L) (lT : E (suc N) .listed ≡ true) (onL : has L (sender n (suc N)) ≡ true) (D : Decision W N L) where
+  module _ (S : ListedSlot W) where
+    open ListedSlot S using (N, L, B, lT, onL, D)
+
     abbrev s : ℕ
     s = sender n (suc N)
 
@@ -257,6 +259,10 @@ module _ (W : World) where
         hv : Hears W N i (counted v) r
         hv = counted-hears N i v r (h .tracking tr)
 
+        -- the node as one that hears the slot
+        abbrev T : Hearer W (S .N) (S .L)
+        T = record { r = r; says = says; i = i; i-pos = i-pos; i-le = i-le; v = counted v; vn = nv .n-is; vk = nv .k-is; vo = nv .own-is; iv = iv; h = hv }
+
         decides-it : decidedOf (v .n) (v .k) (v .set) s ≡ found.Member d
         decides-it = rw (nv .n-is, nv .k-is, nv .track tr .set-is) (D .it)
 
@@ -264,44 +270,44 @@ module _ (W : World) where
         outcome = inside-law s d r (counted v) decides-it
 
         settled-at : (x : Node) → Settled true s (withSet (setAfter d (marked s r (counted v))) (marked s r (counted v))) x
-            → Settled true s (withSet (A W N L B lT onL D) (marked s r (counted v))) x
+            → Settled true s (withSet (A W S) (marked s r (counted v))) x
         settled-at x st = subst (λ (y : ℕ). Settled true s (withSet y (marked s r (counted v))) x)
-            (set-after W N L B lT onL D r says i i-pos i-le (counted v) (nv .n-is) (nv .k-is) (nv .own-is) iv hv) st
+            (set-after W S T) st
 
-        tracked : (L′ : ℕ) → Next W N L B lT onL D L′ → (x : Node) → Inside s d r (counted v) x → (tracks (x .state) ≡ false) ⊎ Tracking W (suc N) L′ i x
+        tracked : (L′ : ℕ) → Next W S L′ → (x : Node) → Inside s d r (counted v) x → (tracks (x .state) ≡ false) ⊎ Tracking W (suc N) L′ i x
         tracked L′ nx x (missed g) = inl (gone-not (counted v) x g)
         tracked L′ nx x (went ok (left g)) = inl (gone-not (marked s r (counted v)) x g)
         tracked L′ nx x (went ok (settled ne st)) =
-            go (after-inside W N L B lT onL D r says i i-pos i-le (counted v) (nv .n-is) (nv .k-is) (nv .own-is) iv hv L′ nx ok ne x (settled-at x st))
+            go (after-inside W S T L′ nx ok ne x (settled-at x st))
           where
-            go : Gone (withSet (A W N L B lT onL D) (marked s r (counted v))) x ⊎ Tracking W (suc N) L′ i x → (tracks (x .state) ≡ false) ⊎ Tracking W (suc N) L′ i x
+            go : Gone (withSet (A W S) (marked s r (counted v))) x ⊎ Tracking W (suc N) L′ i x → (tracks (x .state) ≡ false) ⊎ Tracking W (suc N) L′ i x
             go (inl g) = inl (gone-not _ x g)
             go (inr t) = inr t
 
-        next-of : (x : Node) → Inside s d r (counted v) x → tracks (x .state) ≡ true → Next W N L B lT onL D (x .set)
+        next-of : (x : Node) → Inside s d r (counted v) x → tracks (x .state) ≡ true → Next W S (x .set)
         next-of x (missed g) p = absurd (no-both p (gone-not (counted v) x g))
         next-of x (went ok (left g)) p = absurd (no-both p (gone-not (marked s r (counted v)) x g))
         next-of x (went ok (settled ne st)) p =
-            go (next-from W N L B lT onL D r says i i-pos i-le (counted v) (nv .n-is) (nv .k-is) (nv .own-is) iv hv ok x (settled-at x st))
+            go (next-from W S T ok x (settled-at x st))
           where
-            go : Gone (withSet (A W N L B lT onL D) (marked s r (counted v))) x ⊎ Next W N L B lT onL D (x .set) → Next W N L B lT onL D (x .set)
+            go : Gone (withSet (A W S) (marked s r (counted v))) x ⊎ Next W S (x .set) → Next W S (x .set)
             go (inl g) = absurd (no-both p (gone-not _ x g))
             go (inr t) = t
 
-        tracking-after : (L′ : ℕ) → Next W N L B lT onL D L′ → NodeInv (suc N) L′ i (trackingSlot s r (counted v))
+        tracking-after : (L′ : ℕ) → Next W S L′ → NodeInv (suc N) L′ i (trackingSlot s r (counted v))
         tracking-after L′ nx = rw (is-inside tr) (finish N L L′ i v _ nv
             (inside-like s d r (counted v) _ (not-listening (v .state) tr) outcome)
             (tracked L′ nx _ outcome))
 
-      pub listed-after : (L′ : ℕ) → Next W N L B lT onL D L′ → K W (suc N) L′ → K′ W (suc N) → L′ < 2 ^ n → NodeInv (suc N) L′ i (slotIn (v .state) s r (counted v))
+      pub listed-after : (L′ : ℕ) → Next W S L′ → K W (suc N) L′ → K′ W (suc N) → L′ < 2 ^ n → NodeInv (suc N) L′ i (slotIn (v .state) s r (counted v))
       listed-after L′ nx κ κ′ small = by-state (NodeInv (suc N) L′ i) v s r
           (λ tr. tracking-after tr L′ nx)
           (λ li. listening-after N L L′ i (B .late) i-pos κ κ′ small v nv li r (h .listening li) (h .own) (λ _ u. absurd (no-both lT u)))
           (λ c e. out-after N L L′ i v nv c e)
 
       -- the list after the slot, as a member-state node has it
-      pub next-list : isMember (slotIn (v .state) s r (counted v) .state) ≡ true → Next W N L B lT onL D (slotIn (v .state) s r (counted v) .set)
-      next-list = by-state (λ (x : Node). isMember (x .state) ≡ true → Next W N L B lT onL D (x .set)) v s r
+      pub next-list : isMember (slotIn (v .state) s r (counted v) .state) ≡ true → Next W S (slotIn (v .state) s r (counted v) .set)
+      next-list = by-state (λ (x : Node). isMember (x .state) ≡ true → Next W S (x .set)) v s r
           (λ tr. rw (is-inside tr) (λ p. next-of tr _ (outcome tr) (member-tracks (insideSlot s r (counted v) .state) p)))
           (λ li p. absurd (no-both p (listening-not-member s r (counted v) li)))
           (λ c e p. absurd (false≢true (sym (ap isMember e) ∙ p)))

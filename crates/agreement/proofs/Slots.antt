@@ -33,10 +33,10 @@ use Rattle.bench.specs.Table.{Table, recordOf, slotsOf, speaker}
 use Rattle.bench.specs.Calls.{transmits, unheard, spoken, heardBy, afterSlot}
 use Rattle.bench.specs.Runs.{Entry, slot, listOf, isListed, misses, entryOf}
 use Rattle.bench.specs.Demand.{AllHear}
-use Rattle.agreement.proofs.History.{World, K, Decision, decision, ks-is}
+use Rattle.agreement.proofs.History.{World, K, decision, ks-is}
 use Rattle.agreement.proofs.Invariant.{Tracking}
 use Rattle.agreement.proofs.Marks.{no-both, not-true, not-false, bitsIn}
-use Rattle.agreement.proofs.Listed.{Begins, Says}
+use Rattle.agreement.proofs.Listed.{Begins, Says, ListedSlot}
 use Rattle.agreement.proofs.Join.{Next}
 use Rattle.agreement.proofs.Outside.{OwnSlot}
 use Rattle.agreement.proofs.Rounds.{K′, k-next, next-lt, k′-listed, k′-outside, k-outside}
@@ -322,11 +322,8 @@ module _ (W : World) where
     listed-table : (onL : has L s ≡ true) → k + 1 ≤ size n (listOf after) → TableInv W (suc N) (listOf after) after
     listed-table onL ends = go (witness W after len-after (omega arith))
       where
-        lT : E (suc N) .listed ≡ true
-        lT = listed-is ∙ onL
-
-        D : Decision W N L
-        D = decision W N L (inv .late) (inv .kept) (begins .enough)
+        S : ListedSlot W
+        S = record { N = N; L = L; B = begins; lT = listed-is ∙ onL; onL = onL; D = decision W N L (inv .late) (inv .kept) (begins .enough) }
 
         go : Witness W after → TableInv W (suc N) (listOf after) after
         go x = done (rw (← (x .its)) at nx)
@@ -334,12 +331,12 @@ module _ (W : World) where
             e : recordOf after (x .i) ≡ node.slotIn (recordOf t (x .i) .state) s (hd (x .i)) (counted (recordOf t (x .i)))
             e = node-after (x .i) (x .pos) (x .le)
 
-            nx : Next W N L begins lT onL D (recordOf after (x .i) .set)
-            nx = subst (λ (y : Node). isMember (y .state) ≡ true → Next W N L begins lT onL D (y .set)) (sym e)
-                (next-list W N L begins lT onL D (hd (x .i)) (says onL (x .i)) (x .i) (x .pos) (x .le) (recordOf t (x .i)) (inv .nodes (x .i) (x .pos) (x .le)) (hears-any (x .i) (x .pos) (x .le)))
+            nx : Next W S (recordOf after (x .i) .set)
+            nx = subst (λ (y : Node). isMember (y .state) ≡ true → Next W S (y .set)) (sym e)
+                (next-list W S (hd (x .i)) (says onL (x .i)) (x .i) (x .pos) (x .le) (recordOf t (x .i)) (inv .nodes (x .i) (x .pos) (x .le)) (hears-any (x .i) (x .pos) (x .le)))
                 (x .member)
 
-            done : Next W N L begins lT onL D (listOf after) → TableInv W (suc N) (listOf after) after
+            done : Next W S (listOf after) → TableInv W (suc N) (listOf after) after
             done nx′ = record {
               len = len-after;
               late = omega (arith, inv .late);
@@ -347,17 +344,17 @@ module _ (W : World) where
               kept′ = κ′;
               small = sm;
               nodes = λ i h l. subst (λ (y : Node). NodeInv W (suc N) (listOf after) i y) (sym (node-after i h l))
-                  (listed-after W N L begins lT onL D (hd i) (says onL i) i h l (recordOf t i) (inv .nodes i h l) (hears-any i h l) (listOf after) nx′ κ κ′ sm);
+                  (listed-after W S (hd i) (says onL i) i h l (recordOf t i) (inv .nodes i h l) (hears-any i h l) (listOf after) nx′ κ κ′ sm);
             }
               where
                 κ : K W (suc N) (listOf after)
-                κ = k-next W N L begins lT onL D (listOf after) nx′
+                κ = k-next W S (listOf after) nx′
 
                 κ′ : K′ W (suc N)
                 κ′ = k′-listed W N L begins onL (inv .kept′)
 
                 sm : listOf after < 2 ^ n
-                sm = next-lt W N L begins lT onL D (listOf after) nx′
+                sm = next-lt W S (listOf after) nx′
 
     outside-table : (offL : has L s ≡ false) → TableInv W (suc N) L after
     outside-table offL = record {
