@@ -24,7 +24,7 @@ use Rattle.bench.specs.Runs.{Call, slot, off, restart, tableAfter, isSlot, list
 use Rattle.bench.specs.Demand.{AtEach, KeepsList, HearEverything, memberAfter, isDeciding, isDecided, Failed, MemberAt, OnAll, OffAll, Claims, Demand3}
 use Rattle.agreement.proofs.History.{World, lst, full-round, num-is, num-isnt}
 use Rattle.agreement.proofs.Marks.{no-both}
-use Rattle.agreement.proofs.Join.{found-it}
+use Rattle.agreement.proofs.Returns.{found-it}
 use Rattle.agreement.proofs.Nodes.{member-tracks}
 use Rattle.agreement.proofs.Places.{Placed}
 use Rattle.agreement.proofs.Accepted.{off-no-slot, restart-no-slot}

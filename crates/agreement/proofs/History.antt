@@ -66,6 +66,10 @@ num-isnt e = ap num e
 module _ (W : World) where
   open World W using (n, k, n-pos, n-most, k-two, k-lt, E, fair, few, once)
 
+  -- senders are among the 32 nodes that a set can hold
+  pub sender-most : (u : ℕ) → sender n u ≤ 32
+  sender-most u = omega (arith, sender-range n n-pos u, n-most)
+
   abbrev pub lst : ℕ → ℕ
   lst q = num (E q .listed)
 

@@ -4,6 +4,7 @@ pub mod Marks
 pub mod Outcome
 pub mod Listed
 pub mod Depart
+pub mod Returns
 pub mod Join
 pub mod Rounds
 pub mod Outside

@@ -18,7 +18,7 @@ use Rattle.message.specs.declared.Reading.{Reading}
 use Rattle.record.specs.declared.Node.{Node}
 use Rattle.record.specs.States.{isMember}
 use Rattle.steps.specs.Steps.{isHeard, returnIn, marksAfter}
-use Rattle.agreement.proofs.History.{World, Untold, K, lst, told-in-time, ks-is, Decision, sponsored-since, Sponsored, num-is}
+use Rattle.agreement.proofs.History.{World, sender-most, Untold, K, lst, told-in-time, ks-is, Decision, sponsored-since, Sponsored, num-is}
 use Rattle.agreement.proofs.Invariant.{Tracking, Off}
 use Rattle.agreement.proofs.Marks.{no-both, not-true, not-false, bitsIn, Told, sponsors, mark-of-sender, off-before, on-before}
 
@@ -94,10 +94,6 @@ module _ (W : World) where
     abbrev s : ℕ
     s = sender n (suc N)
 
-    -- senders are among the 32 nodes that a set can hold
-    most : (u : ℕ) → sender n u ≤ 32
-    most u = omega (arith, sender-range n n-pos u, n-most)
-
     sponsors-is : sponsors v ≡ k
     sponsors-is = rw (vn, vk, iv .set-is) (ks-is W L (B .enough))
 
@@ -110,12 +106,12 @@ module _ (W : World) where
     pub off-after : (u e : ℕ) → u + e ≡ suc N → e < n → E u .listed ≡ true → E u .sent ≡ false → has (marksAfter s r v) (sender n u) ≡ false
     off-after u zero z l p q =
         let y : u ≡ suc N = omega arith in
-        rw y (mark-of-sender s r v (sender-range n n-pos (suc N) .0) (most (suc N)) ∙ h .unsent (rw y at q))
+        rw y (mark-of-sender s r v (sender-range n n-pos (suc N) .0) (sender-most W (suc N)) ∙ h .unsent (rw y at q))
     off-after u (suc e) z l p q =
         let ne : s ≢ sender n u = other-sender N u e (B .late) z l in
         let ago : u + e ≡ N = omega arith in
         let was : has (v .present) (sender n u) ≡ false = iv .marks-off u e ago (omega arith) p q in
-        not-true (has (marksAfter s r v) (sender n u)) (λ on. go ago was (on-before s r v (sender n u) (sender-range n n-pos u .0) (most u) ne on))
+        not-true (has (marksAfter s r v) (sender n u)) (λ on. go ago was (on-before s r v (sender n u) (sender-range n n-pos u .0) (sender-most W u) ne on))
       where
         go : u + e ≡ N → has (v .present) (sender n u) ≡ false → (has (v .present) (sender n u) ≡ true) ⊎ ((isHeard r ≡ true) × Told s (bitsIn r) v (sender n u) (sponsors v)) → ⊥
         go ago was (inl y) = no-both y was
@@ -144,7 +140,7 @@ module _ (W : World) where
         heard-with : isHeard r ≡ true → (Z : Says N L r) → Sponsored W N L u → lst W (suc N) ≤ E (suc N) .failures + num (E u .missed s)
         heard-with p Z sp =
             let y : sponsoredOf (v .n) (v .k) (v .set) s (suc (sp .j)) ≡ Member (sender n u) = rw (vn, vk, iv .set-is) (sp .it) in
-            let nb : has (bitsIn r) (suc (sp .j)) ≡ false = not-true (has (bitsIn r) (suc (sp .j))) (λ b. off-before s r v (sender n u) (sender-range n n-pos u .0) (most u) ne off .1 p (record { i = sp .j; below = omega (arith, sp .few, sponsors-is); yes-bit = b; it = y })) in
+            let nb : has (bitsIn r) (suc (sp .j)) ≡ false = not-true (has (bitsIn r) (suc (sp .j))) (λ b. off-before s r v (sender n u) (sender-range n n-pos u .0) (sender-most W u) ne off .1 p (record { i = sp .j; below = omega (arith, sp .few, sponsors-is); yes-bit = b; it = y })) in
             let zo : has (Z .z .present) (sender n u) ≡ false = sym (Z .bits (sp .j) (sender n u) (sp .few) (sp .it)) ∙ nb in
             the-sender (Z .inv .marks-on u e ago (omega arith) sent on zo .who)
 
@@ -167,7 +163,7 @@ module _ (W : World) where
         y = omega arith
 
         unheard : isHeard r ≡ false
-        unheard = sym (mark-of-sender s r v (sender-range n n-pos (suc N) .0) (most (suc N))) ∙ (rw y at off)
+        unheard = sym (mark-of-sender s r v (sender-range n n-pos (suc N) .0) (sender-most W (suc N))) ∙ (rw y at off)
 
         new : E (suc N) .sent ≡ true → Dec (i ≡ s) → Off W (suc N) i (suc N) v
         new p′ (yes e) = record {
@@ -185,7 +181,7 @@ module _ (W : World) where
     on-after u (suc e) z l p q off =
         let ne : s ≢ sender n u = other-sender N u e (B .late) z l in
         let ago : u + e ≡ N = omega arith in
-        let was : has (v .present) (sender n u) ≡ false = off-before s r v (sender n u) (sender-range n n-pos u .0) (most u) ne off .0 in
+        let was : has (v .present) (sender n u) ≡ false = off-before s r v (sender n u) (sender-range n n-pos u .0) (sender-most W u) ne off .0 in
         let o : Off W N i u v = iv .marks-on u e ago (omega arith) p q was in
         record {
           member = o .member;

@@ -26,7 +26,8 @@ use Rattle.agreement.proofs.Invariant.{Tracking, ListeningInv, Awaits, 
 use Rattle.agreement.proofs.Marks.{no-both, bitsIn}
 use Rattle.agreement.proofs.Outcome.{choose, Gone, isout, listens, Settled, gone, kept, backed, became, joined, Departed, left, settled, Inside, missed, went, inside-law, noted-law, Noted, knocks, silent, awaits, ignores, settle-outside, setAfter}
 use Rattle.agreement.proofs.Listed.{Begins, Hears, Says, ListedSlot, Hearer}
-use Rattle.agreement.proofs.Join.{A, Next, set-after, after-inside, next-from}
+use Rattle.agreement.proofs.Returns.{set-after}
+use Rattle.agreement.proofs.Join.{A, Next, after-inside, next-from}
 use Rattle.agreement.proofs.Outside.{OwnSlot, after-noted}
 use Rattle.agreement.proofs.Rounds.{K′}
 use Rattle.agreement.proofs.Hearing.{fresh-inv, listening-law, Hearkened, on, again, follows}
