@@ -25,7 +25,7 @@ use Rattle.bench.specs.Demand.{AtEach, KeepsList, HearEverything, memberAfter, 
 use Rattle.agreement.proofs.History.{World, lst, full-round, num-is, num-isnt}
 use Rattle.agreement.proofs.Marks.{no-both}
 use Rattle.agreement.proofs.Returns.{found-it}
-use Rattle.agreement.proofs.Nodes.{member-tracks}
+use Rattle.agreement.proofs.Alike.{member-tracks}
 use Rattle.agreement.proofs.Places.{Placed}
 use Rattle.agreement.proofs.Accepted.{off-no-slot, restart-no-slot}
 use Rattle.agreement.proofs.Runs.{below-limit, placed-run, slots-next}

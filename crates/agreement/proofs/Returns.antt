@@ -2,16 +2,15 @@
 use Prim.Native.Nat.{ℕ, zero, suc, _+_, _-_, _≤_, _<_}
 use mathlib.Core.Path.{_≡_, refl, sym, ap, _∙_}
 use mathlib.Core.Logic.{_≢_, _⊎_, inl, inr}
-use mathlib.Core.Bool.{Bool, true, false, not, _&&_, _||_, true≢false, false≢true}
+use mathlib.Core.Bool.{Bool, true, false, not, _&&_, _||_, false≢true}
 use native.Mathlib.Omega.{arith}
 use native.Mathlib.Decide.{ℕ-discrete, decLt}
 use lib.Dec.{eqb}
 use borrow.Author.Tests.{eqb-true, eq-eqb, leb-true}
-use Rattle.nodeset.specs.Sums.{sum, num}
-use Rattle.nodeset.specs.Sets.{has, with}
+use Rattle.nodeset.specs.Sums.{num}
+use Rattle.nodeset.specs.Sets.{has}
 use Rattle.nodeset.proofs.Tests.{by-cases, both}
-use Rattle.nodeset.proofs.Sums.{sum-at, sum-rest, num-le}
-use Rattle.nodeset.proofs.Laws.{has-with, has-with-other}
+use Rattle.nodeset.proofs.Sums.{num-le}
 use Rattle.ring.specs.declared.Found.{Found}
 use Rattle.ring.specs.declared.Found.the-variants as found
 use Rattle.ring.specs.Ring.{sender, memberBefore}
@@ -25,14 +24,13 @@ use Rattle.record.specs.declared.Node.{Node}
 use Rattle.record.specs.declared.State.{State}
 use Rattle.record.specs.declared.State.the-variants.{Member, Listening, Following, Knocking, Out}
 use Rattle.record.specs.States.{isMember, isKnocking}
-use Rattle.changes.specs.Changes.{withSet, withReturning}
 use Rattle.steps.specs.Steps.{isHeard, returnIn, isFound, marksAfter, missedReturn, returnHeard, marked, joins}
-use Rattle.agreement.proofs.History.{World, sender-most, Untold, lst, told-in-time, one-knock, num-is}
-use Rattle.agreement.proofs.Invariant.{Tracking, Off, Knock, Awaits, aware, unaware}
-use Rattle.agreement.proofs.Marks.{no-both, not-true, not-false, has-with-keeps}
-use Rattle.agreement.proofs.Outcome.{Gone, Settled, gone, kept, backed, became, joined, listedAs, setAfter}
+use Rattle.agreement.proofs.History.{World, Untold, lst, told-in-time, one-knock, num-is}
+use Rattle.agreement.proofs.Invariant.{Knock, Awaits, aware, unaware}
+use Rattle.agreement.proofs.Marks.{no-both, not-true, not-false}
+use Rattle.agreement.proofs.Outcome.{setAfter}
 use Rattle.agreement.proofs.Listed.{Says, ListedSlot, Hearer, same-window, extend, missed-failure, off-after, on-after}
-use Rattle.agreement.proofs.Depart.{drop-sub, drop-keeps, since-next, L₁, sender-stays, not-dropped, Nearest, nearest, enough-since}
+use Rattle.agreement.proofs.Depart.{drop-sub, drop-keeps, since-next, L₁}
 
 -- ---- tests taken apart
 

@@ -2,7 +2,7 @@
 use Prim.Native.Nat.{ℕ, suc, _+_, _-_, _^_, _≤_, _<_}
 use mathlib.Core.Path.{_≡_, refl, sym, ap, _∙_, subst}
 use mathlib.Core.Logic.{_≢_}
-use mathlib.Core.Bool.{Bool, true, false, cond, not, _&&_, _||_, true≢false, false≢true}
+use mathlib.Core.Bool.{Bool, true, false, cond, not, _&&_, _||_, false≢true}
 use native.Mathlib.Omega.{arith}
 use native.Mathlib.Decide.{ℕ-discrete}
 use lib.Dec.{eqb}
@@ -17,9 +17,8 @@ use Rattle.ring.proofs.Senders.{sender-range, sender-period}
 use Rattle.message.specs.declared.Reading.{Reading}
 use Rattle.message.specs.declared.Reading.the-variants as reading
 use Rattle.record.specs.declared.Node.{Node}
-use Rattle.record.specs.declared.State.{State}
-use Rattle.record.specs.declared.State.the-variants.{Member, Listening, Following, Knocking, Out}
-use Rattle.record.specs.States.{isMember, isListening, isFollowing, isOut}
+use Rattle.record.specs.declared.State.the-variants.{Member}
+use Rattle.record.specs.States.{isMember, isListening, isOut}
 use Rattle.record.specs.Soundness.{sound, limit}
 use Rattle.record.proofs.Tracking.{tracks}
 use Rattle.changes.specs.Changes.{counted}
@@ -40,82 +39,12 @@ use Rattle.agreement.proofs.Listed.{Begins, Says, ListedSlot}
 use Rattle.agreement.proofs.Join.{Next}
 use Rattle.agreement.proofs.Outside.{OwnSlot}
 use Rattle.agreement.proofs.Rounds.{K′, k-next, next-lt, k′-listed, k′-outside, k-outside}
-use Rattle.agreement.proofs.Nodes.{NodeInv, HearsAny, listening-only, listed-after, next-list, outside-after}
+use Rattle.agreement.proofs.Alike.{listening-only}
+use Rattle.agreement.proofs.Nodes.{NodeInv, HearsAny, listed-after, next-list, outside-after}
 use Rattle.agreement.proofs.Places.{length-each, record-each}
 use Rattle.agreement.proofs.Counted.{step-done}
 use Rattle.agreement.proofs.Tables.{TableInv, Witness, witness, list-is, slots-at}
-
--- ---- what is heard: by whose slot it is, what is lost, who is named, who sends
-
-hear : (ow lo mi tr : Bool) (q : Reading) → isHeard q ≡ true → isHeard (cond ow unheard (cond (lo || mi) unheard (cond tr q unheard))) ≡ ((tr && (not lo && not mi)) && not ow)
-hear true lo mi tr q e = sym (last (tr && (not lo && not mi)))
-  where
-    last : (a : Bool) → (a && false) ≡ false
-    last true = refl
-    last false = refl
-hear false true mi true q e = refl
-hear false true mi false q e = refl
-hear false false true true q e = refl
-hear false false true false q e = refl
-hear false false false true q e = e
-hear false false false false q e = refl
-
--- who hears anything hears the message
-hear-message : (ow lo mi tr : Bool) (q : Reading) → isHeard (cond ow unheard (cond (lo || mi) unheard (cond tr q unheard))) ≡ true → cond ow unheard (cond (lo || mi) unheard (cond tr q unheard)) ≡ q
-hear-message true lo mi tr q e = absurd (false≢true e)
-hear-message false true mi tr q e = absurd (false≢true e)
-hear-message false false true tr q e = absurd (false≢true e)
-hear-message false false false true q e = refl
-hear-message false false false false q e = absurd (false≢true e)
-
-unheard-bits : (r : Reading) → isHeard r ≡ false → bitsIn r ≡ 0
-unheard-bits (reading.Heard bits bit) e = absurd (true≢false e)
-unheard-bits (reading.Refused c) e = refl
-
-unreached : (tr lo mi ow : Bool) → (tr && not lo) ≡ false → ((tr && (not lo && not mi)) && not ow) ≡ false
-unreached false lo mi ow e = refl
-unreached true false mi ow e = absurd (true≢false e)
-unreached true true mi ow e = refl
-
-and-no : (a b : Bool) → b ≡ true → (a && not b) ≡ false
-and-no true b e = rw e refl
-and-no false b e = refl
-
-reached : (tr lo mi ow : Bool) → (tr && not lo) ≡ true → ow ≡ false → ((tr && (not lo && not mi)) && not ow) ≡ not mi
-reached true false true ow e f = refl
-reached true false false ow e f = rw f refl
-reached true true mi ow e f = absurd (false≢true e)
-reached false lo mi ow e f = absurd (false≢true e)
-
-sent-parts : (tr lo : Bool) → (tr && not lo) ≡ true → (tr ≡ true) × (lo ≡ false)
-sent-parts true false e = (refl, refl)
-sent-parts true true e = absurd (false≢true e)
-sent-parts false lo e = absurd (false≢true e)
-
--- ---- states
-
-not-out : (st : State) → tracks st ≡ true → (isMember st || isOut st) ≡ true → isMember st ≡ true
-not-out Member f g = refl
-not-out Listening f g = absurd (false≢true f)
-not-out Following f g = absurd (false≢true g)
-not-out Knocking f g = absurd (false≢true g)
-not-out (Out c) f g = absurd (false≢true f)
-
-listening-neither : (st : State) → isListening st ≡ true → (isMember st || isOut st) ≡ false
-listening-neither Member f = absurd (false≢true f)
-listening-neither Listening f = refl
-listening-neither Following f = refl
-listening-neither Knocking f = refl
-listening-neither (Out c) f = absurd (false≢true f)
-
-sends-tracks : (st : State) (b : Bool) → (isMember st || (isFollowing st && b)) ≡ true → tracks st ≡ true
-sends-tracks Member b e = refl
-sends-tracks Listening b e = absurd (false≢true e)
-sends-tracks Following b e = refl
-sends-tracks Knocking b e = absurd (false≢true e)
-sends-tracks (Out c) b e = absurd (false≢true e)
-
--- ---- the slot
+use Rattle.agreement.proofs.Reached.{hear, hear-message, unheard-bits, unreached, and-no, reached, sent-parts, not-out, listening-neither, sends-tracks}
 
 module _ (W : World) where
   open World W using (n, k, n-pos, n-most, k-two, k-lt, E)

@@ -27,7 +27,8 @@ use Rattle.agreement.proofs.History.{World, K}
 use Rattle.agreement.proofs.Marks.{no-both}
 use Rattle.agreement.proofs.Rounds.{K′}
 use Rattle.agreement.proofs.Hearing.{fresh-inv}
-use Rattle.agreement.proofs.Nodes.{NodeInv, member-tracks}
+use Rattle.agreement.proofs.Alike.{member-tracks}
+use Rattle.agreement.proofs.Nodes.{NodeInv}
 use Rattle.agreement.proofs.Places.{length-each, record-each}
 
 -- ---- the list
