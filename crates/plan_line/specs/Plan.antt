@@ -1,6 +1,6 @@
 -- Document 01, "The bench program" and "Causes and their numbers": what a plan line says. "A plan line is tested for 12 first"; "Plan numbers of
 -- readable form but wrong value give 1, 2 or 3."
-use Prim.Native.Nat.{ℕ, suc, min}
+use Prim.Native.Nat.{ℕ, suc}
 use mathlib.Core.Bool.{Bool, true, false, cond, _&&_}
 use mathlib.Core.List.{List, [], _∷_}
 use lib.Dec.{leb}
@@ -13,6 +13,7 @@ use Rattle.plan_line.specs.declared.Opening.{Opening}
 use Rattle.plan_line.specs.declared.Opening.the-variants as opening
 use Rattle.plan_line.specs.declared.Named.{Named}
 use Rattle.plan_line.specs.declared.Named.the-variants as named
+use Rattle.plan_line.specs.declared.Missed.{Missed}
 use Rattle.plan_line.specs.declared.Order.{Order}
 use Rattle.plan_line.specs.declared.Order.the-variants as order
 use Rattle.plan_line.specs.Words.{before, after, wordsOf, begins, same, isNumber, valueOf}
@@ -32,17 +33,19 @@ ifOpened false cause opened = opening.Refused cause
 unfoldable pub ringOf : ℕ → ℕ → Opening
 ringOf n k = ifOpened (ringSize n) RingSize (ifOpened (sponsorCount n k) SponsorCount (opening.Ring n k))
 
+-- Two words that should be numbers.
+unfoldable pub numbersOf : List ℕ → List ℕ → Opening
+numbersOf first second = ifOpened (isNumber first && isNumber second) PlanLine (ringOf (valueOf first) (valueOf second))
+
 -- "Line one: n, space, k."
 unfoldable pub openingOf : List ℕ → Opening
-openingOf line =
-    ifOpened (shortEnough line && (isNumber (before line) && isNumber (after line))) PlanLine
-    (ringOf (valueOf (before line)) (valueOf (after line)))
+openingOf line = ifOpened (shortEnough line) PlanLine (numbersOf (before line) (after line))
 
 -- ---- one node
 
 -- "Node number not 1 to n". A ring has at most 32 nodes, so that no number above 32 is one, whatever n is given.
 abbrev pub inRing : ℕ → ℕ → Bool
-inRing n a = nodeNumber (min n 32) a
+inRing n a = nodeNumber n a && leb a 32
 
 abbrev pub ifNamed : Bool → Refusal → Named → Named
 ifNamed true cause found = found
@@ -80,6 +83,13 @@ withAll set (a ∷ rest) = withAll (with set a) rest
 abbrev pub ifOrdered : Bool → Refusal → Order → Order
 ifOrdered true cause ordered = ordered
 ifOrdered false cause ordered = order.Refused cause
+
+-- What came of the words so far, with one node more; and what they say.
+abbrev pub joined : ℕ → Missed → ℕ → Missed
+joined n missed a = record { inside = missed .inside && inRing n a; set = with (missed .set) a }
+
+abbrev pub missedOrder : Missed → Order
+missedOrder missed = ifOrdered (missed .inside) NodeNumber (order.Miss (missed .set))
 
 -- "`miss a b` (numbers rising, at least one)": what stands after `miss `. A list that does not rise is unreadable, so that 12 is tested before 3.
 unfoldable pub missingOf : ℕ → List ℕ → Order
