@@ -8,10 +8,11 @@ use native.Mathlib.Omega.{arith}
 use native.Mathlib.Decide.{decLt, ℕ-discrete}
 use native.Mathlib.Nat.{min-eq-left, min-eq-right}
 use lib.ListN.{length, getD, drop}
-use lib.Seq.{drop-cons}
+use native.Mathlib.Numerals.{add-one}
+use lib.Seq.{drop-cons, drop-length}
 use lib.Dec.{eqb, leb, ltb}
-use borrow.Author.Tests.{eq-eqb, ne-eqb, lt-ltb, le-ltb, ltb-true, leb-true, eqb-false, not-true, not-false}
-use Rattle.plan_line.specs.Words.{allDigits, isDigit, isNumber, leadingZero, valueFrom, valueOf}
+use borrow.Author.Tests.{le-leb, eq-eqb, ne-eqb, lt-ltb, le-ltb, ltb-true, leb-true, eqb-false, not-true, not-false}
+use Rattle.plan_line.specs.Words.{allDigits, isDigit, isNumber, leadingZero, leastAfter, valueFrom, valueOf}
 
 use Rattle.plan_line.proofs.Words.{and-false}
 
@@ -153,3 +154,48 @@ unfolding valueFrom allDigits
 many-digits w e long =
     let f = form w e in
     shorter (57 ∷ 57 ∷ []) w (omega arith) (omega arith) refl (f .2) (f .1)
+
+-- ---- a number after the last one
+
+module _ (last word : List ℕ) (zero-free : leadingZero last ≡ false) (digits : allDigits last ≡ true) (number : isNumber word ≡ true) where
+  pub rise-shorter : length last < length word → leb (leastAfter last) (valueOf word) ≡ true
+  rise-shorter few = shorter-case last digits few
+    where
+      shorter-case : (l : List ℕ) → allDigits l ≡ true → length l < length word → leb (leastAfter l) (valueOf word) ≡ true
+      shorter-case [] d h = le-leb 0 (valueOf word) (omega arith)
+      shorter-case (b ∷ l) d h = lt-ltb (valueOf (b ∷ l)) (valueOf word) (shorter (b ∷ l) word (omega arith) h d (form word number .2) (form word number .1))
+
+  pub rise-longer : length word < length last → leb (leastAfter last) (valueOf word) ≡ false
+  rise-longer more = longer-case last zero-free digits more
+    where
+      longer-case : (l : List ℕ) → leadingZero l ≡ false → allDigits l ≡ true → length word < length l → leb (leastAfter l) (valueOf word) ≡ false
+      longer-case [] z d h = absurd (omega arith)
+      longer-case (b ∷ l) z d h =
+          le-ltb (valueOf (b ∷ l)) (valueOf word) (omega (arith, shorter word (b ∷ l) (form word number .0) h (form word number .2) d z))
+
+  pub rise-same : length last ≡ length word → leb (leastAfter last) (valueOf word) ≡ lexb last word
+  rise-same e = same-case last digits e
+    where
+      same-case : (l : List ℕ) → allDigits l ≡ true → length l ≡ length word → leb (leastAfter l) (valueOf word) ≡ lexb l word
+      same-case [] d h = absurd (omega (arith, form word number .0))
+      same-case (b ∷ l) d h = by-digits 0 (b ∷ l) word h d (form word number .2)
+
+-- one digit more
+module _ (a b : List ℕ) (i : ℕ) (in-a : i < length a) (in-b : i < length b) where
+  lex-at : lexb (drop i a) (drop i b) ≡ cond (eqb (getD a i 0) (getD b i 0)) (lexb (drop (i + 1) a) (drop (i + 1) b)) (ltb (getD a i 0) (getD b i 0))
+  unfolding lexb
+  lex-at = rw (drop-cons a i 0 in-a, drop-cons b i 0 in-b, add-one i)
+
+  pub lex-next : getD a i 0 ≡ getD b i 0 → lexb (drop i a) (drop i b) ≡ lexb (drop (i + 1) a) (drop (i + 1) b)
+  lex-next e =
+      lex-at
+      ∙ ap (λ (t : Bool). cond t (lexb (drop (i + 1) a) (drop (i + 1) b)) (ltb (getD a i 0) (getD b i 0))) (eq-eqb (getD a i 0) (getD b i 0) e)
+
+  pub lex-stop : (getD a i 0 ≡ getD b i 0 → ⊥) → lexb (drop i a) (drop i b) ≡ ltb (getD a i 0) (getD b i 0)
+  lex-stop h =
+      lex-at
+      ∙ ap (λ (t : Bool). cond t (lexb (drop (i + 1) a) (drop (i + 1) b)) (ltb (getD a i 0) (getD b i 0))) (ne-eqb (getD a i 0) (getD b i 0) h)
+
+pub lex-end : (a b : List ℕ) (i : ℕ) → i ≡ length a → lexb (drop i a) (drop i b) ≡ false
+unfolding lexb
+lex-end a b i e = ap (λ (j : ℕ). lexb (drop j a) (drop i b)) e ∙ ap (λ (k : List ℕ). lexb k (drop i b)) (drop-length a)

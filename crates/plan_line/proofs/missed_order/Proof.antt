@@ -1,15 +1,16 @@
+-- `plan_line::missed_order` meets its contract.
+-- Assumes nothing.
+use borrow.Author.Tests.{not-true, not-false}
 use Rattle.plan_line.proofs.missed_order.Statement.{statement}
 use Rattle.plan_line.proofs.missed_order.Tie as tie
 use Rattle.plan_line.proofs.missed_order.Reads as reads
 use Rattle.plan_line.proofs.missed_order.Lts as lts
 
--- src/lib.rt:198:9
 returns : tie.Need-returns
-returns c = ?
+returns c = simp (not-true (c .before .before .args .missed .inside) (c .if1 .taken))
 
--- src/lib.rt:194:1
 returns-2 : tie.Need-returns-2
-returns-2 c = ?
+returns-2 c = simp (not-false (c .before .before .args .missed .inside) (c .if1 .left))
 
 pub missed-order-spec : {M : Type 1} → statement M
 missed-order-spec = tie.close (tie.spec returns returns-2)

@@ -1,3 +1,19 @@
+-- `plan_line::opening_of` meets its contract: the two parts that are lent are the bytes before the first space and those after it. Where there is no
+-- space, nothing is after it, and that is no number. Assumes nothing.
+use Prim.Native.Nat.{ℕ, suc, _+_, _-_, _≤_}
+use mathlib.Core.Path.{_≡_, refl, sym, ap, _∙_}
+use mathlib.Core.List.{List}
+use native.Mathlib.Omega.{arith}
+use native.Mathlib.Numerals.{add-one}
+use lib.ListN.{length, take, drop, drop-of-length-le}
+use lib.Seq.{length-take-le, take-all}
+use borrow.Author.Tests.{le-leb, lt-leb}
+use denote.Ref.{now}
+use Rattle.plan_line.specs.Words.{after, before, gap, isNumber}
+use Rattle.refusal.specs.declared.Refusal.the-variants.{PlanLine}
+use Rattle.plan_line.specs.declared.Opening.the-variants.{Refused}
+use Rattle.plan_line.proofs.Words.{and-false}
+use Rattle.plan_line.specs.Plan.{numbersOf, openingOf}
 use borrow.Author.Needs.{needs}
 use Rattle.plan_line.proofs.opening_of.Statement.{statement}
 use Rattle.plan_line.proofs.opening_of.Tie as tie
@@ -6,45 +22,46 @@ use Rattle.plan_line.proofs.opening_of.Lts as lts
 use Rattle.plan_line.proofs.two_numbers.Reads as two-numbers-reads
 use Rattle.plan_line.proofs.word_end.Reads as word-end-reads
 
--- src/lib.rt:310:9
-returns : tie.Need-returns
-returns c = ?
+no-second : (l : List ℕ) → length l ≤ gap l → numbersOf (before l) (after l) ≡ Refused PlanLine
+unfolding numbersOf isNumber
+no-second l h = rw (drop-of-length-le l {suc (gap l)} (omega arith), and-false)
 
--- src/lib.rt:312:9
+returns : tie.Need-returns
+unfolding openingOf
+returns c = simp (lt-leb (length (now (c .before .before .args .line))) 120 (c .if1 .taken))
+
 word-end-requires : tie.Need-word-end-requires
 word-end-requires c κs = search needs
 
--- src/lib.rt:314:9
 returns-2 : tie.Need-returns-2
-returns-2 c = ?
+unfolding openingOf
+returns-2 c =
+    let l = now (c .before .before .before .before .args .line) in
+    let none : length l ≤ gap l = omega (arith, c .before .word-end .ensures) in
+    simp (le-leb (length l) 120 (c .before .before .if1 .left)) (sym (no-second l none))
 
--- src/lib.rt:316:17
 slice-aggregate-two-numbers : tie.Need-slice-aggregate-two-numbers
-slice-aggregate-two-numbers c = ?
+slice-aggregate-two-numbers c = sym (length-take-le _ _ (omega arith))
 
--- src/lib.rt:316:37
 add-two-numbers : tie.Need-add-two-numbers
 add-two-numbers c = search needs
 
--- src/lib.rt:316:31
 sub-two-numbers : tie.Need-sub-two-numbers
 sub-two-numbers c = search needs
 
--- src/lib.rt:316:31
 part-two-numbers-start : tie.Need-part-two-numbers-start
 part-two-numbers-start c = search needs
 
--- src/lib.rt:316:31
 part-two-numbers-end : tie.Need-part-two-numbers-end
 part-two-numbers-end c = search needs
 
--- src/lib.rt:316:5
 two-numbers-requires : tie.Need-two-numbers-requires
 two-numbers-requires c κs = search needs
 
--- src/lib.rt:306:1
 returns-3 : tie.Need-returns-3
-returns-3 c = ?
+unfolding openingOf
+returns-3 c =
+    let e = c .two-numbers .ensures in ?
 
 pub opening-of-spec : {M : Type 1} → statement M
 opening-of-spec =

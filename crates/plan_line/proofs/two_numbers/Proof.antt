@@ -1,3 +1,14 @@
+-- `plan_line::two_numbers` meets its contract: at each `return` the tests that led there say which case of `numbersOf` holds.
+-- Assumes nothing.
+use Prim.Native.Nat.{ℕ}
+use mathlib.Core.Path.{_≡_, sym, ap, _∙_}
+use mathlib.Core.Bool.{true, false}
+use borrow.Author.Tests.{not-true, not-false}
+use denote.Ref.{now}
+use Rattle.plan_line.specs.Words.{isNumber, valueOf}
+use Rattle.plan_line.specs.Plan.{numbersOf, ringOf}
+use Rattle.plan_line.proofs.Words.{and-false}
+use Rattle.plan_line.proofs.Capped.{ring-capped}
 use borrow.Author.Needs.{needs}
 use Rattle.plan_line.proofs.two_numbers.Statement.{statement}
 use Rattle.plan_line.proofs.two_numbers.Tie as tie
@@ -7,37 +18,44 @@ use Rattle.plan_line.proofs.is_number.Reads as is-number-reads
 use Rattle.plan_line.proofs.ring_of.Reads as ring-of-reads
 use Rattle.plan_line.proofs.small_value.Reads as small-value-reads
 
--- src/lib.rt:296:9
+first-number : (c : tie.Else1) → isNumber (now (c .before .before .before .before .args .first)) ≡ true
+first-number c = sym (c .before .is-number .ensures) ∙ not-false (c .before .is-number .result) (c .if1 .left)
+
+second-number : (c : tie.Else2) → isNumber (now (c .before .before .before .before .before .before .args .second)) ≡ true
+second-number c = sym (c .before .is-number2 .ensures) ∙ not-false (c .before .is-number2 .result) (c .if2 .left)
+
 is-number-requires : tie.Need-is-number-requires
 is-number-requires c κs = search needs
 
--- src/lib.rt:297:9
 returns : tie.Need-returns
-returns c = ?
+unfolding numbersOf
+returns c = simp (sym (c .before .is-number .ensures) ∙ not-true (c .before .is-number .result) (c .if1 .taken))
 
--- src/lib.rt:299:9
 is-number-requires-2 : tie.Need-is-number-requires-2
 is-number-requires-2 c κs = search needs
 
--- src/lib.rt:300:9
 returns-2 : tie.Need-returns-2
-returns-2 c = ?
+unfolding numbersOf
+returns-2 c = simp (sym (c .before .is-number2 .ensures) ∙ not-true (c .before .is-number2 .result) (c .if2 .taken), and-false)
 
--- src/lib.rt:302:13
 small-value-requires : tie.Need-small-value-requires
-small-value-requires c κs = ?
+small-value-requires c κs = first-number (c .before .before)
 
--- src/lib.rt:302:33
 small-value-requires-2 : tie.Need-small-value-requires-2
-small-value-requires-2 c κs = ?
+small-value-requires-2 c κs = second-number (c .before)
 
--- src/lib.rt:302:5
 ring-of-requires : tie.Need-ring-of-requires
 ring-of-requires c κs = search needs
 
--- src/lib.rt:293:1
 returns-3 : tie.Need-returns-3
-returns-3 c = ?
+unfolding numbersOf
+returns-3 c =
+    let a = c .before .before .before .before .before .before .before .before .before .args in
+    let values =
+    ap (λ (n : ℕ). ringOf n (c .before .small-value2 .result)) (c .before .before .small-value .ensures)
+    ∙ ap (ringOf _) (c .before .small-value2 .ensures) in
+    simp (first-number (c .before .before .before .before .before), second-number (c .before .before .before))
+    (c .ring-of .ensures ∙ values ∙ ring-capped (valueOf (now (a .first))) (valueOf (now (a .second))))
 
 pub two-numbers-spec : {M : Type 1} → statement M
 two-numbers-spec =
