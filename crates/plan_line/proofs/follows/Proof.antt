@@ -1,3 +1,10 @@
+-- `plan_line::follows` meets its contract.
+-- Assumes nothing.
+use mathlib.Core.Path.{_≡_, sym, _∙_}
+use mathlib.Core.Bool.{true}
+use borrow.Author.Tests.{not-true, not-false}
+use denote.Ref.{now}
+use Rattle.plan_line.specs.Words.{isNumber}
 use borrow.Author.Needs.{needs}
 use Rattle.plan_line.proofs.follows.Statement.{statement}
 use Rattle.plan_line.proofs.follows.Tie as tie
@@ -6,21 +13,20 @@ use Rattle.plan_line.proofs.follows.Lts as lts
 use Rattle.plan_line.proofs.is_number.Reads as is-number-reads
 use Rattle.plan_line.proofs.rises.Reads as rises-reads
 
--- src/lib.rt:155:9
+number : (c : tie.Else1) → isNumber (now (c .before .before .before .before .args .word)) ≡ true
+number c = sym (c .before .is-number .ensures) ∙ not-false (c .before .is-number .result) (c .if1 .left)
+
 is-number-requires : tie.Need-is-number-requires
 is-number-requires c κs = search needs
 
--- src/lib.rt:156:9
 returns : tie.Need-returns
-returns c = ?
+returns c = simp (sym (c .before .is-number .ensures) ∙ not-true (c .before .is-number .result) (c .if1 .taken))
 
--- src/lib.rt:158:5
 rises-requires : tie.Need-rises-requires
-rises-requires c κs = ?
+rises-requires c κs = (c .before .before .before .before .pre .0, c .before .before .before .before .pre .1, number c)
 
--- src/lib.rt:151:1
 returns-2 : tie.Need-returns-2
-returns-2 c = ?
+returns-2 c = simp (number (c .before)) (c .rises .ensures)
 
 pub follows-spec : {M : Type 1} → statement M
 follows-spec = tie.close (tie.spec is-number-requires returns rises-requires returns-2)

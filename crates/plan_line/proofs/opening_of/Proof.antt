@@ -5,7 +5,7 @@ use mathlib.Core.Path.{_≡_, refl, sym, ap, _∙_}
 use mathlib.Core.List.{List}
 use native.Mathlib.Omega.{arith}
 use native.Mathlib.Numerals.{add-one}
-use lib.ListN.{length, take, drop, drop-of-length-le}
+use lib.ListN.{length, take, drop, drop-of-length-le, length-drop}
 use lib.Seq.{length-take-le, take-all}
 use borrow.Author.Tests.{le-leb, lt-leb}
 use denote.Ref.{now}
@@ -24,7 +24,7 @@ use Rattle.plan_line.proofs.word_end.Reads as word-end-reads
 
 no-second : (l : List ℕ) → length l ≤ gap l → numbersOf (before l) (after l) ≡ Refused PlanLine
 unfolding numbersOf isNumber
-no-second l h = rw (drop-of-length-le l {suc (gap l)} (omega arith), and-false)
+no-second l h = rw (drop-of-length-le l {i = suc (gap l)} (omega arith), and-false)
 
 returns : tie.Need-returns
 unfolding openingOf
@@ -61,7 +61,15 @@ two-numbers-requires c κs = search needs
 returns-3 : tie.Need-returns-3
 unfolding openingOf
 returns-3 c =
-    let e = c .two-numbers .ensures in ?
+    let l = now (c .before .before .before .before .before .before .before .args .line) in
+    let e = c .before .before .before .before .word-end .result in
+    let end : e ≡ gap l = omega (arith, c .before .before .before .before .word-end .ensures) in
+    let all : take (length l - (e + 1)) (drop (e + 1) l) ≡ drop (e + 1) l = take-all (length l - (e + 1)) (drop (e + 1) l) (omega (arith, length-drop (e + 1) l)) in
+    simp (le-leb (length l) 120 (c .before .before .before .before .before .if1 .left))
+    (c .two-numbers .ensures
+    ∙ ap (numbersOf (take e l)) all
+    ∙ ap (λ (g : ℕ). numbersOf (take g l) (drop (g + 1) l)) end
+    ∙ ap (λ (g : ℕ). numbersOf (take (gap l) l) (drop g l)) (add-one (gap l)))
 
 pub opening-of-spec : {M : Type 1} → statement M
 opening-of-spec =
