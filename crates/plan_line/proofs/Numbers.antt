@@ -13,7 +13,6 @@ use lib.Seq.{drop-cons, drop-length}
 use lib.Dec.{eqb, leb, ltb}
 use borrow.Author.Tests.{le-leb, eq-eqb, ne-eqb, lt-ltb, le-ltb, ltb-true, leb-true, eqb-false, not-true, not-false}
 use Rattle.plan_line.specs.Words.{allDigits, isDigit, isNumber, leadingZero, leastAfter, valueFrom, valueOf}
-
 use Rattle.plan_line.proofs.Words.{and-false}
 
 -- ---- the form

@@ -11,8 +11,6 @@ use Rattle.plan_line.specs.Words.{allDigits}
 use Rattle.plan_line.proofs.Words.{digits-next, digits-low, digits-high, digits-end}
 use Rattle.plan_line.proofs.all_digits.Statement.{statement}
 use Rattle.plan_line.proofs.all_digits.Tie as tie
-use Rattle.plan_line.proofs.all_digits.Reads as reads
-use Rattle.plan_line.proofs.all_digits.Lts as lts
 
 abbrev Inv-loop : tie.InvT-loop
 Inv-loop word i₀ i = (i ≤ length word) × (allDigits word ≡ allDigits (drop i word))

@@ -10,8 +10,6 @@ use Rattle.plan_line.specs.Words as words
 use Rattle.plan_line.proofs.Words.{begins-next, begins-stop, begins-short, begins-end}
 use Rattle.plan_line.proofs.begins.Statement.{statement}
 use Rattle.plan_line.proofs.begins.Tie as tie
-use Rattle.plan_line.proofs.begins.Reads as reads
-use Rattle.plan_line.proofs.begins.Lts as lts
 
 abbrev Inv-loop : tie.InvT-loop
 Inv-loop word line i₀ i = (i ≤ length word) × (words.begins word line ≡ words.begins (drop i word) (drop i line))
@@ -19,45 +17,36 @@ Inv-loop word line i₀ i = (i ≤ length word) × (words.begins word line ≡ w
 abbrev μ-loop : tie.MeasureT-loop
 μ-loop word line i₀ i = length word - i
 
--- src/lib.rt:99:9
 returns : tie.Need-returns Inv-loop μ-loop
 returns c = sym (begins-short (now (c .before .args .word)) (now (c .before .args .line)) (c .if1 .taken))
 
--- src/lib.rt:102:5
 loop-holds : tie.Need-loop-holds Inv-loop μ-loop
 loop-holds c = (search needs, refl)
 
--- src/lib.rt:103:12
 shared-slice-read-if2 : tie.Need-shared-slice-read-if2 Inv-loop μ-loop
 shared-slice-read-if2 c = search needs
 
--- src/lib.rt:103:23
 shared-slice-read-if2-2 : tie.Need-shared-slice-read-if2-2 Inv-loop μ-loop
 shared-slice-read-if2-2 c = omega arith
 
--- src/lib.rt:104:13
 returns-2 : tie.Need-returns-2 Inv-loop μ-loop
 returns-2 c =
     let loop = c .before .before .before .before .loop in
     let a = c .before .before .before .before .before .before .args in
     sym (loop .inv .1 ∙ begins-stop (now (a .word)) (now (a .line)) (loop .i) (omega arith) (omega arith) (c .if2 .taken))
 
--- src/lib.rt:106:9
 add-i : tie.Need-add-i Inv-loop μ-loop
 add-i c = search needs
 
--- src/lib.rt:102:5
 loop-less : tie.Need-loop-less Inv-loop μ-loop
 loop-less c = omega arith
 
--- src/lib.rt:102:5
 loop-again : tie.Need-loop-again Inv-loop μ-loop
 loop-again c =
     let loop = c .before .before .before .before .loop in
     let a = c .before .before .before .before .before .before .args in
     (omega arith, loop .inv .1 ∙ begins-next (now (a .word)) (now (a .line)) (loop .i) (omega arith) (omega arith) (c .if2 .left))
 
--- src/lib.rt:95:1
 returns-3 : tie.Need-returns-3 Inv-loop μ-loop
 returns-3 c =
     let loop = c .before .loop in

@@ -8,10 +8,6 @@ use Rattle.plan_line.specs.Words.{isNumber}
 use borrow.Author.Needs.{needs}
 use Rattle.plan_line.proofs.follows.Statement.{statement}
 use Rattle.plan_line.proofs.follows.Tie as tie
-use Rattle.plan_line.proofs.follows.Reads as reads
-use Rattle.plan_line.proofs.follows.Lts as lts
-use Rattle.plan_line.proofs.is_number.Reads as is-number-reads
-use Rattle.plan_line.proofs.rises.Reads as rises-reads
 
 number : (c : tie.Else1) → isNumber (now (c .before .before .before .before .args .word)) ≡ true
 number c = sym (c .before .is-number .ensures) ∙ not-false (c .before .is-number .result) (c .if1 .left)

@@ -4,9 +4,6 @@ use mathlib.Core.Path.{sym, _∙_}
 use borrow.Author.Needs.{needs}
 use Rattle.plan_line.proofs.in_ring.Statement.{statement}
 use Rattle.plan_line.proofs.in_ring.Tie as tie
-use Rattle.plan_line.proofs.in_ring.Reads as reads
-use Rattle.plan_line.proofs.in_ring.Lts as lts
-use Rattle.ring.proofs.is_node_number.Reads as is-node-number-reads
 
 is-node-number-requires : tie.Need-is-node-number-requires
 is-node-number-requires c κs = search needs

@@ -14,31 +14,23 @@ use Rattle.plan_line.proofs.Numbers.{zero-alone, zero-not, zero-first}
 use borrow.Author.Needs.{needs}
 use Rattle.plan_line.proofs.is_number.Statement.{statement}
 use Rattle.plan_line.proofs.is_number.Tie as tie
-use Rattle.plan_line.proofs.is_number.Reads as reads
-use Rattle.plan_line.proofs.is_number.Lts as lts
-use Rattle.plan_line.proofs.all_digits.Reads as all-digits-reads
 
--- src/lib.rt:55:9
 returns : tie.Need-returns
 unfolding isNumber
 returns c = simp (le-ltb 0 (length (now (c .before .before .args .word))) (omega arith))
 
--- src/lib.rt:58:12
 shared-slice-read-if3 : tie.Need-shared-slice-read-if3
 shared-slice-read-if3 c = search needs
 
--- src/lib.rt:59:13
 returns-2 : tie.Need-returns-2
 unfolding isNumber
 returns-2 c =
     let w = now (c .before .before .before .before .before .args .word) in
     simp (zero-first w (c .before .before .if2 .taken) (c .if3 .taken), and-false)
 
--- src/lib.rt:62:5
 all-digits-requires : tie.Need-all-digits-requires
 all-digits-requires c κs = search needs
 
--- src/lib.rt:51:1
 returns-3 : tie.Need-returns-3
 unfolding isNumber
 returns-3 c =

@@ -7,10 +7,6 @@ use Rattle.plan_line.specs.Plan.{inRing}
 use borrow.Author.Needs.{needs}
 use Rattle.plan_line.proofs.joined.Statement.{statement}
 use Rattle.plan_line.proofs.joined.Tie as tie
-use Rattle.plan_line.proofs.joined.Reads as reads
-use Rattle.plan_line.proofs.joined.Lts as lts
-use Rattle.nodeset.proofs.with.Reads as with-reads
-use Rattle.plan_line.proofs.in_ring.Reads as in-ring-reads
 
 in-ring-requires : tie.Need-in-ring-requires
 in-ring-requires c κs = search needs

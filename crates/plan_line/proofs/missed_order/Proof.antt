@@ -3,8 +3,6 @@
 use borrow.Author.Tests.{not-true, not-false}
 use Rattle.plan_line.proofs.missed_order.Statement.{statement}
 use Rattle.plan_line.proofs.missed_order.Tie as tie
-use Rattle.plan_line.proofs.missed_order.Reads as reads
-use Rattle.plan_line.proofs.missed_order.Lts as lts
 
 returns : tie.Need-returns
 returns c = simp (not-true (c .before .before .args .missed .inside) (c .if1 .taken))

@@ -17,16 +17,9 @@ use Rattle.plan_line.proofs.Numbers.{form}
 use Rattle.plan_line.proofs.Lists.{rest, rest-start, rest-end, rest-stop, rest-next, joined-capped, wordsFrom, word-at, word-in, from-start, from-end}
 use Rattle.plan_line.proofs.missing.Statement.{statement}
 use Rattle.plan_line.proofs.missing.Tie as tie
-use Rattle.plan_line.proofs.missing.Reads as reads
-use Rattle.plan_line.proofs.missing.Lts as lts
-use Rattle.plan_line.proofs.follows.Reads as follows-reads
-use Rattle.plan_line.proofs.joined.Reads as joined-reads
-use Rattle.plan_line.proofs.missed_order.Reads as missed-order-reads
-use Rattle.plan_line.proofs.small_value.Reads as small-value-reads
-use Rattle.plan_line.proofs.word_end.Reads as word-end-reads
 
 abbrev Inv-loop : tie.InvT-loop
-Inv-loop n text missed₀ last₀ end₀ at₀ missed last end at = 
+Inv-loop n text missed₀ last₀ end₀ at₀ missed last end at =
     (last ≤ end) × (end ≤ length text) × (at ≤ length text + 1)
     × (leadingZero (take (end - last) (drop last text)) ≡ false)
     × (allDigits (take (end - last) (drop last text)) ≡ true)
@@ -123,16 +116,17 @@ loop-again c =
     let shape = form (word at-word) (and-eq-true-iff (isNumber (word at-word)) (leb (leastAfter (before at-word)) (valueOf (word at-word))) .0 good .0) in
     let words = word-at t (loop .at) next (c .before .before .before .before .before .before .before .before .loop-test .taken) (at-word .word-end .ensures) in
     let missed : c .joined .result ≡ joined (a .n) (loop .missed) (valueOf (word at-word)) =
-    c .joined .ensures ∙ ap (joined (a .n) (loop .missed)) (c .before .small-value .ensures) ∙ joined-capped (a .n) (loop .missed) (valueOf (word at-word)) in
-    ( inside .0
-    , inside .1
-    , omega arith
-    , shape .1
-    , shape .2
-    , loop .inv .5
-    ∙ ap (rest (a .n) (before at-word) (loop .missed)) words
-    ∙ rest-next (a .n) (before at-word) (loop .missed) (word at-word) (wordsFrom t (next + 1)) good
-    ∙ ap (λ (m : Missed). rest (a .n) (word at-word) m (wordsFrom t (next + 1))) (sym missed))
+    c .joined .ensures ∙ ap (joined (a .n) (loop .missed)) (c .before .small-value .ensures) ∙ joined-capped (a .n) (loop .missed) (valueOf (word at-word)) in (
+      inside .0,
+      inside .1,
+      omega arith,
+      shape .1,
+      shape .2,
+      loop .inv .5
+          ∙ ap (rest (a .n) (before at-word) (loop .missed)) words
+          ∙ rest-next (a .n) (before at-word) (loop .missed) (word at-word) (wordsFrom t (next + 1)) good
+          ∙ ap (λ (m : Missed). rest (a .n) (word at-word) m (wordsFrom t (next + 1))) (sym missed),
+    )
 
 missed-order-requires : tie.Need-missed-order-requires Inv-loop μ-loop
 missed-order-requires c κs = search needs

@@ -11,11 +11,6 @@ use Rattle.plan_line.proofs.Capped.{in-ring-capped, in-ring-kept}
 use borrow.Author.Needs.{needs}
 use Rattle.plan_line.proofs.node_named.Statement.{statement}
 use Rattle.plan_line.proofs.node_named.Tie as tie
-use Rattle.plan_line.proofs.node_named.Reads as reads
-use Rattle.plan_line.proofs.node_named.Lts as lts
-use Rattle.plan_line.proofs.in_ring.Reads as in-ring-reads
-use Rattle.plan_line.proofs.is_number.Reads as is-number-reads
-use Rattle.plan_line.proofs.small_value.Reads as small-value-reads
 
 -- the word is a number after the first test
 number : (c : tie.Else1) → isNumber (now (c .before .before .before .args .word)) ≡ true

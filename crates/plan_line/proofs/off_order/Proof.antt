@@ -5,8 +5,6 @@ use Rattle.plan_line.specs.Plan.{offOrder}
 use borrow.Author.Needs.{needs}
 use Rattle.plan_line.proofs.off_order.Statement.{statement}
 use Rattle.plan_line.proofs.off_order.Tie as tie
-use Rattle.plan_line.proofs.off_order.Reads as reads
-use Rattle.plan_line.proofs.off_order.Lts as lts
 
 enum-known-found : tie.Need-enum-known-found
 enum-known-found c = search needs

@@ -5,8 +5,6 @@ use Rattle.plan_line.specs.Plan.{onOrder}
 use borrow.Author.Needs.{needs}
 use Rattle.plan_line.proofs.on_order.Statement.{statement}
 use Rattle.plan_line.proofs.on_order.Tie as tie
-use Rattle.plan_line.proofs.on_order.Reads as reads
-use Rattle.plan_line.proofs.on_order.Lts as lts
 
 enum-known-found : tie.Need-enum-known-found
 enum-known-found c = search needs

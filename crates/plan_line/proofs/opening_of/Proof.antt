@@ -17,10 +17,6 @@ use Rattle.plan_line.specs.Plan.{numbersOf, openingOf}
 use borrow.Author.Needs.{needs}
 use Rattle.plan_line.proofs.opening_of.Statement.{statement}
 use Rattle.plan_line.proofs.opening_of.Tie as tie
-use Rattle.plan_line.proofs.opening_of.Reads as reads
-use Rattle.plan_line.proofs.opening_of.Lts as lts
-use Rattle.plan_line.proofs.two_numbers.Reads as two-numbers-reads
-use Rattle.plan_line.proofs.word_end.Reads as word-end-reads
 
 no-second : (l : List ℕ) → length l ≤ gap l → numbersOf (before l) (after l) ≡ Refused PlanLine
 unfolding numbersOf isNumber

@@ -1,21 +1,23 @@
+-- `plan_line::order_of` meets its contract.
+-- Assumes nothing.
+use lib.ListN.{length}
+use borrow.Author.Tests.{le-leb, lt-leb}
+use denote.Ref.{now}
+use Rattle.plan_line.specs.Plan.{orderOf}
 use borrow.Author.Needs.{needs}
 use Rattle.plan_line.proofs.order_of.Statement.{statement}
 use Rattle.plan_line.proofs.order_of.Tie as tie
-use Rattle.plan_line.proofs.order_of.Reads as reads
-use Rattle.plan_line.proofs.order_of.Lts as lts
-use Rattle.plan_line.proofs.word.Reads as word-reads
 
--- src/lib.rt:274:9
 returns : tie.Need-returns
-returns c = ?
+unfolding orderOf
+returns c = simp (lt-leb (length (now (c .before .before .args .line))) 120 (c .if1 .taken))
 
--- src/lib.rt:276:5
 word-requires : tie.Need-word-requires
 word-requires c κs = search needs
 
--- src/lib.rt:270:1
 returns-2 : tie.Need-returns-2
-returns-2 c = ?
+unfolding orderOf
+returns-2 c = simp (le-leb (length (now (c .before .before .before .args .line))) 120 (c .before .if1 .left)) (c .word .ensures)
 
 pub order-of-spec : {M : Type 1} → statement M
 order-of-spec = tie.close (tie.spec returns word-requires returns-2)

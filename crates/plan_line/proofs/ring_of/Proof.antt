@@ -8,10 +8,6 @@ use Rattle.plan_line.specs.Plan.{ringOf}
 use borrow.Author.Needs.{needs}
 use Rattle.plan_line.proofs.ring_of.Statement.{statement}
 use Rattle.plan_line.proofs.ring_of.Tie as tie
-use Rattle.plan_line.proofs.ring_of.Reads as reads
-use Rattle.plan_line.proofs.ring_of.Lts as lts
-use Rattle.ring.proofs.is_ring_size.Reads as is-ring-size-reads
-use Rattle.ring.proofs.is_sponsor_count.Reads as is-sponsor-count-reads
 
 -- n is in range after the first test
 sized : (c : tie.Else1) → ringSize (c .before .before .args .n) ≡ true

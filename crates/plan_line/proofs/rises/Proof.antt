@@ -9,8 +9,6 @@ use denote.Ref.{now}
 use Rattle.plan_line.proofs.Numbers.{lexb, rise-shorter, rise-longer, rise-same, lex-next, lex-stop, lex-end}
 use Rattle.plan_line.proofs.rises.Statement.{statement}
 use Rattle.plan_line.proofs.rises.Tie as tie
-use Rattle.plan_line.proofs.rises.Reads as reads
-use Rattle.plan_line.proofs.rises.Lts as lts
 
 abbrev Inv-loop : tie.InvT-loop
 Inv-loop last word i₀ i = (i ≤ length word) × (lexb last word ≡ lexb (drop i last) (drop i word))

@@ -10,66 +10,50 @@ use Rattle.plan_line.proofs.Numbers.{form, one-digit, two-digits, many-
 use borrow.Author.Needs.{needs}
 use Rattle.plan_line.proofs.small_value.Statement.{statement}
 use Rattle.plan_line.proofs.small_value.Tie as tie
-use Rattle.plan_line.proofs.small_value.Reads as reads
-use Rattle.plan_line.proofs.small_value.Lts as lts
 
--- src/lib.rt:71:16
 shared-slice-read-result : tie.Need-shared-slice-read-result
 shared-slice-read-result c = search needs
 
--- src/lib.rt:71:16
 cast-result : tie.Need-cast-result
 cast-result c = omega (arith, one-digit (now (c .before .before .args .word)) (c .before .before .pre) (c .before .if1 .taken))
 
--- src/lib.rt:71:16
 sub-result : tie.Need-sub-result
 sub-result c = one-digit (now (c .before .before .args .word)) (c .before .before .pre) (c .before .if1 .taken) .0
 
--- src/lib.rt:71:9
 returns : tie.Need-returns
 returns c =
     let h = one-digit (now (c .before .before .args .word)) (c .before .before .pre) (c .before .if1 .taken) in
     sym (h .2) ∙ sym (min-eq-left (omega (arith, h)))
 
--- src/lib.rt:74:17
 shared-slice-read-result-2 : tie.Need-shared-slice-read-result-2
 shared-slice-read-result-2 c = search needs
 
--- src/lib.rt:74:17
 cast-result-2 : tie.Need-cast-result-2
 cast-result-2 c = omega (arith, two-digits (now (c .before .before .before .args .word)) (c .before .before .before .pre) (c .before .if2 .taken))
 
--- src/lib.rt:74:17
 sub-result-2 : tie.Need-sub-result-2
 sub-result-2 c = two-digits (now (c .before .before .before .args .word)) (c .before .before .before .pre) (c .before .if2 .taken) .0
 
--- src/lib.rt:74:16
 mul-result : tie.Need-mul-result
 mul-result c = omega (arith, two-digits (now (c .before .before .before .args .word)) (c .before .before .before .pre) (c .before .if2 .taken))
 
--- src/lib.rt:74:46
 shared-slice-read-result-3 : tie.Need-shared-slice-read-result-3
 shared-slice-read-result-3 c = search needs
 
--- src/lib.rt:74:46
 cast-result-3 : tie.Need-cast-result-3
 cast-result-3 c = omega (arith, two-digits (now (c .before .before .before .before .args .word)) (c .before .before .before .before .pre) (c .before .before .if2 .taken))
 
--- src/lib.rt:74:46
 sub-result-3 : tie.Need-sub-result-3
 sub-result-3 c = two-digits (now (c .before .before .before .before .args .word)) (c .before .before .before .before .pre) (c .before .before .if2 .taken) .2
 
--- src/lib.rt:74:16
 add-result : tie.Need-add-result
 add-result c = omega (arith, two-digits (now (c .before .before .before .before .args .word)) (c .before .before .before .before .pre) (c .before .before .if2 .taken))
 
--- src/lib.rt:74:9
 returns-2 : tie.Need-returns-2
 returns-2 c =
     let h = two-digits (now (c .before .before .before .before .args .word)) (c .before .before .before .before .pre) (c .before .before .if2 .taken) in
     sym (h .4) ∙ sym (min-eq-left (omega (arith, h)))
 
--- src/lib.rt:66:1
 returns-3 : tie.Need-returns-3
 returns-3 c =
     let w = now (c .before .before .args .word) in

@@ -12,11 +12,6 @@ use Rattle.plan_line.proofs.Capped.{ring-capped}
 use borrow.Author.Needs.{needs}
 use Rattle.plan_line.proofs.two_numbers.Statement.{statement}
 use Rattle.plan_line.proofs.two_numbers.Tie as tie
-use Rattle.plan_line.proofs.two_numbers.Reads as reads
-use Rattle.plan_line.proofs.two_numbers.Lts as lts
-use Rattle.plan_line.proofs.is_number.Reads as is-number-reads
-use Rattle.plan_line.proofs.ring_of.Reads as ring-of-reads
-use Rattle.plan_line.proofs.small_value.Reads as small-value-reads
 
 first-number : (c : tie.Else1) → isNumber (now (c .before .before .before .before .args .first)) ≡ true
 first-number c = sym (c .before .is-number .ensures) ∙ not-false (c .before .is-number .result) (c .if1 .left)

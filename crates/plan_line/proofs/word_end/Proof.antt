@@ -10,8 +10,6 @@ use Rattle.plan_line.specs.Words.{gap}
 use Rattle.plan_line.proofs.Words.{gap-space, gap-next, gap-end}
 use Rattle.plan_line.proofs.word_end.Statement.{statement}
 use Rattle.plan_line.proofs.word_end.Tie as tie
-use Rattle.plan_line.proofs.word_end.Reads as reads
-use Rattle.plan_line.proofs.word_end.Lts as lts
 
 abbrev Inv-loop : tie.InvT-loop
 Inv-loop text from i₀ i = (i ≤ length text) × (i + gap (drop i text) ≡ from + gap (drop from text))
@@ -19,37 +17,30 @@ Inv-loop text from i₀ i = (i ≤ length text) × (i + gap (drop i text) ≡ fr
 abbrev μ-loop : tie.MeasureT-loop
 μ-loop text from i₀ i = length text - i
 
--- src/lib.rt:85:5
 loop-holds : tie.Need-loop-holds Inv-loop μ-loop
 loop-holds c = (search needs, refl)
 
--- src/lib.rt:86:12
 shared-slice-read-if1 : tie.Need-shared-slice-read-if1 Inv-loop μ-loop
 shared-slice-read-if1 c = search needs
 
--- src/lib.rt:87:13
 returns : tie.Need-returns Inv-loop μ-loop
 returns c =
     let loop = c .before .before .before .loop in
     let none = gap-space (now (c .before .before .before .before .args .text)) (loop .i) (c .before .before .loop-test .taken) (c .if1 .taken) in
     omega (arith, none, loop .inv .1)
 
--- src/lib.rt:89:9
 add-i : tie.Need-add-i Inv-loop μ-loop
 add-i c = search needs
 
--- src/lib.rt:85:5
 loop-less : tie.Need-loop-less Inv-loop μ-loop
 loop-less c = omega arith
 
--- src/lib.rt:85:5
 loop-again : tie.Need-loop-again Inv-loop μ-loop
 loop-again c =
     let loop = c .before .before .before .loop in
     let one = gap-next (now (c .before .before .before .before .args .text)) (loop .i) (c .before .before .loop-test .taken) (c .if1 .left) in
     (omega arith, omega (arith, one, loop .inv .1))
 
--- src/lib.rt:80:1
 returns-2 : tie.Need-returns-2 Inv-loop μ-loop
 returns-2 c =
     let loop = c .before .loop in
