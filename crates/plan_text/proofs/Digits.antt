@@ -1,0 +1,46 @@
+-- How many digits a number takes.
+-- Assumes nothing.
+use Prim.Native.Nat.{ℕ, zero, suc, _+_, _-_, _/_, _%_, _≤_, _<_}
+use mathlib.Core.Path.{_≡_, refl, sym, ap, _∙_}
+use mathlib.Core.Bool.{Bool, true, false, cond}
+use mathlib.Core.List.{List, [], _∷_, _++_}
+use native.Mathlib.Omega.{arith}
+use lib.ListN.{length, length-append}
+use lib.Dec.{ltb}
+use borrow.Author.Tests.{lt-ltb, le-ltb}
+use Rattle.plan_text.specs.Text.{decimal, digits, glyph, places}
+
+pub places-stop : (m x : ℕ) → x < 10 → places m x ≡ 1
+unfolding places
+places-stop zero x h = refl
+places-stop (suc m) x h = simp (lt-ltb x 10 h)
+
+pub places-next : (m k x : ℕ) → m ≡ suc k → 10 ≤ x → places m x ≡ suc (places k (x / 10))
+unfolding places
+places-next m k x e h = ap (λ (j : ℕ). places j x) e ∙ simp (le-ltb x 10 h)
+
+pub places-last : (m x : ℕ) → m ≡ 0 → places m x ≡ 1
+unfolding places
+places-last m x e = ap (λ (j : ℕ). places j x) e
+
+pub places-most : (m x : ℕ) → places m x ≤ suc m
+unfolding places
+places-most zero x = omega arith
+places-most (suc m) x = go (ltb x 10) (places-most m (x / 10))
+  where
+    go : (t : Bool) → places m (x / 10) ≤ suc m → cond t 1 (suc (places m (x / 10))) ≤ suc (suc m)
+    go true h = omega arith
+    go false h = omega arith
+
+pub length-digits : (base count x : ℕ) → length (digits base count x) ≡ count
+unfolding digits
+length-digits base zero x = refl
+length-digits base (suc count) x =
+    omega (arith, length-append (digits base count (x / base)) (glyph (x % base) ∷ []), length-digits base count (x / base))
+
+pub length-decimal : (x : ℕ) → length (decimal x) ≡ places 19 x
+unfolding decimal
+length-decimal x = length-digits 10 (places 19 x) x
+
+pub decimal-short : (x : ℕ) → length (decimal x) ≤ 20
+decimal-short x = omega (arith, length-decimal x, places-most 19 x)

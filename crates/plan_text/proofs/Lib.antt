@@ -1,0 +1,3 @@
+-- What the proofs of several functions use.
+pub mod Paste
+pub mod Digits
