@@ -1,4 +1,4 @@
--- How many digits a number takes.
+-- How many digits a number takes, and how long the parts of a line are.
 -- Assumes nothing.
 use Prim.Native.Nat.{ℕ, zero, suc, _+_, _-_, _/_, _%_, _≤_, _<_}
 use mathlib.Core.Path.{_≡_, refl, sym, ap, _∙_}
@@ -8,7 +8,11 @@ use native.Mathlib.Omega.{arith}
 use lib.ListN.{length, length-append}
 use lib.Dec.{ltb}
 use borrow.Author.Tests.{lt-ltb, le-ltb}
-use Rattle.plan_text.specs.Text.{decimal, digits, glyph, places}
+use Rattle.plan_text.specs.Text.{decimal, digits, fateText, glyph, numberThen, places, shownText}
+use Rattle.plan_text.specs.declared.Fate.{Fate}
+use Rattle.plan_text.specs.declared.Fate.the-variants.{Silent, Lost, Knock, Sent}
+use Rattle.plan_text.specs.declared.Shown.{Shown}
+use Rattle.plan_text.specs.declared.Shown.the-variants.{Set, Nobody}
 
 pub places-stop : (m x : ℕ) → x < 10 → places m x ≡ 1
 unfolding places
@@ -44,3 +48,16 @@ length-decimal x = length-digits 10 (places 19 x) x
 
 pub decimal-short : (x : ℕ) → length (decimal x) ≤ 20
 decimal-short x = omega (arith, length-decimal x, places-most 19 x)
+
+pub number-short : (byte x : ℕ) → length (numberThen byte x) ≤ 21
+number-short byte x = omega (arith, length-append (decimal x) (byte ∷ []), decimal-short x)
+
+pub fate-short : (fate : Fate) → length (fateText fate) ≤ 7
+fate-short Silent = omega arith
+fate-short Lost = omega arith
+fate-short Knock = omega arith
+fate-short Sent = omega arith
+
+pub shown-short : (shown : Shown) → length (shownText shown) ≤ 9
+shown-short (Set set) = omega (arith, length-append (digits 16 8 set) (32 ∷ []), length-digits 16 8 set)
+shown-short Nobody = omega arith

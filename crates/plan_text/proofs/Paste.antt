@@ -9,7 +9,9 @@ use native.Mathlib.Nat.{add-zero, add-suc}
 use lib.ListN.{length, take, drop, getD, set, length-append, length-set, length-drop, take-append-drop}
 use lib.Seq.{length-take-le, lt-length-set, take-length, take-at, drop-at, drop-cons, drop-drop, drop-set-lt, take-set-le, getD-set-same, set-split, paste, paste-suc, length-paste}
 use Rattle.plan_text.proofs.Digits.{length-digits}
-use Rattle.plan_text.specs.Text.{PutAt, digits, glyph, pasted}
+use Rattle.plan_text.specs.Text.{PutAt, digits, glyph, pasted, writtenOf}
+use Rattle.plan_text.specs.declared.Written.the-variants.{Bytes}
+use borrow.Author.Tests.{le-leb}
 
 -- ---- one text
 
@@ -62,14 +64,41 @@ pasted-twice d at s t h =
 
 pub both : {n m at : ℕ} {s t d e f : List ℕ} → at ≤ length d → PutAt m at s d e → PutAt n m t e f → PutAt n at (s ++ t) d f
 both {n} {m} {at} {s} {t} {d} {e} {f} h one two =
-    record
-      { end = omega (arith, one .end, two .end, length-append s t)
-      ; bytes =
+    record {
+      end = omega (arith, one .end, two .end, length-append s t);
+      bytes =
           two .bytes
           ∙ ap (λ (l : List ℕ). pasted l m t) (one .bytes)
           ∙ ap (λ (k : ℕ). pasted (pasted d at s) k t) (one .end)
-          ∙ pasted-twice d at s t h
-      }
+          ∙ pasted-twice d at s t h;
+    }
+
+pub put-byte : (d : List ℕ) (at b next : ℕ) → next ≡ at + 1 → at < length d → PutAt next at (b ∷ []) d (set d at b)
+put-byte d at b next e h = record { end = e; bytes = pasted-byte d at b h }
+
+-- ---- a line, text by text
+
+-- What was put so far, of at most so many bytes.
+pub record Sofar (next at most : ℕ) (text before after : List ℕ) : Type 0 where
+  pub put : PutAt next at text before after
+  pub near : next ≤ at + most
+  pub same : length after ≡ length before
+
+pub nothing : (at : ℕ) (d : List ℕ) → Sofar at at 0 [] d d
+nothing at d = record { put = record { end = omega arith; bytes = pasted-none d at }; near = omega arith; same = refl }
+
+pub more : {n m at a : ℕ} {s t d e f : List ℕ} (b : ℕ) → at ≤ length d → Sofar m at a s d e → PutAt n m t e f → length f ≡ length e → length t ≤ b
+    → Sofar n at (a + b) (s ++ t) d f
+more b h one two kept few =
+    record { put = both h (one .put) two; near = omega (arith, one .near, two .end); same = kept ∙ one .same }
+
+-- the answer where there is room
+pub written : (text : List ℕ) (at : ℕ) (out : List ℕ) (next : ℕ) (last : List ℕ) → at + 80 ≤ length out → PutAt next at text out last
+    → (Bytes (next - at), last) ≡ writtenOf text at out
+unfolding writtenOf
+written text at out next last room put =
+    let size : next - at ≡ length text = omega (arith, put .end) in
+    simp (le-leb (at + 80) (length out) room) (cc (size, put .bytes))
 
 -- ---- a turn of a loop
 

@@ -55,7 +55,7 @@ shownText Nobody = 45 ∷ 45 ∷ 45 ∷ 45 ∷ 45 ∷ 45 ∷ 45 ∷ 45 ∷ 32 �
 -- "Each slot prints: slot, sender, fate .., the set .., the greatest distance"; 10 is the line feed.
 unfoldable pub slotText : ℕ → ℕ → Fate → Shown → ℕ → List ℕ
 slotText slot sender fate shown distance =
-    numberThen 32 slot ++ (numberThen 32 sender ++ (fateText fate ++ (shownText shown ++ numberThen 10 distance)))
+    numberThen 32 slot ++ numberThen 32 sender ++ fateText fate ++ shownText shown ++ numberThen 10 distance
 
 -- ---- a refusal
 
@@ -68,7 +68,7 @@ refusalWord = 114 ∷ 101 ∷ 102 ∷ 117 ∷ 115 ∷ 97 ∷ 108 ∷ 32 ∷ []
 
 -- "A refused line prints `line L refusal N`"
 unfoldable pub refusalText : ℕ → ℕ → List ℕ
-refusalText line cause = lineWord ++ (numberThen 32 line ++ (refusalWord ++ numberThen 10 cause))
+refusalText line cause = lineWord ++ numberThen 32 line ++ refusalWord ++ numberThen 10 cause
 
 -- ---- writing
 

@@ -144,7 +144,15 @@ fn has_room(length: usize, at: usize) -> bool
 }
 
 // Writes the line of a slot at a place. It refuses by 9, and then writes nothing.
-pub fn slot_line(out: &mut [u8], at: usize, slot: u64, sender: u32, fate: Fate, shown: Shown, distance: u32) -> Written
+pub fn slot_line(
+    out: &mut [u8],
+    at: usize,
+    slot: u64,
+    sender: u32,
+    fate: Fate,
+    shown: Shown,
+    distance: u32,
+) -> Written
     ensures { λ r. ⌜ (r, now (out .exit)) ≡ writtenOf (slotText slot sender fate shown distance) at (now (out .entry)) ⌝ }
 {
     if !has_room(out.len(), at) {

@@ -8,8 +8,6 @@ use Rattle.plan_text.specs.Text.{places}
 use Rattle.plan_text.proofs.Digits.{places-stop, places-next, places-last}
 use Rattle.plan_text.proofs.count_places.Statement.{statement}
 use Rattle.plan_text.proofs.count_places.Tie as tie
-use Rattle.plan_text.proofs.count_places.Reads as reads
-use Rattle.plan_text.proofs.count_places.Lts as lts
 
 abbrev Inv-loop : tie.InvT-loop
 Inv-loop x rest₀ count₀ rest count = (1 ≤ count) × (count ≤ 20) × (count + places (20 - count) rest ≡ 1 + places 19 x)

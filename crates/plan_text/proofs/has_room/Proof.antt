@@ -8,8 +8,6 @@ use lib.Dec.{leb}
 use borrow.Author.Tests.{le-leb, lt-leb}
 use Rattle.plan_text.proofs.has_room.Statement.{statement}
 use Rattle.plan_text.proofs.has_room.Tie as tie
-use Rattle.plan_text.proofs.has_room.Reads as reads
-use Rattle.plan_text.proofs.has_room.Lts as lts
 
 moved : (at l : ℕ) → 80 ≤ l → leb at (l - 80) ≡ leb (at + 80) l
 moved at l h = go (decLe at (l - 80))

@@ -4,8 +4,6 @@ use borrow.Author.Tests.{lt-ltb, le-ltb}
 use borrow.Author.Needs.{needs}
 use Rattle.plan_text.proofs.hex_glyph.Statement.{statement}
 use Rattle.plan_text.proofs.hex_glyph.Tie as tie
-use Rattle.plan_text.proofs.hex_glyph.Reads as reads
-use Rattle.plan_text.proofs.hex_glyph.Lts as lts
 
 cast-result : tie.Need-cast-result
 cast-result c = search needs

@@ -11,8 +11,6 @@ use Rattle.plan_text.specs.Text.{glyph}
 use Rattle.plan_text.proofs.Paste.{filling, digit-turn, filling-end, filled}
 use Rattle.plan_text.proofs.put_digits.Statement.{statement}
 use Rattle.plan_text.proofs.put_digits.Tie as tie
-use Rattle.plan_text.proofs.put_digits.Reads as reads
-use Rattle.plan_text.proofs.put_digits.Lts as lts
 
 -- a decimal digit
 digit : (x : ℕ) → 48 + x % 10 ≡ glyph (x % 10)

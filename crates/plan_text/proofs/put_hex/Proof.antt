@@ -9,9 +9,6 @@ use denote.Ref.{now}
 use Rattle.plan_text.proofs.Paste.{filling, digit-turn, filling-end, filled}
 use Rattle.plan_text.proofs.put_hex.Statement.{statement}
 use Rattle.plan_text.proofs.put_hex.Tie as tie
-use Rattle.plan_text.proofs.put_hex.Reads as reads
-use Rattle.plan_text.proofs.put_hex.Lts as lts
-use Rattle.plan_text.proofs.hex_glyph.Reads as hex-glyph-reads
 
 abbrev Inv-loop : tie.InvT-loop
 Inv-loop out₀ at set rest₀ i₀ out rest i = (i ≤ 8) × (length out ≡ length out₀) × (filling 16 out at i rest ≡ filling 16 out₀ at 8 set)

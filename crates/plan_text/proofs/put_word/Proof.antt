@@ -12,8 +12,6 @@ use Rattle.plan_text.specs.Text.{pasted}
 use Rattle.plan_text.proofs.Paste.{pasted-none, word-turn}
 use Rattle.plan_text.proofs.put_word.Statement.{statement}
 use Rattle.plan_text.proofs.put_word.Tie as tie
-use Rattle.plan_text.proofs.put_word.Reads as reads
-use Rattle.plan_text.proofs.put_word.Lts as lts
 
 abbrev Inv-loop : tie.InvT-loop
 Inv-loop out₀ at word i₀ out i = (i ≤ length word) × (length out ≡ length out₀) × (out ≡ pasted out₀ at (take i word))
