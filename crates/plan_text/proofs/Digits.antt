@@ -36,6 +36,15 @@ places-most (suc m) x = go (ltb x 10) (places-most m (x / 10))
     go true h = omega arith
     go false h = omega arith
 
+pub places-some : (m x : ℕ) → 1 ≤ places m x
+unfolding places
+places-some zero x = omega arith
+places-some (suc m) x = go (ltb x 10)
+  where
+    go : (t : Bool) → 1 ≤ cond t 1 (suc (places m (x / 10)))
+    go true = omega arith
+    go false = omega arith
+
 pub length-digits : (base count x : ℕ) → length (digits base count x) ≡ count
 unfolding digits
 length-digits base zero x = refl

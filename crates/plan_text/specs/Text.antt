@@ -30,7 +30,7 @@ unfoldable pub places : ℕ → ℕ → ℕ
 places zero x = 1
 places (suc more) x = cond (ltb x 10) 1 (suc (places more (x / 10)))
 
--- "Decimal, no leading zeros". A number below 10 ^ 20 has at most 20 digits. (It is read back by the definitions of plan lines: proofs/Reads.)
+-- "Decimal, no leading zeros". A number below 10 ^ 20 has at most 20 digits. (It is read back by the definitions of plan lines: proofs/ReadBack.)
 unfoldable pub decimal : ℕ → List ℕ
 decimal x = digits 10 (places 19 x) x
 
