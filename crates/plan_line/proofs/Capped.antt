@@ -1,18 +1,17 @@
 -- No test of a plan tells numbers of 100 or more apart.
 -- Assumes nothing.
-use Prim.Native.Nat.{ℕ, zero, suc, _+_, _-_, _≤_, _<_, min}
+use Prim.Native.Nat.{ℕ, zero, suc, _-_, _≤_, _<_, min}
 use mathlib.Core.Path.{_≡_, refl, sym, ap, _∙_}
-use mathlib.Core.Bool.{Bool, true, false, cond, not, _&&_, and-eq-true-iff}
+use mathlib.Core.Bool.{true, false, and-eq-true-iff}
 use native.Mathlib.Omega.{arith}
 use native.Mathlib.Decide.{decLe}
 use native.Mathlib.Nat.{min-eq-left, min-eq-right}
-use lib.Dec.{leb, ltb}
+use lib.Dec.{leb}
 use borrow.Author.Tests.{leb-true, lt-leb, le-ltb}
 use Rattle.refusal.specs.declared.Refusal.the-variants.{RingSize, SponsorCount}
-use Rattle.nodeset.specs.Sets.{has, with}
-use Rattle.ring.specs.Ring.{nodeNumber, ringSize, sponsorCount}
-use Rattle.plan_line.specs.declared.Opening.{Opening}
-use Rattle.plan_line.specs.declared.Opening.the-variants.{Ring, Refused}
+use Rattle.nodeset.specs.Sets.{with}
+use Rattle.ring.specs.Ring.{nodeNumber, ringSize}
+use Rattle.plan_line.specs.declared.Opening.the-variants.{Refused}
 use Rattle.plan_line.specs.Plan.{ifOpened, inRing, ringOf}
 use Rattle.plan_line.proofs.Words.{and-false}
 

@@ -1,17 +1,16 @@
 -- Numbers without leading zeros: what a test of their form tells, and their order by length and then by digits, which is that of the values.
 -- Assumes nothing.
-use Prim.Native.Nat.{ℕ, zero, suc, _+_, _-_, _*_, _≤_, _<_, min}
+use Prim.Native.Nat.{ℕ, _+_, _-_, _*_, _≤_, _<_}
 use mathlib.Core.Path.{_≡_, refl, sym, ap, _∙_}
 use mathlib.Core.Bool.{Bool, true, false, cond, not, _&&_, and-eq-true-iff}
 use mathlib.Core.List.{List, [], _∷_}
 use native.Mathlib.Omega.{arith}
 use native.Mathlib.Decide.{decLt, ℕ-discrete}
-use native.Mathlib.Nat.{min-eq-left, min-eq-right}
 use lib.ListN.{length, getD, drop}
 use native.Mathlib.Numerals.{add-one}
 use lib.Seq.{drop-cons, drop-length}
 use lib.Dec.{eqb, leb, ltb}
-use borrow.Author.Tests.{le-leb, eq-eqb, ne-eqb, lt-ltb, le-ltb, ltb-true, leb-true, eqb-false, not-true, not-false}
+use borrow.Author.Tests.{le-leb, eq-eqb, ne-eqb, lt-ltb, le-ltb, ltb-true, leb-true, not-true}
 use Rattle.plan_line.specs.Words.{allDigits, isDigit, isNumber, leadingZero, leastAfter, valueFrom, valueOf}
 use Rattle.plan_line.proofs.Words.{and-false}
 

@@ -1,13 +1,13 @@
 -- Texts put one after the other are put as one text; what a turn of a loop that puts bytes leaves.
 -- Assumes nothing.
-use Prim.Native.Nat.{ℕ, zero, suc, _+_, _-_, _/_, _%_, _≤_, _<_}
+use Prim.Native.Nat.{ℕ, suc, _+_, _-_, _/_, _%_, _≤_, _<_}
 use mathlib.Core.Path.{_≡_, refl, sym, ap, _∙_}
-use mathlib.Core.List.{List, [], _∷_, _++_, append-assoc, append-nil}
+use mathlib.Core.List.{List, [], _∷_, _++_, append-assoc}
 use native.Mathlib.Omega.{arith}
 use native.Mathlib.Numerals.{add-one}
 use native.Mathlib.Nat.{add-zero, add-suc}
-use lib.ListN.{length, take, drop, getD, set, length-append, length-set, length-drop, take-append-drop}
-use lib.Seq.{length-take-le, lt-length-set, take-length, take-at, drop-at, drop-cons, drop-drop, drop-set-lt, take-set-le, getD-set-same, set-split, paste, paste-suc, length-paste}
+use lib.ListN.{length, take, drop, getD, set, length-append, length-drop, take-append-drop}
+use lib.Seq.{length-take-le, lt-length-set, take-at, drop-at, drop-cons, drop-drop, drop-set-lt, take-set-le, getD-set-same, set-split, paste, paste-suc}
 use Rattle.plan_text.proofs.Digits.{length-digits}
 use Rattle.plan_text.specs.Text.{PutAt, digits, glyph, pasted, writtenOf}
 use Rattle.plan_text.specs.declared.Written.the-variants.{Bytes}

@@ -1,15 +1,14 @@
 -- What `decimal` writes is a number of plan lines, with no leading zero, and of the value written: for every number below 10 ^ 20.
 -- Assumes nothing.
 use Prim.Native.Nat.{ℕ, zero, suc, _+_, _-_, _*_, _/_, _%_, _^_, _≤_, _<_}
-use mathlib.Core.Path.{_≡_, refl, sym, ap, _∙_}
-use mathlib.Core.Bool.{Bool, true, false, cond, not, _&&_, and-eq-true-iff}
+use mathlib.Core.Path.{_≡_, refl, ap, _∙_}
+use mathlib.Core.Bool.{true, false, and-eq-true-iff}
 use mathlib.Core.List.{List, [], _∷_, _++_}
 use native.Mathlib.Omega.{arith}
 use native.Mathlib.Decide.{decLt}
 use native.Mathlib.Nat.{pow-suc}
-use lib.ListN.{length, getD, length-append, List·getD-append}
-use lib.Dec.{ltb}
-use borrow.Author.Tests.{lt-ltb, le-ltb}
+use lib.ListN.{length, getD, List·getD-append}
+use borrow.Author.Tests.{lt-ltb}
 use Rattle.plan_line.specs.Words.{allDigits, isDigit, isNumber, leadingZero, valueFrom, valueOf}
 use Rattle.plan_line.proofs.Words.{digit-yes}
 use Rattle.plan_line.proofs.Numbers.{zero-alone, zero-not}

@@ -1,11 +1,10 @@
 -- Document 01, "The bench program": the text of what the program prints, as the list of its bytes, and what writing it into lent bytes leaves.
-use Prim.Native.Nat.{ℕ, zero, suc, _+_, _/_, _%_, _≤_}
+use Prim.Native.Nat.{ℕ, zero, suc, _+_, _/_, _%_}
 use mathlib.Core.Path.{_≡_}
-use mathlib.Core.Bool.{Bool, true, false, cond}
+use mathlib.Core.Bool.{cond}
 use mathlib.Core.List.{List, [], _∷_, _++_}
 use lib.Dec.{ltb, leb}
 use lib.ListN.{length, take, drop}
-use Rattle.refusal.specs.declared.Refusal.{Refusal}
 use Rattle.refusal.specs.declared.Refusal.the-variants.{OutputShort}
 use Rattle.plan_text.specs.declared.Fate.{Fate}
 use Rattle.plan_text.specs.declared.Fate.the-variants.{Silent, Lost, Knock, Sent}

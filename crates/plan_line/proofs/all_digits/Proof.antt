@@ -1,11 +1,10 @@
 -- `plan_line::all_digits` meets its contract. The loop's invariant: the word is all digits where what is left from `i` on is. The measure is
 -- what is left. Assumes nothing.
 use Prim.Native.Nat.{_≤_, _-_}
-use mathlib.Core.Path.{_≡_, refl, sym, ap, _∙_}
+use mathlib.Core.Path.{_≡_, refl, sym, _∙_}
 use native.Mathlib.Omega.{arith}
 use borrow.Author.Needs.{needs}
 use lib.ListN.{length, drop}
-use lib.Seq.{drop-length}
 use denote.Ref.{now}
 use Rattle.plan_line.specs.Words.{allDigits}
 use Rattle.plan_line.proofs.Words.{digits-next, digits-low, digits-high, digits-end}

@@ -1,7 +1,7 @@
 -- `plan_line::begins` meets its contract. The loop's invariant: the line begins with the word where what is left of it from `i` on begins with
 -- what is left of the word. The measure is what is left of the word. Assumes nothing.
-use Prim.Native.Nat.{_≤_, _+_, _-_}
-use mathlib.Core.Path.{_≡_, refl, sym, ap, _∙_}
+use Prim.Native.Nat.{_≤_, _-_}
+use mathlib.Core.Path.{_≡_, refl, sym, _∙_}
 use native.Mathlib.Omega.{arith}
 use borrow.Author.Needs.{needs}
 use lib.ListN.{length, drop}

@@ -1,7 +1,7 @@
 -- `plan_line::node_named` meets its contract: at each `return` the tests that led there say which case of `namedOf` holds.
 -- Assumes nothing.
 use mathlib.Core.Path.{_≡_, sym, ap, _∙_}
-use mathlib.Core.Bool.{true, false}
+use mathlib.Core.Bool.{true}
 use borrow.Author.Tests.{not-true, not-false}
 use denote.Ref.{now}
 use Rattle.plan_line.specs.Words.{isNumber, valueOf}

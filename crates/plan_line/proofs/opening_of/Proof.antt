@@ -1,7 +1,7 @@
 -- `plan_line::opening_of` meets its contract: the two parts that are lent are the bytes before the first space and those after it. Where there is no
 -- space, nothing is after it, and that is no number. Assumes nothing.
 use Prim.Native.Nat.{ℕ, suc, _+_, _-_, _≤_}
-use mathlib.Core.Path.{_≡_, refl, sym, ap, _∙_}
+use mathlib.Core.Path.{_≡_, sym, ap, _∙_}
 use mathlib.Core.List.{List}
 use native.Mathlib.Omega.{arith}
 use native.Mathlib.Numerals.{add-one}

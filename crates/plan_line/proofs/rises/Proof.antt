@@ -1,6 +1,6 @@
 -- `plan_line::rises` meets its contract. The loop's invariant: the digits from `i` on decide. The measure is what is left of them.
 -- Assumes nothing.
-use Prim.Native.Nat.{_≤_, _+_, _-_}
+use Prim.Native.Nat.{_≤_, _-_}
 use mathlib.Core.Path.{_≡_, refl, sym, _∙_}
 use native.Mathlib.Omega.{arith}
 use borrow.Author.Needs.{needs}

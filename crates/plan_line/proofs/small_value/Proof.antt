@@ -1,11 +1,9 @@
 -- `plan_line::small_value` meets its contract: a number of three digits or more is 100 or more.
 -- Assumes nothing.
-use Prim.Native.Nat.{ℕ, _≤_, min}
-use mathlib.Core.Path.{_≡_, sym, _∙_}
+use mathlib.Core.Path.{sym, _∙_}
 use native.Mathlib.Omega.{arith}
 use native.Mathlib.Nat.{min-eq-left, min-eq-right}
 use denote.Ref.{now}
-use Rattle.plan_line.specs.Words.{valueOf}
 use Rattle.plan_line.proofs.Numbers.{form, one-digit, two-digits, many-digits}
 use borrow.Author.Needs.{needs}
 use Rattle.plan_line.proofs.small_value.Statement.{statement}

@@ -1,7 +1,7 @@
 -- `plan_line::word_end` meets its contract. The loop's invariant: the first space after `from` is the first after `i`. The measure is what is
 -- left of the text. Assumes nothing.
 use Prim.Native.Nat.{_≤_, _+_, _-_}
-use mathlib.Core.Path.{_≡_, refl, sym, ap, _∙_}
+use mathlib.Core.Path.{_≡_, refl}
 use native.Mathlib.Omega.{arith}
 use borrow.Author.Needs.{needs}
 use lib.ListN.{length, drop}

@@ -1,9 +1,8 @@
 -- `plan_text::count_places` meets its contract. The loop's invariant: the digits that were counted and those of what is left are all digits, the one
 -- that is being looked at counted twice. The measure is what is left of 20. Assumes nothing.
 use Prim.Native.Nat.{_≤_, _+_, _-_}
-use mathlib.Core.Path.{_≡_, refl, sym, ap, _∙_}
+use mathlib.Core.Path.{_≡_}
 use native.Mathlib.Omega.{arith}
-use borrow.Author.Needs.{needs}
 use Rattle.plan_text.specs.Text.{places}
 use Rattle.plan_text.proofs.Digits.{places-stop, places-next, places-last}
 use Rattle.plan_text.proofs.count_places.Statement.{statement}

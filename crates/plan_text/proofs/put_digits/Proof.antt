@@ -1,7 +1,7 @@
 -- `plan_text::put_digits` meets its contract. The loop's invariant: with the digits that are left to put, the bytes will be what they should.
 -- The measure is `i`. Assumes nothing.
 use Prim.Native.Nat.{ℕ, _≤_, _+_, _-_, _%_}
-use mathlib.Core.Path.{_≡_, refl, sym, ap, _∙_}
+use mathlib.Core.Path.{_≡_, refl, sym, _∙_}
 use native.Mathlib.Omega.{arith}
 use borrow.Author.Needs.{needs}
 use borrow.Author.Tests.{lt-ltb}

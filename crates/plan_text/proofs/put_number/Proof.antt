@@ -1,10 +1,8 @@
 -- `plan_text::put_number` meets its contract: the digits, and the byte behind them.
 -- Assumes nothing.
-use Prim.Native.Nat.{ℕ, _+_, _≤_}
-use mathlib.Core.Path.{_≡_, refl, sym, ap, _∙_}
-use mathlib.Core.List.{List}
+use Prim.Native.Nat.{ℕ, _+_}
+use mathlib.Core.Path.{refl, ap, _∙_}
 use native.Mathlib.Omega.{arith}
-use lib.ListN.{length}
 use denote.Ref.{now}
 use Rattle.plan_text.specs.Text.{PutAt, decimal, digits, pasted, places}
 use Rattle.plan_text.proofs.Paste.{both, put-byte}

@@ -1,8 +1,6 @@
 -- `plan_text::put_shown` meets its contract, by the cases of what is shown.
 -- Assumes nothing.
 use Prim.Native.Nat.{_+_}
-use mathlib.Core.Path.{_≡_, refl, sym, ap, _∙_}
-use mathlib.Core.List.{List}
 use native.Mathlib.Omega.{arith}
 use denote.Ref.{now}
 use Rattle.plan_text.specs.Text.{PutAt, digits}
