@@ -1,6 +1,8 @@
 //! The rules of document 01, written from its text alone.
 
+pub mod bench;
 pub mod message;
 pub mod node;
+pub mod program;
 pub mod refusal;
 pub mod ring;

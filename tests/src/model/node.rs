@@ -87,13 +87,13 @@ pub const CLAUSES: &[Clause] = &[
 ];
 
 /// A node must leave: with a cause, or because too few members remain.
-enum Leaving {
+pub enum Leaving {
     With(Cause),
     TooFewMembers,
 }
 
 /// What a readable message says: the acknowledgements, bit 1 lowest, and the return bit.
-type Said = (u32, bool);
+pub type Said = (u32, bool);
 
 impl Node {
     /// "All start as members, set full, all marks on, returning 0."
@@ -191,18 +191,23 @@ impl Node {
         }
     }
 
-    /// The number of bytes written. "Members send in their own slots, bits taken from the marks before
-    /// the slot; the return bit is 1 if returning is not 0. A knock carries zero bits and return bit 0."
+    /// The number of bytes written.
     pub fn send(&self, out: &mut [u8]) -> Result<usize, u32> {
         self.check_sound()?;
         self.check_limit()?;
-        if self.next_sender() != self.own {
-            return Err(refusal::TURN);
-        }
+        let (acks, return_bit) = self.says().ok_or(refusal::TURN)?;
+        message::write(self.k, acks, return_bit, out)
+    }
+
+    /// What this node says in the next slot, if it sends. "Members send in their own slots, bits taken
+    /// from the marks before the slot; the return bit is 1 if returning is not 0. A knock carries zero
+    /// bits and return bit 0."
+    pub fn says(&self) -> Option<Said> {
         match self.state {
-            State::Member => message::write(self.k, self.acknowledgements(), self.returning != 0, out),
-            State::Following if self.returning == 0 => message::write(self.k, 0, false, out),
-            _ => Err(refusal::TURN),
+            _ if self.next_sender() != self.own => None,
+            State::Member => Some((self.acknowledgements(), self.returning != 0)),
+            State::Following if self.returning == 0 => Some((0, false)),
+            _ => None,
         }
     }
 
@@ -221,10 +226,15 @@ impl Node {
     pub fn slot(&self, bytes: &[u8]) -> Result<Node, u32> {
         self.check_sound()?;
         self.check_limit()?;
-        let sender = self.next_sender();
         // "An unreadable message counts as not heard."
+        Ok(self.step(message::read(self.k, bytes).ok()))
+    }
+
+    /// One slot of a sound record below the limit; `heard` is what was heard in it and could be read.
+    pub fn step(&self, heard: Option<Said>) -> Node {
+        let sender = self.next_sender();
         // "A message handed over in the own slot is ignored."
-        let heard = if sender == self.own { None } else { message::read(self.k, bytes).ok() };
+        let heard = if sender == self.own { None } else { heard };
         let mut next = Node { slots: self.slots + 1, ..*self };
         match self.state {
             State::Out(_) => {}
@@ -235,7 +245,7 @@ impl Node {
                 }
             }
         }
-        Ok(next)
+        next
     }
 
     /// The five steps. An error ends them: the node leaves.
