@@ -1,7 +1,9 @@
 //! The library beside a model written from document 01, not from the library's code.
 
+pub mod adversary;
 pub mod library;
 pub mod messages;
 pub mod model;
+pub mod plan;
 pub mod random;
 pub mod report;

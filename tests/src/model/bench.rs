@@ -58,7 +58,15 @@ pub struct Slot {
     pub changes: Vec<(u32, Kind)>,
 }
 
-/// "all start as members", a record for each node in the lent table of this length.
+/// "Demand 3's calls are the bench's slot, off and restart"
+#[derive(Clone, Copy, PartialEq, Eq)]
+pub enum Call {
+    Slot { lost: bool, missed: Set },
+    Off(u32),
+    Restart(u32),
+}
+
+/// "All start as members", a record for each node in the lent table of this length.
 pub fn set_up(n: u32, k: u32, length: usize) -> Result<Vec<Node>, u32> {
     let first = Node::set_up(n, k, 1)?;
     if length != n as usize {
@@ -121,6 +129,15 @@ pub fn restart(nodes: &mut [Node], x: u32) -> Result<(), u32> {
     let node = &mut nodes[x as usize - 1];
     *node = node.restart()?;
     Ok(())
+}
+
+/// Any of the calls; what happened, if it is a slot.
+pub fn run(nodes: &mut [Node], call: Call) -> Result<Option<Slot>, u32> {
+    match call {
+        Call::Slot { lost, missed } => slot(nodes, lost, missed, ROOM).map(Some),
+        Call::Off(x) => off(nodes, x).map(|()| None),
+        Call::Restart(x) => restart(nodes, x).map(|()| None),
+    }
 }
 
 /// The sender of the table's next slot.
