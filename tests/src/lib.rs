@@ -1,6 +1,7 @@
 //! The library beside a model written from document 01, not from the library's code.
 
 pub mod adversary;
+pub mod careful;
 pub mod library;
 pub mod messages;
 pub mod model;

@@ -1,6 +1,6 @@
 //! Plans for the bench program as text, and the table that the model has after their lines.
 
-use crate::model::bench::{self, Call, Slot};
+use crate::model::bench::{self, Call, Document01, Slot};
 use crate::model::node::Node;
 
 /// A plan that no line of is refused, as far as it is written.
@@ -18,7 +18,7 @@ impl Plan {
     /// Writes the line of a call that is not refused; what happens in it, if it is a slot.
     pub fn push(&mut self, call: Call) -> Option<Slot> {
         self.text.extend(line(call).into_bytes());
-        bench::run(&mut self.nodes, call).expect("the call is not refused")
+        bench::run(&Document01, &mut self.nodes, call).expect("the call is not refused")
     }
 }
 

@@ -97,9 +97,7 @@ fn check_node(nodes: &[Node], x: u32) -> Result<(), u32> {
     }
 }
 
-/// One slot: the message is lost to all or not, and these nodes miss it; `room` is the length of the
-/// lent buffer.
-pub fn slot(nodes: &mut [Node], lost: bool, missed: Set, room: usize) -> Result<Slot, u32> {
+fn check_slot(nodes: &[Node], missed: Set, room: usize) -> Result<(), u32> {
     check_table(nodes)?;
     if !missed.within(Set::full(nodes[0].n)) {
         return Err(refusal::NODE);
@@ -110,6 +108,13 @@ pub fn slot(nodes: &mut [Node], lost: bool, missed: Set, room: usize) -> Result<
     if room < ROOM {
         return Err(refusal::OUTPUT);
     }
+    Ok(())
+}
+
+/// One slot: the message is lost to all or not, and these nodes miss it; `room` is the length of the
+/// lent buffer.
+pub fn slot(nodes: &mut [Node], lost: bool, missed: Set, room: usize) -> Result<Slot, u32> {
+    check_slot(nodes, missed, room)?;
     Ok(run_slot(&Document01, nodes, lost, missed))
 }
 
@@ -131,10 +136,13 @@ pub fn restart(nodes: &mut [Node], x: u32) -> Result<(), u32> {
     Ok(())
 }
 
-/// Any of the calls; what happened, if it is a slot.
-pub fn run(nodes: &mut [Node], call: Call) -> Result<Option<Slot>, u32> {
+/// Any of the calls, by these rules; what happened, if it is a slot.
+pub fn run(rules: &impl Rules, nodes: &mut [Node], call: Call) -> Result<Option<Slot>, u32> {
     match call {
-        Call::Slot { lost, missed } => slot(nodes, lost, missed, ROOM).map(Some),
+        Call::Slot { lost, missed } => {
+            check_slot(nodes, missed, ROOM)?;
+            Ok(Some(run_slot(rules, nodes, lost, missed)))
+        }
         Call::Off(x) => off(nodes, x).map(|()| None),
         Call::Restart(x) => restart(nodes, x).map(|()| None),
     }
@@ -146,7 +154,7 @@ pub fn next_sender(nodes: &[Node]) -> u32 {
 }
 
 /// One slot of a table that is as it must be and below the limit.
-pub fn run_slot(rules: &impl Rules, nodes: &mut [Node], lost: bool, missed: Set) -> Slot {
+fn run_slot(rules: &impl Rules, nodes: &mut [Node], lost: bool, missed: Set) -> Slot {
     let sender = next_sender(nodes);
     let speaker = &nodes[sender as usize - 1];
     let said = rules.says(speaker);

@@ -268,7 +268,7 @@ impl Node {
     }
 
     /// "The sender is in the set." In its own slot the node hears nothing, so its own mark goes off.
-    fn step_1(&mut self, sender: u32, heard: Option<Said>) -> Result<(), Leaving> {
+    pub fn step_1(&mut self, sender: u32, heard: Option<Said>) -> Result<(), Leaving> {
         let Some((acks, return_bit)) = heard else {
             self.marks = self.marks.without(sender);
             return Ok(());
@@ -290,7 +290,7 @@ impl Node {
     }
 
     /// "The sender is outside the set."
-    fn step_2(&mut self, sender: u32, heard: Option<Said>) {
+    pub fn step_2(&mut self, sender: u32, heard: Option<Said>) {
         if self.returning != 0 {
             return;
         }
@@ -304,7 +304,7 @@ impl Node {
     }
 
     /// "the decided member leaves if its mark is off. If that is this node, it leaves with cause 1"
-    fn step_3(&mut self, sender: u32) -> Result<(), Leaving> {
+    pub fn step_3(&mut self, sender: u32) -> Result<(), Leaving> {
         match ring::decided(self.n, self.k, self.set, sender) {
             Some(member) if !self.marks.has(member) => {
                 if member == self.own {
@@ -319,7 +319,7 @@ impl Node {
 
     /// "Following and knocking need two members or more in the set; if fewer remain after step 3, the
     /// node goes to fresh listening."
-    fn enough_members(&self) -> Result<(), Leaving> {
+    pub fn enough_members(&self) -> Result<(), Leaving> {
         if self.returns() && self.set.count() < 2 {
             Err(Leaving::TooFewMembers)
         } else {
@@ -328,7 +328,7 @@ impl Node {
     }
 
     /// "if no other member is marked, this node leaves with cause 2"
-    fn step_4(&self) -> Result<(), Leaving> {
+    pub fn step_4(&self) -> Result<(), Leaving> {
         if self.marks.without(self.own) == Set::EMPTY {
             Err(Leaving::With(Cause::NothingHeard))
         } else {
@@ -337,7 +337,7 @@ impl Node {
     }
 
     /// "only if the sender is in the set and is the nearest member before the returning node"
-    fn step_5(&mut self, sender: u32) {
+    pub fn step_5(&mut self, sender: u32) {
         if self.returning == 0 {
             return;
         }
@@ -359,7 +359,7 @@ impl Node {
     }
 
     /// "A member that leaves is out"; "A following or knocking node that must leave starts listening afresh"
-    fn leave(&mut self, why: Leaving) {
+    pub fn leave(&mut self, why: Leaving) {
         *self = match (self.state, why) {
             (State::Member, Leaving::With(cause)) => self.emptied(State::Out(cause)),
             _ => self.listening_afresh(),

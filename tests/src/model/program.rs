@@ -1,6 +1,6 @@
 //! Document 01, "The bench program".
 
-use super::bench::{self, Fate, Slot};
+use super::bench::{self, Call, Document01, Fate, Slot};
 use super::node::Node;
 use super::refusal;
 use super::ring::{is_node, Set};
@@ -47,23 +47,25 @@ fn line_one(line: &[u8]) -> Result<Vec<Node>, u32> {
     bench::set_up(n, k, n as usize)
 }
 
-/// "Then `ok`, `lost`, `miss a b` (numbers rising, at least one) each run a slot; `off a` and `on a`
-/// switch or restart a node, no slot."
 fn run_line(nodes: &mut [Node], line: &[u8], out: &mut Vec<u8>) -> Result<(), u32> {
-    match parted(line) {
-        (b"ok", None) => run_slot(nodes, false, Set::EMPTY, out),
-        (b"lost", None) => run_slot(nodes, true, Set::EMPTY, out),
-        (b"miss", Some(numbers)) => run_slot(nodes, false, named(nodes[0].n, numbers)?, out),
-        (b"off", Some(digits)) => bench::off(nodes, number(digits)?),
-        (b"on", Some(digits)) => bench::restart(nodes, number(digits)?),
-        _ => Err(refusal::LINE),
+    let call = call(nodes[0].n, line)?;
+    if let Some(slot) = bench::run(&Document01, nodes, call)? {
+        print_slot(nodes, &slot, out);
     }
+    Ok(())
 }
 
-fn run_slot(nodes: &mut [Node], lost: bool, missed: Set, out: &mut Vec<u8>) -> Result<(), u32> {
-    let slot = bench::slot(nodes, lost, missed, bench::ROOM)?;
-    print_slot(nodes, &slot, out);
-    Ok(())
+/// What a line says. "Then `ok`, `lost`, `miss a b` (numbers rising, at least one) each run a slot;
+/// `off a` and `on a` switch or restart a node, no slot."
+pub fn call(n: u32, line: &[u8]) -> Result<Call, u32> {
+    match parted(line) {
+        (b"ok", None) => Ok(Call::Slot { lost: false, missed: Set::EMPTY }),
+        (b"lost", None) => Ok(Call::Slot { lost: true, missed: Set::EMPTY }),
+        (b"miss", Some(numbers)) => Ok(Call::Slot { lost: false, missed: named(n, numbers)? }),
+        (b"off", Some(digits)) => Ok(Call::Off(number(digits)?)),
+        (b"on", Some(digits)) => Ok(Call::Restart(number(digits)?)),
+        _ => Err(refusal::LINE),
+    }
 }
 
 /// "Each slot prints: slot, sender, fate, the set of the lowest-numbered member as eight hexadecimal
