@@ -54,6 +54,7 @@ impl Adversary {
         if self.lasts == 0 {
             self.change_mood(nodes[0].n);
         }
+        self.meet_knock(nodes);
         self.lasts -= 1;
         self.switch(nodes).unwrap_or_else(|| self.slot(nodes))
     }
@@ -68,6 +69,15 @@ impl Adversary {
             self.mood = Mood::Calm;
             let longest = if self.random.bit() { n } else { 5 * n };
             self.lasts = self.random.within(1, longest);
+        }
+    }
+
+    /// A knock seldom comes, so that many of them are to meet trouble.
+    fn meet_knock(&mut self, nodes: &[Node]) {
+        let sender = &nodes[bench::next_sender(nodes) as usize - 1];
+        if sender.state == State::Following && self.random.below(3) == 0 {
+            self.mood = Mood::Knocks;
+            self.lasts = self.random.within(1, u64::from(sender.n));
         }
     }
 

@@ -2,6 +2,7 @@
 
 pub mod adversary;
 pub mod careful;
+pub mod lasting;
 pub mod library;
 pub mod messages;
 pub mod model;

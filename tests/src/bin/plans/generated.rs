@@ -2,6 +2,7 @@
 
 use super::compare::{compare, SLOTS};
 use comparison::adversary::{those, Adversary};
+use comparison::lasting::Lasting;
 use comparison::model::bench::{Kind, Slot};
 use comparison::model::node::State;
 use comparison::plan::Plan;
@@ -108,15 +109,33 @@ pub fn small_rings(count: &mut Count) -> Result<(), String> {
     count.needs(CHANGES)
 }
 
-/// A few plans of some 50,000 lines, each with a refused line at its end.
+/// What plans that live on must meet.
+const OF_LASTING: &[&str] = &[
+    "change: 1, left",
+    "change: 2, listening to following",
+    "change: 3, knocked",
+    "change: 4, joined",
+    "change: 5, knocking to following",
+    "slot: silent",
+    "slot: lost",
+    "slot: knock",
+    "slot: sent",
+];
+
+/// A few plans of 50,000 lines in which the nodes go and come back all the time, each with a refused line
+/// at its end.
 pub fn long(count: &mut Count) -> Result<(), String> {
-    let mut adversary = Adversary::new(43);
     for (n, k) in [(3, 2), (5, 2), (9, 4), (32, 3)] {
-        let lines = adversary.random.within(40_000, 60_000);
-        let mut plan = plan(count, &mut adversary, n, k, lines);
+        let mut lasting = Lasting::new(u64::from(n));
+        let mut plan = Plan::new(n, k);
+        for _ in 0..50_000 {
+            let call = lasting.next(&plan.nodes);
+            if let Some(slot) = plan.push(call) {
+                note_changes(count, &slot);
+            }
+        }
         plan.text.extend(b"off 99\n");
         compare(count, &plan.text)?;
     }
-    count.needs(SLOTS)?;
-    count.needs(CHANGES)
+    count.needs(OF_LASTING)
 }

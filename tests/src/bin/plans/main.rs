@@ -36,7 +36,11 @@ fn main() -> ExitCode {
             meets: &[0, 3, 11, 12],
             run: generated::small_rings,
         },
-        Case { name: "plans: some 50,000 lines", meets: &[3], run: generated::long },
+        Case {
+            name: "plans: 50,000 lines, nodes going and coming back all the time",
+            meets: &[3],
+            run: generated::long,
+        },
         Case { name: "damaged plans", meets: &[0, 1, 2, 3, 11, 12], run: damaged::damaged },
         Case { name: "lines of every length", meets: &[1, 2, 3, 12], run: edges::lengths },
         Case { name: "lines across the end of a buffer", meets: &[0, 3, 12], run: edges::buffer },
