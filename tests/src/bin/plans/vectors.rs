@@ -49,6 +49,7 @@ const REFUSED: &[Refused] = &[
     ("\n4 2\n", "line 1 refusal 12\n"),
     // "Line one: n, space, k": readable, then 1, then 2.
     ("2 9\n", "line 1 refusal 1\n"),
+    ("2 1\n", "line 1 refusal 1\n"),
     ("33 40\n", "line 1 refusal 1\n"),
     ("0 2\n", "line 1 refusal 1\n"),
     ("4294967300 2\n", "line 1 refusal 1\n"),
