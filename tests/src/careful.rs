@@ -28,7 +28,7 @@ impl<'a, R: Rules> Run<'a, R> {
 
     /// Makes a call that keeps the premises. If the one that was drawn breaks them, the next slot goes
     /// well; if that breaks them too, the run is at its end.
-    pub fn next(&mut self) -> Result<(Call, Option<Slot>), Broken> {
+    pub fn advance(&mut self) -> Result<(Call, Option<Slot>), Broken> {
         let drawn = self.switch().unwrap_or_else(|| self.slot());
         match self.attempt(drawn) {
             Err(Broken::Premise(_)) => self.attempt(FINE).map(|slot| (FINE, slot)),

@@ -1,5 +1,6 @@
-//! Demand 3 on the model: it holds for the rules of document 01 and not for changed ones.
+//! The model's bench by document 01, and demand 3 on it: it holds for the rules and not for changed ones.
 
+mod calls;
 mod mutants;
 mod premises;
 mod runs;
@@ -9,6 +10,13 @@ use std::process::ExitCode;
 
 fn main() -> ExitCode {
     report::run(&[
+        Case { name: "bench: set-up, its refusals", meets: &[0, 1, 2, 4], run: calls::set_up },
+        Case {
+            name: "bench: refusals in order, the table as it was",
+            meets: &[3, 4, 5, 9, 11],
+            run: calls::refusals,
+        },
+        Case { name: "bench: the changes of each slot", meets: &[], run: calls::changes },
         Case {
             name: "premises: each is found broken, and without it a claim fails",
             meets: &[],

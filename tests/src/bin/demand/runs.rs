@@ -6,6 +6,7 @@ use comparison::model::bench::{Call, Document01, Kind, Rules, Slot};
 use comparison::model::demand::{Broken, Claim};
 use comparison::random::Random;
 use comparison::report::Count;
+use std::collections::BTreeSet;
 
 /// Runs by the rules, and by each mutant.
 const RUNS: u64 = 40_000;
@@ -29,35 +30,51 @@ fn run(count: &mut Count, random: &mut Random, rules: &impl Rules) -> Option<(u3
     let (n, k) = ring(random);
     let seldom = random.within(2, 8);
     let mut run = Run::new(rules, n, k, random.number(), seldom);
-    for _ in 0..25 * n {
-        match run.next() {
-            Ok((call, slot)) => note(count, call, slot),
-            Err(Broken::Premise(_)) => {
-                count.event("runs: to the point where a premise must break");
-                return None;
-            }
-            Err(Broken::Claim(claim)) => return Some((n, k, claim)),
+    let mut met = BTreeSet::new();
+    let ends = (0..25 * n).find_map(|_| match run.advance() {
+        Ok((call, slot)) => {
+            note(count, &mut met, call, slot);
+            None
         }
+        Err(broken) => Some(broken),
+    });
+    met.into_iter().for_each(|name| count.event(name));
+    match ends {
+        None => count.event("runs: to their end"),
+        Some(Broken::Premise(_)) => count.event("runs: to where a premise must break"),
+        Some(Broken::Claim(claim)) => return Some((n, k, claim)),
     }
-    count.event("runs: to their end");
     None
 }
 
-fn note(count: &mut Count, call: Call, slot: Option<Slot>) {
+/// Counts what happens, and notes what a run has met.
+fn note(count: &mut Count, met: &mut BTreeSet<&'static str>, call: Call, slot: Option<Slot>) {
     count.event(match call {
         Call::Slot { .. } => "calls: slot",
         Call::Off(_) => "calls: off",
         Call::Restart(_) => "calls: restart",
     });
+    if let Call::Restart(_) = call {
+        met.insert("runs: with restarts");
+    }
     for (_, kind) in slot.into_iter().flat_map(|slot| slot.changes) {
-        count.event(match kind {
-            Kind::Left => "changes: left",
-            Kind::Follows => "changes: listening to following",
-            Kind::Knocked => "changes: knocked",
-            Kind::Joined => "changes: joined",
-            Kind::FollowsAgain => "changes: knocking to following",
-            Kind::Listens => "changes: to listening",
-        });
+        match kind {
+            Kind::Left => met.insert("runs: with departures"),
+            Kind::Joined => met.insert("runs: with returns"),
+            _ => false,
+        };
+        count.event(change(kind));
+    }
+}
+
+fn change(kind: Kind) -> &'static str {
+    match kind {
+        Kind::Left => "changes: left",
+        Kind::Follows => "changes: listening to following",
+        Kind::Knocked => "changes: knocked",
+        Kind::Joined => "changes: joined",
+        Kind::FollowsAgain => "changes: knocking to following",
+        Kind::Listens => "changes: to listening",
     }
 }
 
@@ -65,11 +82,10 @@ const NEEDED: &[&str] = &[
     "calls: slot",
     "calls: off",
     "calls: restart",
-    "changes: left",
-    "changes: listening to following",
-    "changes: knocked",
-    "changes: joined",
     "changes: knocking to following",
+    "runs: with departures",
+    "runs: with restarts",
+    "runs: with returns",
     "runs: to their end",
 ];
 

@@ -49,7 +49,7 @@ pub fn lengths(count: &mut Count) -> Result<(), String> {
 /// The start of a plan, so many bytes long: line one and lines `ok` (3 bytes) and `lost` (5).
 fn filled(length: usize) -> Vec<u8> {
     let mut text = b"32 2\n".to_vec();
-    while (length - text.len()) % 3 != 0 {
+    while !(length - text.len()).is_multiple_of(3) {
         text.extend(b"lost\n");
     }
     while text.len() < length {
