@@ -64,11 +64,11 @@ impl<'a, R: Rules> Run<'a, R> {
         self.demand.failures_left().saturating_sub(self.silent_soon().count())
     }
 
-    /// The list can lose one more member. It may also do so without: a node may join in the same slot, or
-    /// the run ends there.
+    /// The list can lose one more member. Otherwise a node may join in the same slot, or the run ends there.
     fn may_lose_one(&mut self) -> bool {
         let leaving = self.demand.undecided().count() + self.silent_soon().count();
-        self.list().count() > self.nodes[0].k + 1 + leaving || self.one_in(4)
+        let daring = if self.is_special() { 2 } else { 8 };
+        self.list().count() > self.nodes[0].k + 1 + leaving || self.one_in(daring)
     }
 
     /// A knock, an answer to one, or the last slot of a window: such slots seldom come, and most of them
