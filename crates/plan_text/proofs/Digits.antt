@@ -9,8 +9,8 @@ use lib.ListN.{length, length-append}
 use lib.Dec.{ltb}
 use borrow.Author.Tests.{lt-ltb, le-ltb}
 use Rattle.plan_text.specs.Text.{decimal, digits, fateText, glyph, numberThen, places, shownText}
-use Rattle.plan_text.specs.declared.Fate.{Fate}
-use Rattle.plan_text.specs.declared.Fate.the-variants.{Silent, Lost, Knock, Sent}
+use Rattle.bench.specs.declared.Fate.{Fate}
+use Rattle.bench.specs.declared.Fate.the-variants.{Silent, Lost, Knock, Sent}
 use Rattle.plan_text.specs.declared.Shown.{Shown}
 use Rattle.plan_text.specs.declared.Shown.the-variants.{Set, Nobody}
 

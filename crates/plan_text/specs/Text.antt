@@ -6,8 +6,8 @@ use mathlib.Core.List.{List, [], _∷_, _++_}
 use lib.Dec.{ltb, leb}
 use lib.ListN.{length, take, drop}
 use Rattle.refusal.specs.declared.Refusal.the-variants.{OutputShort}
-use Rattle.plan_text.specs.declared.Fate.{Fate}
-use Rattle.plan_text.specs.declared.Fate.the-variants.{Silent, Lost, Knock, Sent}
+use Rattle.bench.specs.declared.Fate.{Fate}
+use Rattle.bench.specs.declared.Fate.the-variants.{Silent, Lost, Knock, Sent}
 use Rattle.plan_text.specs.declared.Shown.{Shown}
 use Rattle.plan_text.specs.declared.Shown.the-variants.{Set, Nobody}
 use Rattle.plan_text.specs.declared.Written.{Written}

@@ -1,18 +1,11 @@
 // The lines that the bench program prints (document 01, "The bench program"), written into lent bytes at a place.
+use bench::Fate;
 use refusal::Refusal;
 ghost use mathlib.Core.Path.{_≡_};
 ghost use Prim.Native.Nat.{_+_, _≤_, _<_};
 ghost use lib.Dec.{leb};
 ghost use lib.ListN.{length};
 ghost use Rattle.plan_text.specs.Text.{digits, fateText, glyph, numberThen, pasted, places, refusalText, shownText, slotText, writtenOf, PutAt};
-
-// What comes of a slot's message.
-pub enum Fate {
-    Silent,
-    Lost,
-    Knock,
-    Sent,
-}
 
 // The set to show, if there is a member.
 pub enum Shown {
