@@ -9,16 +9,17 @@ use lib.Dec.{eqb, leb}
 use borrow.Author.Tests.{eqb-true, eqb-false, eq-eqb, ne-eqb, leb-true, le-leb}
 use Rattle.nodeset.specs.Sums.{sum, num}
 use Rattle.nodeset.specs.Sets.{has, size}
-use Rattle.nodeset.proofs.Sums.{sum-zero}
+use Rattle.nodeset.proofs.Sums.{sum-same, sum-zero}
 use Rattle.nodeset.proofs.Tests.{by-cases, both, all, or-left, or-right, or-else}
 use Rattle.record.specs.States.{isMember, isOut}
 use Rattle.bench.specs.Table.{Table, recordOf, slotsOf, speaker}
 use Rattle.bench.specs.Calls.{transmits}
-use Rattle.bench.specs.Runs.{Call, slot, off, restart, tableAfter, isSlot, listOf, Entry, entry}
+use Rattle.bench.specs.Runs.{Call, slot, off, restart, tableAfter, isSlot, listOf, Entry, noEntry, entry}
 use Rattle.bench.specs.Demand.{AtEach, KeepsList, AllHear, HearEverything}
 use Rattle.agreement.proofs.Places.{Placed}
 use Rattle.agreement.proofs.Entries.{entry-later}
 use Rattle.premises.specs.Needed.{Premise, few-failures, one-outside, list-kept, all-heard, Holds}
+use Rattle.premises.proofs.Scan.{Notes, noted, Scan, SlotTest, scan, atSlots, Right, scan-right}
 
 -- ---- a test of each of the numbers 1 to m
 
@@ -49,10 +50,8 @@ every-all f (suc m) h = all (every-all f m (λ i p q. h i p (omega arith))) (h (
 abbrev pub fewIn : (ℕ → ℕ) → ℕ → ℕ → ℕ → Bool
 fewIn f n c m = every (λ a. leb (sum f a n) c) m
 
-abbrev pub keepsAt : ℕ → ℕ → Table → Call → List Call → Bool
-keepsAt n k start c cs =
-    not (isSlot c (tableAfter start cs))
-    || (leb (k + 1) (size n (listOf (tableAfter start cs))) && leb (k + 1) (size n (listOf (tableAfter start (c ∷ cs)))))
+abbrev pub keepsIn : ℕ → ℕ → SlotTest
+keepsIn n k c t u = leb (k + 1) (size n (listOf t)) && leb (k + 1) (size n (listOf u))
 
 -- node i hears, or need not
 abbrev pub hearsAt : Bool → ℕ → Table → ℕ → Bool
@@ -60,23 +59,19 @@ hearsAt lost missed t i =
     (not (transmits t) || lost)
     || (eqb i (speaker t) || (not (has missed i) || (isMember (recordOf t i .state) || isOut (recordOf t i .state))))
 
-abbrev pub hearIn : ℕ → Call → Table → Bool
-hearIn n (slot lost missed room) t = every (hearsAt lost missed t) n
-hearIn n (off a) t = true
-hearIn n (restart a) t = true
+abbrev pub hearIn : ℕ → SlotTest
+hearIn n (slot lost missed room) t u = every (hearsAt lost missed t) n
+hearIn n (off a) t u = true
+hearIn n (restart a) t u = true
 
-abbrev pub hearsAll : ℕ → Table → Call → List Call → Bool
-hearsAll n start c cs = not (isSlot c (tableAfter start cs)) || hearIn n c (tableAfter start cs)
-
-unfoldable pub atEach : (Call → List Call → Bool) → List Call → Bool
-atEach f [] = true
-atEach f (c ∷ cs) = atEach f cs && f c cs
+abbrev pub testOf : Premise → ℕ → ℕ → Scan → Bool
+testOf few-failures n k s = fewIn (noted (s .failures)) n (k - 1) (slotsOf (s .table))
+testOf one-outside n k s = fewIn (noted (s .outside)) n 1 (slotsOf (s .table))
+testOf list-kept n k s = s .kept
+testOf all-heard n k s = s .heard
 
 abbrev pub test : Premise → ℕ → ℕ → Table → List Call → Bool
-test few-failures n k start cs = fewIn (λ u. entry start cs u .failures) n (k - 1) (slotsOf (tableAfter start cs))
-test one-outside n k start cs = fewIn (λ u. num (entry start cs u .outside)) n 1 (slotsOf (tableAfter start cs))
-test list-kept n k start cs = atEach (keepsAt n k start) cs
-test all-heard n k start cs = atEach (hearsAll n start) cs
+test p n k start cs = testOf p n k (scan (keepsIn n k) (hearIn n) start cs)
 
 -- ---- n in a row
 
@@ -93,17 +88,7 @@ few-complete f n c m h = every-all (λ a. leb (sum f a n) c) m (λ i p q. le-leb
     one : (i : ℕ) → 1 ≤ i → sum f i n ≤ c
     one i p = let z : suc (i - 1) ≡ i = omega arith in rw z at (h (i - 1))
 
--- ---- at each call
-
-each-sound : (P : Call → List Call → Type 0) (f : Call → List Call → Bool) → ((c : Call) (cs : List Call) → f c cs ≡ true → P c cs) → (cs : List Call) → atEach f cs ≡ true → AtEach P cs
-unfolding AtEach atEach
-each-sound P f h [] e = tt
-each-sound P f h (c ∷ cs) e = let x = both (atEach f cs) (f c cs) e in (each-sound P f h cs (x .0), h c cs (x .1))
-
-each-complete : (P : Call → List Call → Type 0) (f : Call → List Call → Bool) → ((c : Call) (cs : List Call) → P c cs → f c cs ≡ true) → (cs : List Call) → AtEach P cs → atEach f cs ≡ true
-unfolding AtEach atEach
-each-complete P f h [] p = refl
-each-complete P f h (c ∷ cs) p = all (each-complete P f h cs (p .0)) (h c cs (p .1))
+-- ---- at each slot
 
 -- where a test holds, what it guards
 implied : (a b : Bool) → (not a || b) ≡ true → a ≡ true → b ≡ true
@@ -113,33 +98,46 @@ implying : (a b : Bool) → (a ≡ true → b ≡ true) → (not a || b) ≡ tru
 implying true b h = h refl
 implying false b h = refl
 
-keeps-sound : (n k : ℕ) (start : Table) (c : Call) (cs : List Call) → keepsAt n k start c cs ≡ true → KeepsList n k start c cs
-unfolding KeepsList
-keeps-sound n k start c cs e s =
-    let x = implied (isSlot c (tableAfter start cs)) (leb (k + 1) (size n (listOf (tableAfter start cs))) && leb (k + 1) (size n (listOf (tableAfter start (c ∷ cs))))) e s in
-    let y = both (leb (k + 1) (size n (listOf (tableAfter start cs)))) (leb (k + 1) (size n (listOf (tableAfter start (c ∷ cs))))) x in
-    (leb-true (k + 1) (size n (listOf (tableAfter start cs))) (y .0), leb-true (k + 1) (size n (listOf (tableAfter start (c ∷ cs)))) (y .1))
+module _ (P : Call → List Call → Type 0) (f : SlotTest) (start : Table) where
+  -- what the test says of a slot
+  abbrev At : Call → List Call → Type 0
+  At c cs = isSlot c (tableAfter start cs) ≡ true → f c (tableAfter start cs) (tableAfter start (c ∷ cs)) ≡ true
 
-keeps-complete : (n k : ℕ) (start : Table) (c : Call) (cs : List Call) → KeepsList n k start c cs → keepsAt n k start c cs ≡ true
-unfolding KeepsList
-keeps-complete n k start c cs h =
-    implying (isSlot c (tableAfter start cs)) (leb (k + 1) (size n (listOf (tableAfter start cs))) && leb (k + 1) (size n (listOf (tableAfter start (c ∷ cs)))))
-    (λ s. all (le-leb (k + 1) (size n (listOf (tableAfter start cs))) (h s .0)) (le-leb (k + 1) (size n (listOf (tableAfter start (c ∷ cs)))) (h s .1)))
+  each-sound : ((c : Call) (cs : List Call) → At c cs → P c cs) → (cs : List Call) → atSlots f start cs ≡ true → AtEach P cs
+  unfolding AtEach atSlots
+  each-sound h [] e = tt
+  each-sound h (c ∷ cs) e =
+      let x = both (atSlots f start cs) (not (isSlot c (tableAfter start cs)) || f c (tableAfter start cs) (tableAfter start (c ∷ cs))) e in
+      (each-sound h cs (x .0), h c cs (implied (isSlot c (tableAfter start cs)) (f c (tableAfter start cs) (tableAfter start (c ∷ cs))) (x .1)))
+
+  each-complete : ((c : Call) (cs : List Call) → P c cs → At c cs) → (cs : List Call) → AtEach P cs → atSlots f start cs ≡ true
+  unfolding AtEach atSlots
+  each-complete h [] p = refl
+  each-complete h (c ∷ cs) p =
+      all (each-complete h cs (p .0)) (implying (isSlot c (tableAfter start cs)) (f c (tableAfter start cs) (tableAfter start (c ∷ cs))) (h c cs (p .1)))
+
+keeps-sound : (n k : ℕ) (t u : Table) (c : Call) → keepsIn n k c t u ≡ true → (k + 1 ≤ size n (listOf t)) × (k + 1 ≤ size n (listOf u))
+keeps-sound n k t u c e =
+    let x = both (leb (k + 1) (size n (listOf t))) (leb (k + 1) (size n (listOf u))) e in
+    (leb-true (k + 1) (size n (listOf t)) (x .0), leb-true (k + 1) (size n (listOf u)) (x .1))
+
+keeps-complete : (n k : ℕ) (t u : Table) (c : Call) → (k + 1 ≤ size n (listOf t)) × (k + 1 ≤ size n (listOf u)) → keepsIn n k c t u ≡ true
+keeps-complete n k t u c (a, b) = all (le-leb (k + 1) (size n (listOf t)) a) (le-leb (k + 1) (size n (listOf u)) b)
 
 -- ---- hearing
 
-hear-sound : (n : ℕ) (c : Call) (t : Table) → hearIn n c t ≡ true → AllHear n c t
-hear-sound n (slot lost missed room) t e = λ sent kept i p q other named.
+hear-sound : (n : ℕ) (c : Call) (t u : Table) → hearIn n c t u ≡ true → AllHear n c t
+hear-sound n (slot lost missed room) t u e = λ sent kept i p q other named.
     let a = every-one (hearsAt lost missed t) n e i p q in
     let silent : (not (transmits t) || lost) ≡ false = ap (λ (b : Bool). not b || lost) sent ∙ kept in
     let b = or-else (not (transmits t) || lost) (eqb i (speaker t) || (not (has missed i) || (isMember (recordOf t i .state) || isOut (recordOf t i .state)))) a silent in
     let d = or-else (eqb i (speaker t)) (not (has missed i) || (isMember (recordOf t i .state) || isOut (recordOf t i .state))) b (ne-eqb i (speaker t) other) in
     implied (has missed i) (isMember (recordOf t i .state) || isOut (recordOf t i .state)) d named
-hear-sound n (off a) t e = tt
-hear-sound n (restart a) t e = tt
+hear-sound n (off a) t u e = tt
+hear-sound n (restart a) t u e = tt
 
-hear-complete : (n : ℕ) (c : Call) (t : Table) → AllHear n c t → hearIn n c t ≡ true
-hear-complete n (slot lost missed room) t h = every-all (hearsAt lost missed t) n at
+hear-complete : (n : ℕ) (c : Call) (t u : Table) → AllHear n c t → hearIn n c t u ≡ true
+hear-complete n (slot lost missed room) t u h = every-all (hearsAt lost missed t) n at
   where
     rest : ℕ → Bool
     rest i = not (has missed i) || (isMember (recordOf t i .state) || isOut (recordOf t i .state))
@@ -155,25 +153,45 @@ hear-complete n (slot lost missed room) t h = every-all (hearsAt lost missed t) 
         (λ s. or-left (eqb i (speaker t)) (rest i) s)
         (λ s. or-right (eqb i (speaker t)) (rest i) (implying (has missed i) (isMember (recordOf t i .state) || isOut (recordOf t i .state))
         (λ m. h (kept (transmits t) lost e .0) (kept (transmits t) lost e .1) i p q (eqb-false i (speaker t) s) m)))))
-hear-complete n (off a) t h = refl
-hear-complete n (restart a) t h = refl
+hear-complete n (off a) t u h = refl
+hear-complete n (restart a) t u h = refl
 
 -- ---- each premise
 
 module _ (n k : ℕ) (pos : 1 ≤ n) (start : Table) (begins : Placed n k 0 start) (cs : List Call) where
+  abbrev S : Scan
+  S = scan (keepsIn n k) (hearIn n) start cs
+
+  right : Right (keepsIn n k) (hearIn n) start cs S
+  right = scan-right (keepsIn n k) (hearIn n) start cs
+
+  -- a number of each slot's entry, as it is noted
+  module _ (f : Entry → ℕ) (none : f noEntry ≡ 0) (notes : Notes) (are : (u : ℕ) → noted notes u ≡ f (entry start cs u)) (c : ℕ) where
+    same-sum : (a : ℕ) → sum (noted notes) a n ≡ sum (λ u. f (entry start cs u)) a n
+    same-sum a = sum-same (noted notes) (λ u. f (entry start cs u)) a n (λ u _ _. are u)
+
+    few-by : fewIn (noted notes) n c (slotsOf (S .table)) ≡ true → (a : ℕ) → sum (λ u. f (entry start cs u)) (suc a) n ≤ c
+    few-by e a = omega (arith, same-sum (suc a), few-sound (noted notes) n c (slotsOf (S .table)) later e a)
+      where
+        later : (u : ℕ) → slotsOf (S .table) < u → noted notes u ≡ 0
+        later u h = are u ∙ ap f (entry-later n k pos start begins cs u (omega (arith, h, ap slotsOf (right .table-is)))) ∙ none
+
+    few-tested : ((a : ℕ) → sum (λ u. f (entry start cs u)) (suc a) n ≤ c) → fewIn (noted notes) n c (slotsOf (S .table)) ≡ true
+    few-tested h = few-complete (noted notes) n c (slotsOf (S .table)) (λ a. omega (arith, same-sum (suc a), h a))
+
   pub by-test : (p : Premise) → test p n k start cs ≡ true → Holds p n k start cs
-  unfolding HearEverything
-  by-test few-failures e = few-sound (λ u. entry start cs u .failures) n (k - 1) (slotsOf (tableAfter start cs)) (λ u h. ap (λ (x : Entry). x .failures) (entry-later n k pos start begins cs u h)) e
-  by-test one-outside e = few-sound (λ u. num (entry start cs u .outside)) n 1 (slotsOf (tableAfter start cs)) (λ u h. ap (λ (x : Entry). num (x .outside)) (entry-later n k pos start begins cs u h)) e
-  by-test list-kept e = each-sound (KeepsList n k start) (keepsAt n k start) (keeps-sound n k start) cs e
-  by-test all-heard e = each-sound (HearEverything n start) (hearsAll n start) (λ c ds x s. hear-sound n c (tableAfter start ds) (implied (isSlot c (tableAfter start ds)) (hearIn n c (tableAfter start ds)) x s)) cs e
+  unfolding KeepsList HearEverything
+  by-test few-failures e = few-by (λ x. x .failures) refl (S .failures) (right .failures-are) (k - 1) e
+  by-test one-outside e = few-by (λ x. num (x .outside)) refl (S .outside) (right .outside-are) 1 e
+  by-test list-kept e = each-sound (KeepsList n k start) (keepsIn n k) start (λ c ds h s. keeps-sound n k (tableAfter start ds) (tableAfter start (c ∷ ds)) c (h s)) cs (sym (right .kept-is) ∙ e)
+  by-test all-heard e = each-sound (HearEverything n start) (hearIn n) start (λ c ds h s. hear-sound n c (tableAfter start ds) (tableAfter start (c ∷ ds)) (h s)) cs (sym (right .heard-is) ∙ e)
 
   tested : (p : Premise) → Holds p n k start cs → test p n k start cs ≡ true
-  unfolding HearEverything
-  tested few-failures h = few-complete (λ u. entry start cs u .failures) n (k - 1) (slotsOf (tableAfter start cs)) h
-  tested one-outside h = few-complete (λ u. num (entry start cs u .outside)) n 1 (slotsOf (tableAfter start cs)) h
-  tested list-kept h = each-complete (KeepsList n k start) (keepsAt n k start) (keeps-complete n k start) cs h
-  tested all-heard h = each-complete (HearEverything n start) (hearsAll n start) (λ c ds x. implying (isSlot c (tableAfter start ds)) (hearIn n c (tableAfter start ds)) (λ s. hear-complete n c (tableAfter start ds) (x s))) cs h
+  unfolding KeepsList HearEverything
+  tested few-failures h = few-tested (λ x. x .failures) refl (S .failures) (right .failures-are) (k - 1) h
+  tested one-outside h = few-tested (λ x. num (x .outside)) refl (S .outside) (right .outside-are) 1 h
+  tested list-kept h = right .kept-is ∙ each-complete (KeepsList n k start) (keepsIn n k) start (λ c ds x s. keeps-complete n k (tableAfter start ds) (tableAfter start (c ∷ ds)) c (x s)) cs h
+  tested all-heard h = right .heard-is ∙ each-complete (HearEverything n start) (hearIn n) start (λ c ds x s. hear-complete n c (tableAfter start ds) (tableAfter start (c ∷ ds)) (x s)) cs h
 
   pub by-failed-test : (p : Premise) → test p n k start cs ≡ false → Holds p n k start cs → ⊥
   by-failed-test p e h = true≢false (sym (tested p h) ∙ e)
