@@ -1,13 +1,13 @@
 -- The premises of a sequence of calls hold of each beginning of it: so what demand 3 says of the table after every sequence, it says of the table after each
 -- call of a sequence that keeps to the premises as a whole. And the distance that the bench tells is then 0. Assumes nothing.
-use Prim.Native.Nat.{ℕ, zero, suc, _+_, _-_, _≤_, _<_}
+use Prim.Native.Nat.{ℕ, suc, _+_, _-_, _≤_, _<_}
 use mathlib.Core.Path.{_≡_, refl, sym, ap, _∙_}
-use mathlib.Core.Bool.{Bool, true, false, cond}
+use mathlib.Core.Bool.{true}
 use mathlib.Core.List.{List, [], _∷_, _++_}
 use native.Mathlib.Omega.{arith}
 use native.Mathlib.Decide.{decLe}
 use lib.ListN.{length, getD}
-use Rattle.nodeset.specs.Sums.{sum, num}
+use Rattle.nodeset.specs.Sums.{num}
 use Rattle.nodeset.specs.Sets.{distance}
 use Rattle.nodeset.proofs.Sums.{sum-le}
 use Rattle.nodeset.proofs.Tests.{by-cases}

@@ -1,4 +1,4 @@
 pub mod Scan
 pub mod Tested
-pub mod Inhabited
 pub mod Needed
+pub mod Inhabited

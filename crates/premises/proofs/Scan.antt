@@ -1,13 +1,12 @@
 -- What the premises of demand 3 ask of a run, gathered call by call, so that it can be computed: each table is made once. Assumes nothing.
-use Prim.Native.Nat.{ℕ, suc, _+_}
+use Prim.Native.Nat.{ℕ, _+_}
 use mathlib.Core.Path.{_≡_, refl, sym, ap, _∙_}
 use mathlib.Core.Bool.{Bool, true, false, cond, not, _&&_, _||_}
 use mathlib.Core.List.{List, [], _∷_}
-use lib.Dec.{eqb, leb}
+use lib.Dec.{eqb}
 use Rattle.nodeset.specs.Sums.{num}
-use Rattle.nodeset.specs.Sets.{size}
 use Rattle.bench.specs.Table.{Table, slotsOf}
-use Rattle.bench.specs.Runs.{Call, callOf, tableAfter, isSlot, listOf, Entry, noEntry, newEntry, entry}
+use Rattle.bench.specs.Runs.{Call, callOf, tableAfter, isSlot, Entry, newEntry, entry}
 
 -- ---- what is gathered
 

@@ -8,7 +8,7 @@ use Rattle.nodeset.specs.Sums.{sum, num}
 use Rattle.nodeset.specs.Sets.{distance}
 use Rattle.bench.specs.Table.{Table, recordOf, slotsOf}
 use Rattle.bench.specs.Calls.{setUpOf}
-use Rattle.bench.specs.Runs.{Call, tableAfter, Entry, entry}
+use Rattle.bench.specs.Runs.{Call, tableAfter, entry}
 use Rattle.bench.specs.Demand.{AtEach, KeepsList, HearEverything, MemberAt, Failed, isDecided, Claims}
 
 -- ---- the premises, one by one (the fields of Premises, bench's specs/Demand)
@@ -43,7 +43,13 @@ InTime n k start cs = (s : ℕ) → Failed start s cs → s + (n - 1) ≤ slotsO
 
 -- ---- a run that breaks just this premise, and this claim with it
 
+-- "n from 3 to 32. k is from 2 to n - 1" ("The ring").
+abbrev pub InRange : ℕ → ℕ → Type 0
+InRange n k = (3 ≤ n) × (n ≤ 32) × (2 ≤ k) × (k ≤ n - 1)
+
 pub record Bites (p : Premise) (Claim : ℕ → ℕ → Table → List Call → Type 0) (n k : ℕ) (lent : Table) (cs : List Call) : Type 0 where
+  pub in-range : InRange n k
+  pub one-each : length lent ≡ n
   pub others : Others p n k (setUpOf n k lent .table) cs
   pub broken : Holds p n k (setUpOf n k lent .table) cs → ⊥
   pub fails : Claim n k (setUpOf n k lent .table) cs → ⊥
