@@ -1,7 +1,11 @@
 //! The library beside a model written from document 01, not from the library's code.
 
+pub mod adversary;
+pub mod careful;
+pub mod lasting;
 pub mod library;
 pub mod messages;
 pub mod model;
+pub mod plan;
 pub mod random;
 pub mod report;

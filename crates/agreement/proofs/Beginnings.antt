@@ -1,5 +1,5 @@
 -- What a run says of each of its beginnings: entries stay, and no slot is decided before it runs. Assumes nothing.
-use Prim.Native.Nat.{ℕ, zero, suc, _+_, _≤_, _<_}
+use Prim.Native.Nat.{ℕ, _+_, _≤_, _<_}
 use mathlib.Core.Path.{_≡_, refl, _∙_}
 use mathlib.Core.Bool.{Bool, true, false, _&&_}
 use mathlib.Core.List.{List, [], _∷_}
@@ -44,4 +44,3 @@ module _ (n k : ℕ) (pos : 1 ≤ n) (start : Table) (begins : Placed n k 0 star
       never : (x : Bool) → (x && false) ≡ false
       never true = refl
       never false = refl
-

@@ -1,6 +1,6 @@
 -- Demand 3 holds (bench's specs/Demand): the lists agree because each is the one list of the invariant; a node whose slot failed stays on it while fewer than k
 -- listed slots have been since, and that is until its deciding slot. Assumes nothing.
-use Prim.Native.Nat.{ℕ, zero, suc, _+_, _-_, _≤_, _<_}
+use Prim.Native.Nat.{ℕ, suc, _+_, _-_, _≤_, _<_}
 use mathlib.Core.Path.{_≡_, refl, sym, ap, _∙_, subst}
 use mathlib.Core.Logic.{_≢_}
 use mathlib.Core.Bool.{Bool, true, false, _||_}
@@ -24,13 +24,13 @@ use Rattle.bench.specs.Runs.{Call, slot, off, restart, tableAfter, isSlot, list
 use Rattle.bench.specs.Demand.{AtEach, KeepsList, HearEverything, memberAfter, isDeciding, isDecided, Failed, MemberAt, OnAll, OffAll, Claims, Demand3}
 use Rattle.agreement.proofs.History.{World, lst, full-round, num-is, num-isnt}
 use Rattle.agreement.proofs.Marks.{no-both}
-use Rattle.agreement.proofs.Join.{found-it}
-use Rattle.agreement.proofs.Nodes.{member-tracks}
+use Rattle.agreement.proofs.Returns.{found-it}
+use Rattle.agreement.proofs.Alike.{member-tracks}
 use Rattle.agreement.proofs.Places.{Placed}
 use Rattle.agreement.proofs.Accepted.{off-no-slot, restart-no-slot}
 use Rattle.agreement.proofs.Runs.{below-limit, placed-run, slots-next}
 use Rattle.agreement.proofs.Beginnings.{Beginning, whole, shorter, entry-stable, decided-later}
-use Rattle.agreement.proofs.Tables.{TableInv, list-is}
+use Rattle.agreement.proofs.Tables.{list-is}
 use Rattle.agreement.proofs.Slots.{speaker-is, list, listed-is}
 use Rattle.agreement.proofs.Leaving.{not-found, deciding, undecided}
 use Rattle.agreement.proofs.Kept as kept

@@ -17,10 +17,9 @@ use Rattle.ring.specs.Answers.{beforeOf}
 use Rattle.ring.proofs.Senders.{sender-range, sender-period, same-slot}
 use Rattle.ring.proofs.Walks as walks
 use Rattle.ring.proofs.Walks.{Met, walk-meets, before-is, others}
-use Rattle.bench.specs.Runs.{Entry}
-use Rattle.agreement.proofs.History.{World, K, KFact, lst, one-knock, size-from, before-answer, Decision, num-is, num-isnt}
+use Rattle.agreement.proofs.History.{World, K, KFact, lst, one-knock, size-from, before-answer, num-is, num-isnt}
 use Rattle.agreement.proofs.Marks.{no-both, not-true, same-member}
-use Rattle.agreement.proofs.Listed.{Begins, other-sender, same-window}
+use Rattle.agreement.proofs.Listed.{ListedSlot, other-sender, same-window}
 
 module _ (W : World) where
   open World W using (n, k, n-pos, n-most, k-two, k-lt, E, fair, few, once)
@@ -55,7 +54,9 @@ module _ (W : World) where
       let y : suc u + e ≡ suc N = omega arith in
       omega (arith, sum-next (lst W) (suc u) e, ap (lst W) y)
 
-  module _ (N L : ℕ) (B : Begins W N L) (lT : E (suc N) .listed ≡ true) (onL : has L (sender n (suc N)) ≡ true) (D : Decision W N L) where
+  module _ (S : ListedSlot W) where
+    open ListedSlot S using (N, L, B, lT, onL, D)
+
     -- the list after step 3
     abbrev pub L₁ : ℕ
     L₁ = dropping (E (D .u) .sent) L (sender n (D .u))

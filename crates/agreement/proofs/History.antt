@@ -1,19 +1,17 @@
 -- The entries of a run, and what the list has to do with them (K). Slots are counted from n + 1 here: a round in which every node was listed,
 -- spoke and was heard by all stands before the first. Assumes nothing.
-use Prim.Native.Nat.{ℕ, zero, suc, _+_, _-_, _≤_, _<_, min}
+use Prim.Native.Nat.{ℕ, zero, suc, _+_, _-_, _≤_, _<_}
 use mathlib.Core.Path.{_≡_, refl, sym, ap, _∙_}
-use mathlib.Core.Logic.{_≢_, _⊎_, inl, inr}
-use mathlib.Core.Bool.{Bool, true, false, cond}
+use mathlib.Core.Bool.{Bool, true, false}
 use native.Mathlib.Omega.{arith}
-use borrow.Author.Tests.{le-leb, ne-eqb}
+use borrow.Author.Tests.{le-leb}
 use Rattle.nodeset.specs.Sums.{sum, num}
 use Rattle.nodeset.specs.Sets.{has, size}
 use Rattle.nodeset.proofs.Tests.{by-cases, all, chosen}
 use Rattle.nodeset.proofs.Sums.{sum-le, sum-first, sum-add, sum-split, sum-at, one-place, num-le}
-use Rattle.ring.specs.declared.Found.{Found}
 use Rattle.ring.specs.declared.Found.the-variants.{Member}
 use Rattle.ring.specs.Ring.{ringSize, sponsorCount, nodeNumber, sender, ks, walk, memberBefore, sponsored, decided}
-use Rattle.ring.specs.Answers.{beforeOf, sponsoredOf, decidedOf, onRing, onSponsoredRing}
+use Rattle.ring.specs.Answers.{beforeOf, sponsoredOf, decidedOf}
 use Rattle.ring.proofs.Senders.{sender-range, round, size-round}
 use Rattle.ring.proofs.Walks as walks
 use Rattle.ring.proofs.Walks.{Met, walk-meets, before-is, others}
@@ -67,6 +65,10 @@ num-isnt e = ap num e
 
 module _ (W : World) where
   open World W using (n, k, n-pos, n-most, k-two, k-lt, E, fair, few, once)
+
+  -- senders are among the 32 nodes that a set can hold
+  pub sender-most : (u : ℕ) → sender n u ≤ 32
+  sender-most u = omega (arith, sender-range n n-pos u, n-most)
 
   abbrev pub lst : ℕ → ℕ
   lst q = num (E q .listed)

@@ -1,5 +1,5 @@
 -- The invariant of a tracking node (S, T, M, R of the paper proof), and of a listening one (Q).
-use Prim.Native.Nat.{ℕ, zero, suc, _+_, _^_, _<_}
+use Prim.Native.Nat.{ℕ, _+_, _^_, _<_}
 use mathlib.Core.Path.{_≡_}
 use mathlib.Core.Logic.{_≢_, _⊎_}
 use mathlib.Core.Bool.{true, false}
@@ -7,7 +7,6 @@ use Rattle.nodeset.specs.Sets.{has}
 use Rattle.ring.specs.Ring.{sender}
 use Rattle.record.specs.declared.Node.{Node}
 use Rattle.record.specs.States.{isMember, isKnocking}
-use Rattle.bench.specs.Runs.{Entry}
 use Rattle.agreement.proofs.History.{World, Untold}
 
 module _ (W : World) where

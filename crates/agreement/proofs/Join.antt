@@ -1,109 +1,42 @@
--- A listed slot: departure at each node, return bits, joining; what stays tracking keeps the invariant. Assumes nothing.
+-- A listed slot: joining; what stays tracking keeps the invariant. Assumes nothing.
 use Prim.Native.Nat.{ℕ, zero, suc, _+_, _-_, _≤_, _<_}
 use mathlib.Core.Path.{_≡_, refl, sym, ap, _∙_}
 use mathlib.Core.Logic.{_≢_, _⊎_, inl, inr}
-use mathlib.Core.Bool.{Bool, true, false, cond, not, _&&_, _||_, true≢false, false≢true}
+use mathlib.Core.Bool.{true, false, true≢false, false≢true}
 use native.Mathlib.Omega.{arith}
-use native.Mathlib.Decide.{ℕ-discrete, decLt}
-use lib.Dec.{eqb}
-use borrow.Author.Tests.{eqb-true, eqb-false, eq-eqb, ne-eqb, leb-true}
-use Rattle.nodeset.specs.Sums.{sum, num}
-use Rattle.nodeset.specs.Sets.{has, with, without}
-use Rattle.nodeset.proofs.Tests.{by-cases, both}
-use Rattle.nodeset.proofs.Sums.{sum-at, sum-rest, num-le}
+use native.Mathlib.Decide.{decLt}
+use Rattle.nodeset.specs.Sums.{sum}
+use Rattle.nodeset.specs.Sets.{has, with}
+use Rattle.nodeset.proofs.Sums.{sum-at, sum-rest}
 use Rattle.nodeset.proofs.Laws.{has-with, has-with-other}
-use Rattle.ring.specs.declared.Found.{Found}
 use Rattle.ring.specs.declared.Found.the-variants as found
-use Rattle.ring.specs.Ring.{sender, memberBefore}
+use Rattle.ring.specs.Ring.{sender}
 use Rattle.ring.specs.Answers.{beforeOf}
 use Rattle.ring.proofs.Members as members
 use Rattle.ring.proofs.Senders.{sender-range}
 use Rattle.ring.proofs.Walks as walks
-use Rattle.message.specs.declared.Reading.{Reading}
-use Rattle.message.specs.declared.Reading.the-variants.{Heard, Refused}
 use Rattle.record.specs.declared.Node.{Node}
-use Rattle.record.specs.declared.State.{State}
-use Rattle.record.specs.declared.State.the-variants.{Member, Listening, Following, Knocking, Out}
+use Rattle.record.specs.declared.State.the-variants.{Member, Following}
 use Rattle.record.specs.States.{isMember, isKnocking}
 use Rattle.changes.specs.Changes.{withSet, withReturning}
-use Rattle.steps.specs.Steps.{isHeard, returnIn, isFound, marksAfter, missedReturn, returnHeard, marked, joins}
-use Rattle.bench.specs.Runs.{Entry}
-use Rattle.agreement.proofs.History.{World, Untold, lst, told-in-time, one-knock, Decision, num-is}
+use Rattle.steps.specs.Steps.{marksAfter, missedReturn, returnHeard, marked, joins}
+use Rattle.agreement.proofs.History.{World, sender-most, Untold, lst, told-in-time, num-is}
 use Rattle.agreement.proofs.Invariant.{Tracking, Off, Knock, Awaits, aware, unaware}
 use Rattle.agreement.proofs.Marks.{no-both, not-true, not-false, has-with-keeps}
-use Rattle.agreement.proofs.Outcome.{Gone, Settled, gone, kept, backed, became, joined, listedAs, setAfter}
-use Rattle.agreement.proofs.Listed.{Begins, Hears, Says, other-sender, same-window, extend, missed-failure, off-after, on-after}
-use Rattle.agreement.proofs.Depart.{drop-sub, drop-keeps, since-next, L₁, sender-stays, not-dropped, Nearest, nearest, enough-since}
-
--- ---- tests taken apart
-
-pub or-true : (a b : Bool) → a ≡ true → (a || b) ≡ true
-or-true a b e = rw e
-
-pub found-it : (s : ℕ) (f : Found) → isFound s f ≡ true → f ≡ found.Member s
-found-it s (found.Member m) e = ap found.Member (eqb-true m s e)
-found-it s found.Nobody e = absurd (false≢true e)
-found-it s (found.Refused c) e = absurd (false≢true e)
-
-pub joins-yes : (s : ℕ) (v : Node) → joins s v ≡ true → (v .returning ≢ 0) × (beforeOf (v .n) (v .set) (v .returning) 1 ≡ found.Member s)
-joins-yes s v e =
-    let f : beforeOf (v .n) (v .set) (v .returning) 1 ≡ found.Member s = found-it s (beforeOf (v .n) (v .set) (v .returning) 1) e in
-    let p : 1 ≤ v .returning = leb-true 1 (v .returning) (both _ _ (members.on-ring (v .n) (v .returning) s (memberBefore (v .n) (v .set) (v .returning) 1) f .1) .0) in
-    (λ z. omega arith, f)
-
-pub joins-if : (s : ℕ) (v : Node) → beforeOf (v .n) (v .set) (v .returning) 1 ≡ found.Member s → joins s v ≡ true
-joins-if s v e = ap (isFound s) e ∙ eq-eqb s s refl
-
-pub not-missed : (r : Reading) (v : Node) → missedReturn r v ≡ false → v .returning ≡ 0 → returnIn r ≡ false
-not-missed r v e z =
-    let p : eqb (v .returning) 0 ≡ true = eq-eqb (v .returning) 0 z in
-    go (returnIn r) (eqb (v .returning) 0) p e
-  where
-    go : (a b : Bool) → b ≡ true → (a && b) ≡ false → a ≡ false
-    go true b p f = absurd (no-both p f)
-    go false b p f = refl
-
--- a return bit of 1 is that of a message heard
-return-heard : (r : Reading) → returnIn r ≡ true → isHeard r ≡ true
-return-heard (Heard bits returnBit) e = refl
-return-heard (Refused c) e = absurd (false≢true e)
-
-pub not-knocking : (st : State) → isMember st ≡ true → isKnocking st ≡ false
-not-knocking Member f = refl
-not-knocking Listening f = absurd (false≢true f)
-not-knocking Following f = refl
-not-knocking Knocking f = absurd (false≢true f)
-not-knocking (Out x) f = refl
-
-pub not-member : (st : State) → isKnocking st ≡ true → isMember st ≡ false
-not-member Member f = absurd (false≢true f)
-not-member Listening f = refl
-not-member Following f = refl
-not-member Knocking f = refl
-not-member (Out x) f = refl
-
-pub always : (b : Bool) → (b || true) ≡ true
-always true = refl
-always false = refl
-
-pub or-false : (a b : Bool) → a ≡ false → b ≡ false → (a || b) ≡ false
-or-false a b p q = rw (p, q) refl
+use Rattle.agreement.proofs.Outcome.{Gone, Settled, gone, kept, backed, became, joined, listedAs}
+use Rattle.agreement.proofs.Listed.{ListedSlot, Hearer, same-window, off-after, on-after}
+use Rattle.agreement.proofs.Depart.{drop-sub, L₁, sender-stays, not-dropped, Nearest, nearest, enough-since}
+use Rattle.agreement.proofs.Returns.{joins-yes, joins-if, not-member, same-knock, Stays, member-stays, outsider-stays, awaits-after, lost-after, quiet-after}
 
 module _ (W : World) where
   open World W using (n, k, n-pos, n-most, k-two, k-lt, E, fair, few, once)
 
-  pub same-knock : (N w e w′ e′ : ℕ) → n ≤ N → w + e ≡ N → e < n → w′ + e′ ≡ N → e′ < n → E w .outside ≡ true → E w′ .outside ≡ true → w ≡ w′
-  same-knock N w e w′ e′ hn z h z′ h′ o o′ = go (decLt w w′) (decLt w′ w)
-    where
-      go : Dec (w < w′) → Dec (w′ < w) → w ≡ w′
-      go (yes l) d = absurd (one-knock W w (w′ - w) w′ (omega arith) (omega arith) (omega arith) (omega arith) o o′)
-      go (no l) (yes d) = absurd (one-knock W w′ (w - w′) w (omega arith) (omega arith) (omega arith) (omega arith) o′ o)
-      go (no l) (no d) = omega arith
+  module _ (S : ListedSlot W) where
+    open ListedSlot S using (N, L, B, lT, onL, D)
 
-  module _ (N L : ℕ) (B : Begins W N L) (lT : E (suc N) .listed ≡ true) (onL : has L (sender n (suc N)) ≡ true) (D : Decision W N L) where
     -- the list after step 3
     abbrev pub A : ℕ
-    A = L₁ W N L B lT onL D
+    A = L₁ W S
 
     -- the node of an open knock joins in this slot
     pub record Joining (w e : ℕ) : Type 0 where
@@ -119,122 +52,14 @@ module _ (W : World) where
       plain : ((w e : ℕ) → Joining w e → ⊥) → L′ ≡ A → Next L′
       grown : (w e : ℕ) → Joining w e → L′ ≡ with A (sender n w) → Next L′
 
-    module _ (r : Reading) (says : isHeard r ≡ true → Says W N L r)
-        (i : ℕ) (i-pos : 1 ≤ i) (i-le : i ≤ n) (v : Node) (vn : v .n ≡ n) (vk : v .k ≡ k) (vo : v .own ≡ i)
-        (iv : Tracking W N L i v) (h : Hears W N i v r) where
+    module _ (T : Hearer W (S .N) (S .L)) where
+      open Hearer T using (r, says, i, i-pos, i-le, v, vn, vk, vo, iv, h)
+
       abbrev s : ℕ
       s = sender n (suc N)
 
       abbrev pub v₁ : Node
       v₁ = marked s r v
-
-      -- senders are among the 32 nodes that a set can hold
-      most : (u : ℕ) → sender n u ≤ 32
-      most u = omega (arith, sender-range n n-pos u, n-most)
-
-      d-ago : D .u + suc (D .e) ≡ suc N
-      d-ago = omega (arith, D .ago)
-
-      d-marked : E (D .u) .sent ≡ true → has (marksAfter s r v) (sender n (D .u)) ≡ true
-      d-marked p = not-false (has (marksAfter s r v) (sender n (D .u))) λ off.
-          let o = on-after W N L B lT onL r says i i-pos i-le v vn vk iv h (D .u) (suc (D .e)) d-ago (D .recent) p (D .member) off in
-          let un : Untold W (D .u) (D .u + suc (D .e)) = rw d-ago (o .untold) in
-          omega (arith, told-in-time W (D .u) (suc (D .e)) (omega (arith, D .ago, D .recent, B .late)) (D .recent) p un, since-next W N (D .u) (D .e) (D .ago), D .exact, num-is lT)
-
-      -- the decided member is marked exactly if its slot was sent
-      marked-is : has (v₁ .present) (sender n (D .u)) ≡ E (D .u) .sent
-      marked-is = by-cases (E (D .u) .sent)
-          (λ p. d-marked p ∙ sym p)
-          (λ p. off-after W N L B lT onL r says i i-pos i-le v vn vk iv h (D .u) (suc (D .e)) d-ago (D .recent) (D .listed) p ∙ sym p)
-
-      pub set-after : setAfter (sender n (D .u)) v₁ ≡ A
-      set-after = rw (marked-is, iv .set-is) refl
-
-      -- this node is not the one that departs
-      abbrev pub Stays : Type 0
-      Stays = has (v₁ .present) (sender n (D .u)) ≡ false → sender n (D .u) ≢ v .own
-
-      -- a member that stays is still on the list
-      member-stays : Stays → isMember (v .state) ≡ true → has A i ≡ true
-      member-stays ne p = drop-keeps W (E (D .u) .sent) L (sender n (D .u)) i (iv .own-in p)
-          (λ f y. ne (marked-is ∙ f) (y ∙ sym vo))
-
-      outsider-stays : isMember (v .state) ≡ false → has A i ≡ false
-      outsider-stays p = not-true (has A i) (λ y. no-both (drop-sub W (E (D .u) .sent) L (sender n (D .u)) i y) (iv .own-out p))
-
-      -- a sender that sends return bit 0 has missed an open knock
-      unaware-sender : (w e : ℕ) → w + e ≡ N → e < n → E w .listed ≡ false → E w .sent ≡ true → has L (sender n w) ≡ false
-          → isHeard r ≡ true → returnIn r ≡ false → E w .missed s ≡ true
-      unaware-sender w e z l a b c p q = go (says p)
-        where
-          two : (S : Says W N L r) → S .z .returning ≡ 0 → Awaits W N s w (S .z) → E w .missed s ≡ true
-          two S y (aware q f) = let bad : ⊥ = omega (arith, sender-range n n-pos w) in absurd bad
-          two S y (unaware q f g x un) = x
-
-          go : Says W N L r → E w .missed s ≡ true
-          go S =
-              let y : eqb (S .z .returning) 0 ≡ true = not-false (eqb (S .z .returning) 0) (λ f. no-both (S .ret ∙ ap not f) q) in
-              two S (eqb-true (S .z .returning) 0 y) (S .inv .open-knock w e z l a b c)
-
-      -- the entry of this slot keeps those who missed w untold
-      still-untold : (w : ℕ) → Untold W w N → (E (suc N) .sent ≡ true → (E w .missed s ≡ true) ⊎ (1 ≤ E (suc N) .failures)) → Untold W w (suc N)
-      still-untold w un f = extend W N w un (by-cases (E (suc N) .sent) (λ p. go (f p)) (λ p. omega (arith, fair (suc N) .unsent p lT, num-le (E (suc N) .listed))))
-        where
-          go : (E w .missed s ≡ true) ⊎ (1 ≤ E (suc N) .failures) → lst W (suc N) ≤ E (suc N) .failures + num (E w .missed s)
-          go (inl p) = omega (arith, num-is p, num-le (E (suc N) .listed))
-          go (inr p) = omega (arith, num-le (E (suc N) .listed))
-
-      -- the return bit at a knocking node
-      answer : (w e : ℕ) → w + e ≡ N → e < n → E w .listed ≡ false → E w .sent ≡ true → has L (sender n w) ≡ false
-          → isKnocking (v .state) ≡ true → i ≡ sender n w → (v .«return_heard» ≡ true) ⊎ Untold W w N → (returnHeard r v ≡ true) ⊎ Untold W w (suc N)
-      answer w e z l a b c kn io (inl p) = inl (or-true (v .«return_heard») _ p)
-      answer w e z l a b c kn io (inr un) = by-cases (E (suc N) .sent)
-          (λ p. by-cases (isHeard r) (λ q. by-cases (returnIn r)
-          (λ t. inl (rw (kn, t) (always (v .«return_heard»))))
-          (λ t. inr (still-untold w un (λ _. inl (unaware-sender w e z l a b c q t)))))
-          (λ q. absurd (no-both kn (not-knocking (v .state) (h .missing q p (λ y. no-both onL (rw (← y) (rw io c))) .0)))))
-          (λ p. inr (still-untold w un (λ q. absurd (no-both q p))))
-
-      -- R for an open knock, after step 1
-      pub awaits-after : missedReturn r v ≡ false → (w e : ℕ) → w + e ≡ N → e < n → E w .listed ≡ false → E w .sent ≡ true → has L (sender n w) ≡ false → Awaits W (suc N) i w v₁
-      awaits-after ok w e z l a b c = go (iv .open-knock w e z l a b c)
-        where
-          go : Awaits W N i w v → Awaits W (suc N) i w v₁
-          go (aware q f) = aware q (λ y. answer w e z l a b c (iv .own-knocking (q ∙ sym y)) y (f y))
-          go (unaware q f g x un) = unaware q f g x (still-untold w un (λ p. missing p (ℕ-discrete i s)))
-            where
-              missing : E (suc N) .sent ≡ true → Dec (i ≡ s) → (E w .missed s ≡ true) ⊎ (1 ≤ E (suc N) .failures)
-              missing p (yes y) = inl (rw y at x)
-              missing p (no y) = by-cases (isHeard r)
-                  (λ t. inl (unaware-sender w e z l a b c t (not-missed r v ok f)))
-                  (λ t. inr (missed-failure W (suc N) i p (h .missing t p y .1) i-pos i-le))
-
-      -- a lost knock is not answered
-      lost-after : isKnocking (v .state) ≡ true → (w e : ℕ) → w + e ≡ suc N → e < n → sender n w ≡ i → E w .sent ≡ false → returnHeard r v ≡ false
-      lost-after kn w zero z l y f =
-          let x : w ≡ suc N = omega arith in
-          absurd (no-both onL (rw (← x) (rw y (iv .own-out (not-member (v .state) kn)))))
-      lost-after kn w (suc e) z l y f = or-false (v .«return_heard») _ (iv .lost-knock kn w e ago (omega arith) y f) (rw kn (not-true (returnIn r) (λ q. go (says (return-heard r q)) q)))
-        where
-          ago : w + e ≡ N
-          ago = omega arith
-
-          two : (S : Says W N L r) → Knock W N L (S .z) → Knock W N L v → ⊥
-          two S κ κ′ =
-              let same : κ′ .w ≡ w = same-window W N (κ′ .w) w (κ′ .e) e (B .late) (κ′ .ago) ago (κ′ .recent) (omega arith) (κ′ .it ∙ iv .knocking-own kn ∙ sym y) in
-              three κ (same-knock N (κ .w) (κ .e) w e (B .late) (κ .ago) (κ .recent) ago (omega arith) (κ .outer) (rw same at (κ′ .outer))) (κ .how)
-            where
-              three : (κ : Knock W N L (S .z)) → κ .w ≡ w → (E (κ .w) .sent ≡ true) ⊎ (isKnocking (S .z .state) ≡ true) → ⊥
-              three κ q (inl p) = no-both p (rw q f)
-              three κ q (inr p) = no-both p (not-knocking (S .z .state) (S .member))
-
-          go : (S : Says W N L r) → returnIn r ≡ true → ⊥
-          go S t =
-              let nz : S .z .returning ≢ 0 = λ q. no-both t (S .ret ∙ ap not (eq-eqb (S .z .returning) 0 q)) in
-              two S (S .inv .knock nz) (iv .knock (λ q. let bad : ⊥ = omega (arith, iv .knocking-own kn) in bad))
-
-      quiet-after : isKnocking (v .state) ≡ false → returnHeard r v ≡ false
-      quiet-after kn = or-false (v .«return_heard») _ (iv .quiet kn) (rw kn refl)
 
       -- a knock that is awaited was less than n - 1 slots ago
       knock-recent : (κ : Knock W N L v) → suc (κ .e) < n
@@ -245,15 +70,15 @@ module _ (W : World) where
 
       -- off the list after step 3, and never listed: it was off before
       was-away : (w e : ℕ) → w + e ≡ N → e < n → E w .listed ≡ false → has A (sender n w) ≡ false → has L (sender n w) ≡ false
-      was-away w e z l u f = not-true (has L (sender n w)) (λ y. no-both (not-dropped W N L B lT onL D w e z l (λ _ q. no-both (D .listed) (rw (← q) u)) y) f)
+      was-away w e z l u f = not-true (has L (sender n w)) (λ y. no-both (not-dropped W S w e z l (λ _ q. no-both (D .listed) (rw (← q) u)) y) f)
 
-      the-nearest : (κ : Knock W N L v) → Nearest W N L B lT onL D (κ .w)
-      the-nearest κ = nearest W N L B lT onL D (κ .w) (omega (arith, κ .ago, κ .recent, B .late)) (away₁ (κ .w) (κ .away))
+      the-nearest : (κ : Knock W N L v) → Nearest W S (κ .w)
+      the-nearest κ = nearest W S (κ .w) (omega (arith, κ .ago, κ .recent, B .late)) (away₁ (κ .w) (κ .away))
 
       knock-kept : joins s (withSet A v₁) ≡ false → Knock W N L v → Knock W (suc N) A (withSet A v₁)
       knock-kept j κ = go (the-nearest κ)
         where
-          go : Nearest W N L B lT onL D (κ .w) → Knock W (suc N) A (withSet A v₁)
+          go : Nearest W S (κ .w) → Knock W (suc N) A (withSet A v₁)
           go t = record {
             w = κ .w;
             e = suc (κ .e);
@@ -285,7 +110,7 @@ module _ (W : World) where
                     t .alone,
                     num-is (t .member),
                     sum-at f (suc N) d (suc N) (omega arith) (omega (arith, κ .ago, knock-recent κ)),
-                    num-is (sender-stays W N L B lT onL D),
+                    num-is (sender-stays W S),
                   )
 
               go-on : Dec (t .u < suc N) → suc N < t .u
@@ -298,19 +123,19 @@ module _ (W : World) where
       off-at : (w′ : Node) → w′ .state ≡ v .state → (u : ℕ) → Off W (suc N) i u v → Off W (suc N) i u w′
       off-at w′ e u o = record { member = rw e (o .member); listed = o .listed; who = o .who; untold = o .untold }
 
-      kept-inv : missedReturn r v ≡ false → Stays → joins s (withSet A v₁) ≡ false → Tracking W (suc N) A i (withSet A v₁)
+      kept-inv : missedReturn r v ≡ false → Stays W S T → joins s (withSet A v₁) ≡ false → Tracking W (suc N) A i (withSet A v₁)
       kept-inv ok ne j = record {
         set-is = refl;
-        own-in = member-stays ne;
-        own-out = outsider-stays;
-        marks-off = off-after W N L B lT onL r says i i-pos i-le v vn vk iv h;
-        marks-on = λ u e z l p q off. off-at (withSet A v₁) refl u (on-after W N L B lT onL r says i i-pos i-le v vn vk iv h u e z l p (drop-sub W (E (D .u) .sent) L (sender n (D .u)) (sender n u) q) off);
+        own-in = member-stays W S T ne;
+        own-out = outsider-stays W S T;
+        marks-off = off-after W S T;
+        marks-on = λ u e z l p q off. off-at (withSet A v₁) refl u (on-after W S T u e z l p (drop-sub W (E (D .u) .sent) L (sender n (D .u)) (sender n u) q) off);
         knock = λ nz. knock-kept j (iv .knock nz);
         open-knock = opened;
         knocking-own = iv .knocking-own;
         own-knocking = iv .own-knocking;
-        quiet = quiet-after;
-        lost-knock = lost-after;
+        quiet = quiet-after W S T;
+        lost-knock = lost-after W S T;
       }
         where
           copy : (w : ℕ) → Awaits W (suc N) i w v₁ → Awaits W (suc N) i w (withSet A v₁)
@@ -321,11 +146,11 @@ module _ (W : World) where
           opened w zero z l a b c = let y : w ≡ suc N = omega arith in absurd (no-both lT (rw (← y) a))
           opened w (suc e) z l a b c =
               let ago : w + e ≡ N = omega arith in
-              copy w (awaits-after ok w e ago (omega arith) a b (was-away w e ago (omega arith) a c))
+              copy w (awaits-after W S T ok w e ago (omega arith) a b (was-away w e ago (omega arith) a c))
 
       -- the joining node is known to all
       pub joining-known : missedReturn r v ≡ false → (w e : ℕ) → Joining w e → (v .returning ≡ sender n w) × (i ≡ sender n w → returnHeard r v ≡ true)
-      joining-known ok w e J = go (awaits-after ok w e (J .ago) (omega (arith, J .recent)) (J .unlisted) (J .sent) (J .away))
+      joining-known ok w e J = go (awaits-after W S T ok w e (J .ago) (omega (arith, J .recent)) (J .unlisted) (J .sent) (J .away))
         where
           never : Untold W w (suc N) → ⊥
           never un =
@@ -351,7 +176,7 @@ module _ (W : World) where
             unlisted = κ .unlisted;
             sent = sent;
             away = κ .away;
-            since = enough-since W N L B lT onL D (κ .w) (κ .e) (κ .ago) (knock-recent κ) (κ .outer) (κ .away) at-s;
+            since = enough-since W S (κ .w) (κ .e) (κ .ago) (knock-recent κ) (κ .outer) (κ .away) at-s;
             near = at-s;
           }
 
@@ -363,16 +188,16 @@ module _ (W : World) where
       -- a knocking node that was answered had its knock sent
       answered-knock : isKnocking (v .state) ≡ true → returnHeard r v ≡ true → (κ : Knock W N L v) → E (κ .w) .sent ≡ true
       answered-knock kn f κ = not-false (E (κ .w) .sent) (λ p.
-          no-both f (lost-after kn (κ .w) (suc (κ .e)) (omega (arith, κ .ago)) (knock-recent κ) (κ .it ∙ iv .knocking-own kn) p))
+          no-both f (lost-after W S T kn (κ .w) (suc (κ .e)) (omega (arith, κ .ago)) (knock-recent κ) (κ .it ∙ iv .knocking-own kn) p))
 
       backed-inv : missedReturn r v ≡ false → joins s (withSet A v₁) ≡ true → isKnocking (v .state) ≡ true → returnHeard r v ≡ false
           → Tracking W (suc N) A i (withReturning Following 0 (withSet A v₁))
       backed-inv ok j kn f = record {
         set-is = refl;
         own-in = λ q. absurd (false≢true q);
-        own-out = λ _. outsider-stays nm;
-        marks-off = off-after W N L B lT onL r says i i-pos i-le v vn vk iv h;
-        marks-on = λ u e z l p q off. absurd (no-both (on-after W N L B lT onL r says i i-pos i-le v vn vk iv h u e z l p (drop-sub W (E (D .u) .sent) L (sender n (D .u)) (sender n u) q) off .member) nm);
+        own-out = λ _. outsider-stays W S T nm;
+        marks-off = off-after W S T;
+        marks-on = λ u e z l p q off. absurd (no-both (on-after W S T u e z l p (drop-sub W (E (D .u) .sent) L (sender n (D .u)) (sender n u) q) off .member) nm);
         knock = λ nz. absurd (nz refl);
         open-knock = λ w e z l a b c. absurd (none-open (iv .knock (joins-yes s (withSet A v₁) j .0)) w e z l a b);
         knocking-own = λ q. absurd (false≢true q);
@@ -386,7 +211,7 @@ module _ (W : World) where
 
           none-open : Knock W N L v → (w e : ℕ) → w + e ≡ suc N → e < n → E w .listed ≡ false → E w .sent ≡ true → ⊥
           none-open κ w e z l a b =
-              let same : κ .w ≡ w = same-knock (suc N) (κ .w) (suc (κ .e)) w e (omega (arith, B .late)) (omega (arith, κ .ago)) (knock-recent κ) z l (κ .outer) (fair w .outer b a) in
+              let same : κ .w ≡ w = same-knock W (suc N) (κ .w) (suc (κ .e)) w e (omega (arith, B .late)) (omega (arith, κ .ago)) (knock-recent κ) z l (κ .outer) (fair w .outer b a) in
               no-both b (rw (← same) (unanswered ok j kn f κ))
 
       -- the marks and the open knocks after a joining
@@ -398,26 +223,26 @@ module _ (W : World) where
         off-grown u d z l p q =
             let ne : sender n w ≢ sender n u = λ y. no-both (rw (same-window W (suc N) u w d (suc e) (omega (arith, B .late)) z ago′ l (J .recent) (sym y)) at p) (J .unlisted) in
             ap (λ (x : ℕ). has (with (marksAfter s r v) x) (sender n u)) it
-            ∙ has-with-other (marksAfter s r v) (sender n w) (sender n u) ne ∙ off-after W N L B lT onL r says i i-pos i-le v vn vk iv h u d z l p q
+            ∙ has-with-other (marksAfter s r v) (sender n w) (sender n u) ne ∙ off-after W S T u d z l p q
 
         on-grown : (u d : ℕ) → u + d ≡ suc N → d < n → E u .sent ≡ true → has (with A (sender n w)) (sender n u) ≡ true → has (with (marksAfter s r v) (v .returning)) (sender n u) ≡ false → Off W (suc N) i u v
         on-grown u d z l p q off =
             let off′ : has (with (marksAfter s r v) (sender n w)) (sender n u) ≡ false = ap (λ (x : ℕ). has (with (marksAfter s r v) x) (sender n u)) (sym it) ∙ off in
-            let ne : sender n w ≢ sender n u = λ y. no-both (rw y (has-with (marksAfter s r v) (sender n u) (sender-range n n-pos u .0) (most u))) off′ in
+            let ne : sender n w ≢ sender n u = λ y. no-both (rw y (has-with (marksAfter s r v) (sender n u) (sender-range n n-pos u .0) (sender-most W u))) off′ in
             let q′ : has A (sender n u) ≡ true = sym (has-with-other A (sender n w) (sender n u) ne) ∙ q in
             let off″ : has (marksAfter s r v) (sender n u) ≡ false = sym (has-with-other (marksAfter s r v) (sender n w) (sender n u) ne) ∙ off′ in
-            on-after W N L B lT onL r says i i-pos i-le v vn vk iv h u d z l p (drop-sub W (E (D .u) .sent) L (sender n (D .u)) (sender n u) q′) off″
+            on-after W S T u d z l p (drop-sub W (E (D .u) .sent) L (sender n (D .u)) (sender n u) q′) off″
 
         none-grown : (w′ d : ℕ) → w′ + d ≡ suc N → d < n → E w′ .listed ≡ false → E w′ .sent ≡ true → has (with A (sender n w)) (sender n w′) ≡ false → ⊥
         none-grown w′ d z l a b c =
-            let same : w ≡ w′ = same-knock (suc N) w (suc e) w′ d (omega (arith, B .late)) ago′ (J .recent) z l (fair w .outer (J .sent) (J .unlisted)) (fair w′ .outer b a) in
-            no-both (rw same (has-with A (sender n w′) (sender-range n n-pos w′ .0) (most w′))) c
+            let same : w ≡ w′ = same-knock W (suc N) w (suc e) w′ d (omega (arith, B .late)) ago′ (J .recent) z l (fair w .outer (J .sent) (J .unlisted)) (fair w′ .outer b a) in
+            no-both (rw same (has-with A (sender n w′) (sender-range n n-pos w′ .0) (sender-most W w′))) c
 
-        joined-inv : Stays → isKnocking (v .state) ≡ false → Tracking W (suc N) (with A (sender n w)) i (listedAs (v .state) (withSet A v₁))
+        joined-inv : Stays W S T → isKnocking (v .state) ≡ false → Tracking W (suc N) (with A (sender n w)) i (listedAs (v .state) (withSet A v₁))
         joined-inv ne nk = record {
           set-is = ap (with A) it;
-          own-in = λ p. has-with-keeps A (sender n w) i i-pos (omega (arith, i-le, n-most)) (member-stays ne p);
-          own-out = λ p. has-with-other A (sender n w) i (λ y. no-both (iv .own-knocking (it ∙ y)) nk) ∙ outsider-stays p;
+          own-in = λ p. has-with-keeps A (sender n w) i i-pos (omega (arith, i-le, n-most)) (member-stays W S T ne p);
+          own-out = λ p. has-with-other A (sender n w) i (λ y. no-both (iv .own-knocking (it ∙ y)) nk) ∙ outsider-stays W S T p;
           marks-off = off-grown;
           marks-on = λ u d z l p q off. let o = on-grown u d z l p q off in record { member = o .member; listed = o .listed; who = o .who; untold = o .untold };
           knock = λ nz. absurd (nz refl);
@@ -431,7 +256,7 @@ module _ (W : World) where
         became-inv : isKnocking (v .state) ≡ true → Tracking W (suc N) (with A (sender n w)) i (listedAs Member (withSet A v₁))
         became-inv kn = record {
           set-is = ap (with A) it;
-          own-in = λ p. rw (sym (iv .knocking-own kn) ∙ it) (has-with A (sender n w) (sender-range n n-pos w .0) (most w));
+          own-in = λ p. rw (sym (iv .knocking-own kn) ∙ it) (has-with A (sender n w) (sender-range n n-pos w .0) (sender-most W w));
           own-out = λ p. absurd (true≢false p);
           marks-off = off-grown;
           marks-on = λ u d z l p q off. let o = on-grown u d z l p q off in record { member = refl; listed = o .listed; who = o .who; untold = o .untold };
@@ -465,7 +290,7 @@ module _ (W : World) where
           go (inr p) = absurd (no-both p nk)
 
       -- every case, given what the list is after the slot
-      pub after-inside : (L′ : ℕ) → Next L′ → missedReturn r v ≡ false → Stays → (x : Node) → Settled true s (withSet A v₁) x → Gone (withSet A v₁) x ⊎ Tracking W (suc N) L′ i x
+      pub after-inside : (L′ : ℕ) → Next L′ → missedReturn r v ≡ false → Stays W S T → (x : Node) → Settled true s (withSet A v₁) x → Gone (withSet A v₁) x ⊎ Tracking W (suc N) L′ i x
       after-inside L′ nx ok ne x (gone g) = inl g
       after-inside L′ nx ok ne x (kept f e) = inr (rw e (go nx))
         where

@@ -4,14 +4,17 @@ pub mod Marks
 pub mod Outcome
 pub mod Listed
 pub mod Depart
+pub mod Returns
 pub mod Join
 pub mod Rounds
 pub mod Outside
 pub mod Hearing
+pub mod Alike
 pub mod Nodes
 pub mod Places
 pub mod Counted
 pub mod Tables
+pub mod Reached
 pub mod Slots
 pub mod Accepted
 pub mod Runs

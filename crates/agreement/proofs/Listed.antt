@@ -1,8 +1,8 @@
 -- A listed slot, step 1: the marks (M). Assumes nothing.
 use Prim.Native.Nat.{ℕ, zero, suc, _+_, _-_, _^_, _≤_, _<_}
-use mathlib.Core.Path.{_≡_, refl, sym, ap, _∙_}
+use mathlib.Core.Path.{_≡_, sym, ap, _∙_}
 use mathlib.Core.Logic.{_≢_, _⊎_, inl, inr}
-use mathlib.Core.Bool.{Bool, true, false, not}
+use mathlib.Core.Bool.{true, false, not}
 use native.Mathlib.Omega.{arith}
 use native.Mathlib.Decide.{ℕ-discrete}
 use lib.Dec.{eqb}
@@ -18,8 +18,7 @@ use Rattle.message.specs.declared.Reading.{Reading}
 use Rattle.record.specs.declared.Node.{Node}
 use Rattle.record.specs.States.{isMember}
 use Rattle.steps.specs.Steps.{isHeard, returnIn, marksAfter}
-use Rattle.bench.specs.Runs.{Entry}
-use Rattle.agreement.proofs.History.{World, Untold, K, lst, told-in-time, ks-is, sponsored-since, Sponsored, num-is}
+use Rattle.agreement.proofs.History.{World, sender-most, Untold, K, lst, told-in-time, ks-is, Decision, sponsored-since, Sponsored, num-is}
 use Rattle.agreement.proofs.Invariant.{Tracking, Off}
 use Rattle.agreement.proofs.Marks.{no-both, not-true, not-false, bitsIn, Told, sponsors, mark-of-sender, off-before, on-before}
 
@@ -65,41 +64,60 @@ module _ (W : World) where
   missed-failure t i s m h l =
       omega (arith, fair t .count s, sum-at (λ j. num (E t .missed j)) 1 n i h (omega arith), num-is m)
 
-  module _ (N L : ℕ) (B : Begins N L) (lT : E (suc N) .listed ≡ true) (onL : has L (sender n (suc N)) ≡ true)
-      (r : Reading) (says : isHeard r ≡ true → Says N L r)
-      (i : ℕ) (i-pos : 1 ≤ i) (i-le : i ≤ n) (v : Node) (vn : v .n ≡ n) (vk : v .k ≡ k)
-      (iv : Tracking W N L i v) (h : Hears N i v r) where
+  -- a slot whose sender is on the list
+  pub record ListedSlot : Type 0 where
+    pub N : ℕ  -- the slots before it
+    pub L : ℕ  -- the list as it begins
+    pub B : Begins N L
+    pub lT : E (suc N) .listed ≡ true
+    pub onL : has L (sender n (suc N)) ≡ true
+    pub D : Decision W N L  -- the member that its sender decides
+
+  -- a tracking node i with the record v that reads r in slot N + 1
+  pub record Hearer (N L : ℕ) : Type 0 where
+    pub r : Reading
+    pub says : isHeard r ≡ true → Says N L r
+    pub i : ℕ
+    pub i-pos : 1 ≤ i
+    pub i-le : i ≤ n
+    pub v : Node
+    pub vn : v .n ≡ n
+    pub vk : v .k ≡ k
+    pub vo : v .own ≡ i
+    pub iv : Tracking W N L i v
+    pub h : Hears N i v r
+
+  module _ (S : ListedSlot) (T : Hearer (S .N) (S .L)) where
+    open ListedSlot S using (N, L, B, lT, onL)
+    open Hearer T using (r, says, i, i-pos, i-le, v, vn, vk, iv, h)
+
     abbrev s : ℕ
     s = sender n (suc N)
-
-    -- senders are among the 32 nodes that a set can hold
-    most : (u : ℕ) → sender n u ≤ 32
-    most u = omega (arith, sender-range n n-pos u, n-most)
 
     sponsors-is : sponsors v ≡ k
     sponsors-is = rw (vn, vk, iv .set-is) (ks-is W L (B .enough))
 
     -- what is told is the sender's mark
-    told-mark : (x : ℕ) (S : Says N L r) → Told s (bitsIn r) v x (sponsors v) → has (S .z .present) x ≡ true
-    told-mark x S t =
+    told-mark : (x : ℕ) (Z : Says N L r) → Told s (bitsIn r) v x (sponsors v) → has (Z .z .present) x ≡ true
+    told-mark x Z t =
         let y : sponsoredOf n k L s (suc (t .i)) ≡ Member x = rw (vn, vk, iv .set-is) at (t .it) in
-        sym (S .bits (t .i) x (omega (arith, t .below, sponsors-is)) y) ∙ t .yes-bit
+        sym (Z .bits (t .i) x (omega (arith, t .below, sponsors-is)) y) ∙ t .yes-bit
 
     pub off-after : (u e : ℕ) → u + e ≡ suc N → e < n → E u .listed ≡ true → E u .sent ≡ false → has (marksAfter s r v) (sender n u) ≡ false
     off-after u zero z l p q =
         let y : u ≡ suc N = omega arith in
-        rw y (mark-of-sender s r v (sender-range n n-pos (suc N) .0) (most (suc N)) ∙ h .unsent (rw y at q))
+        rw y (mark-of-sender s r v (sender-range n n-pos (suc N) .0) (sender-most W (suc N)) ∙ h .unsent (rw y at q))
     off-after u (suc e) z l p q =
         let ne : s ≢ sender n u = other-sender N u e (B .late) z l in
         let ago : u + e ≡ N = omega arith in
         let was : has (v .present) (sender n u) ≡ false = iv .marks-off u e ago (omega arith) p q in
-        not-true (has (marksAfter s r v) (sender n u)) (λ on. go ago was (on-before s r v (sender n u) (sender-range n n-pos u .0) (most u) ne on))
+        not-true (has (marksAfter s r v) (sender n u)) (λ on. go ago was (on-before s r v (sender n u) (sender-range n n-pos u .0) (sender-most W u) ne on))
       where
         go : u + e ≡ N → has (v .present) (sender n u) ≡ false → (has (v .present) (sender n u) ≡ true) ⊎ ((isHeard r ≡ true) × Told s (bitsIn r) v (sender n u) (sponsors v)) → ⊥
         go ago was (inl y) = no-both y was
         go ago was (inr t) =
-            let S = says (t .0) in
-            no-both (told-mark (sender n u) S (t .1)) (S .inv .marks-off u e ago (omega arith) p q)
+            let Z = says (t .0) in
+            no-both (told-mark (sender n u) Z (t .1)) (Z .inv .marks-off u e ago (omega arith) p q)
 
     pub untold-after : (u e : ℕ) → u + e ≡ N → suc e < n → E u .sent ≡ true → has L (sender n u) ≡ true → has (marksAfter s r v) (sender n u) ≡ false → Off W N i u v
         → lst W (suc N) ≤ E (suc N) .failures + num (E u .missed s)
@@ -119,18 +137,18 @@ module _ (W : World) where
         the-sender (inl p) = missed-it p
         the-sender (inr p) = absurd (ne p)
 
-        heard-with : isHeard r ≡ true → (S : Says N L r) → Sponsored W N L u → lst W (suc N) ≤ E (suc N) .failures + num (E u .missed s)
-        heard-with p S sp =
+        heard-with : isHeard r ≡ true → (Z : Says N L r) → Sponsored W N L u → lst W (suc N) ≤ E (suc N) .failures + num (E u .missed s)
+        heard-with p Z sp =
             let y : sponsoredOf (v .n) (v .k) (v .set) s (suc (sp .j)) ≡ Member (sender n u) = rw (vn, vk, iv .set-is) (sp .it) in
-            let nb : has (bitsIn r) (suc (sp .j)) ≡ false = not-true (has (bitsIn r) (suc (sp .j))) (λ b. off-before s r v (sender n u) (sender-range n n-pos u .0) (most u) ne off .1 p (record { i = sp .j; below = omega (arith, sp .few, sponsors-is); yes-bit = b; it = y })) in
-            let zo : has (S .z .present) (sender n u) ≡ false = sym (S .bits (sp .j) (sender n u) (sp .few) (sp .it)) ∙ nb in
-            the-sender (S .inv .marks-on u e ago (omega arith) sent on zo .who)
+            let nb : has (bitsIn r) (suc (sp .j)) ≡ false = not-true (has (bitsIn r) (suc (sp .j))) (λ b. off-before s r v (sender n u) (sender-range n n-pos u .0) (sender-most W u) ne off .1 p (record { i = sp .j; below = omega (arith, sp .few, sponsors-is); yes-bit = b; it = y })) in
+            let zo : has (Z .z .present) (sender n u) ≡ false = sym (Z .bits (sp .j) (sender n u) (sp .few) (sp .it)) ∙ nb in
+            the-sender (Z .inv .marks-on u e ago (omega arith) sent on zo .who)
 
         heard-case : isHeard r ≡ true → Says N L r → lst W (suc N) ≤ E (suc N) .failures + num (E u .missed s)
-        heard-case p S =
+        heard-case p Z =
             let un : Untold W u (u + e) = rw ago (o .untold) in
             let few-since : sum (lst W) (suc u) e < k = told-in-time W u e (omega (arith, B .late)) (omega arith) sent un in
-            heard-with p S (sponsored-since W N L (B .late) (B .kept) (B .enough) u e ago l on few-since)
+            heard-with p Z (sponsored-since W N L (B .late) (B .kept) (B .enough) u e ago l on few-since)
 
         sent-case : E (suc N) .sent ≡ true → Dec (i ≡ s) → lst W (suc N) ≤ E (suc N) .failures + num (E u .missed s)
         sent-case p (yes e) = own-case e (o .who)
@@ -145,7 +163,7 @@ module _ (W : World) where
         y = omega arith
 
         unheard : isHeard r ≡ false
-        unheard = sym (mark-of-sender s r v (sender-range n n-pos (suc N) .0) (most (suc N))) ∙ (rw y at off)
+        unheard = sym (mark-of-sender s r v (sender-range n n-pos (suc N) .0) (sender-most W (suc N))) ∙ (rw y at off)
 
         new : E (suc N) .sent ≡ true → Dec (i ≡ s) → Off W (suc N) i (suc N) v
         new p′ (yes e) = record {
@@ -163,7 +181,7 @@ module _ (W : World) where
     on-after u (suc e) z l p q off =
         let ne : s ≢ sender n u = other-sender N u e (B .late) z l in
         let ago : u + e ≡ N = omega arith in
-        let was : has (v .present) (sender n u) ≡ false = off-before s r v (sender n u) (sender-range n n-pos u .0) (most u) ne off .0 in
+        let was : has (v .present) (sender n u) ≡ false = off-before s r v (sender n u) (sender-range n n-pos u .0) (sender-most W u) ne off .0 in
         let o : Off W N i u v = iv .marks-on u e ago (omega arith) p q was in
         record {
           member = o .member;

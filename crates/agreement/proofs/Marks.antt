@@ -1,11 +1,11 @@
 -- The laws of the marks after step 1. Assumes nothing.
-use Prim.Native.Nat.{ℕ, zero, suc, _+_, _-_, _≤_, _<_}
+use Prim.Native.Nat.{ℕ, zero, suc, _-_, _≤_, _<_}
 use mathlib.Core.Path.{_≡_, refl, sym, ap, _∙_}
 use mathlib.Core.Logic.{_≢_, _⊎_, inl, inr}
-use mathlib.Core.Bool.{Bool, true, false, cond, true≢false}
+use mathlib.Core.Bool.{Bool, true, false, true≢false}
 use native.Mathlib.Omega.{arith}
 use native.Mathlib.Decide.{ℕ-discrete}
-use Rattle.nodeset.specs.Sets.{has, with, without, size}
+use Rattle.nodeset.specs.Sets.{has, with, size}
 use Rattle.nodeset.proofs.Tests.{by-cases, chosen, otherwise}
 use Rattle.nodeset.proofs.Laws.{has-with, has-with-other, has-without, has-without-other}
 use Rattle.ring.specs.declared.Found.{Found}

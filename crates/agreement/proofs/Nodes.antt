@@ -1,136 +1,34 @@
 -- One slot, for any node: what it was and what it is after the slot. Assumes nothing.
-use Prim.Native.Nat.{ℕ, zero, suc, _+_, _-_, _^_, _≤_, _<_}
+use Prim.Native.Nat.{ℕ, suc, _+_, _-_, _^_, _≤_, _<_}
 use mathlib.Core.Path.{_≡_, refl, sym, ap, _∙_, subst}
 use mathlib.Core.Logic.{_⊎_, inl, inr}
-use mathlib.Core.Bool.{Bool, true, false, cond, false≢true}
+use mathlib.Core.Bool.{true, false, false≢true}
 use native.Mathlib.Omega.{arith}
-use lib.Dec.{eqb, ltb}
 use Rattle.nodeset.specs.Sets.{has}
 use Rattle.ring.specs.declared.Found.the-variants as found
 use Rattle.ring.specs.Ring.{sender}
 use Rattle.ring.specs.Answers.{decidedOf}
 use Rattle.message.specs.declared.Reading.{Reading}
 use Rattle.record.specs.declared.Node.{Node}
-use Rattle.record.specs.declared.Window.{Window}
-use Rattle.record.specs.declared.State.{State}
-use Rattle.record.specs.declared.State.the-variants.{Member, Listening, Following, Knocking, Out}
+use Rattle.record.specs.declared.State.the-variants.{Member, Out}
 use Rattle.record.specs.declared.Cause.{Cause}
 use Rattle.record.specs.States.{isMember, isListening}
 use Rattle.record.proofs.Tracking.{tracks}
-use Rattle.changes.specs.Changes.{counted, withSet, withWindow, followingWith, listeningAfter}
+use Rattle.changes.specs.Changes.{counted, withSet}
 use Rattle.steps.specs.Steps.{isHeard, marked, noted, settle, insideSlot, outsideSlot, trackingSlot}
-use Rattle.hearing.specs.Hearing.{overheard, clean, windowEnd, listeningSlot}
+use Rattle.hearing.specs.Hearing.{listeningSlot}
 use Rattle.node.specs.Slot.{slotIn}
-use Rattle.bench.specs.Runs.{Entry}
-use Rattle.agreement.proofs.History.{World, K, Decision}
+use Rattle.agreement.proofs.History.{World, K}
 use Rattle.agreement.proofs.Invariant.{Tracking, ListeningInv, Awaits, aware, unaware}
 use Rattle.agreement.proofs.Marks.{no-both, bitsIn}
-use Rattle.agreement.proofs.Outcome.{choose, Gone, isout, listens, Settled, gone, kept, backed, became, joined, Departed, left, settled, Inside, missed, went, inside-law, noted-law, Noted, knocks, silent, awaits, ignores, settle-outside, setAfter}
-use Rattle.agreement.proofs.Listed.{Begins, Hears, Says}
-use Rattle.agreement.proofs.Join.{A, Next, set-after, after-inside, next-from}
+use Rattle.agreement.proofs.Outcome.{Gone, Settled, left, settled, Inside, missed, went, inside-law, noted-law, Noted, settle-outside, setAfter}
+use Rattle.agreement.proofs.Listed.{Begins, Hears, Says, ListedSlot, Hearer}
+use Rattle.agreement.proofs.Returns.{set-after}
+use Rattle.agreement.proofs.Join.{A, Next, after-inside, next-from}
 use Rattle.agreement.proofs.Outside.{OwnSlot, after-noted}
 use Rattle.agreement.proofs.Rounds.{K′}
 use Rattle.agreement.proofs.Hearing.{fresh-inv, listening-law, Hearkened, on, again, follows}
-
-pub not-listening : (st : State) → tracks st ≡ true → isListening st ≡ false
-not-listening Member f = refl
-not-listening Listening f = absurd (false≢true f)
-not-listening Following f = refl
-not-listening Knocking f = refl
-not-listening (Out x) f = refl
-
-pub listening-only : (st : State) → isListening st ≡ true → tracks st ≡ false
-listening-only Member f = absurd (false≢true f)
-listening-only Listening f = refl
-listening-only Following f = absurd (false≢true f)
-listening-only Knocking f = absurd (false≢true f)
-listening-only (Out x) f = refl
-
--- the numbers that no slot changes, and the slot count
-pub record Basic (a b c d : ℕ) (x : Node) : Type 0 where
-  pub n-is : x .n ≡ a
-  pub k-is : x .k ≡ b
-  pub own-is : x .own ≡ c
-  pub slots-is : x .slots ≡ d
-
--- if it listens, it has just begun
-abbrev pub JustBegun : Node → Type 0
-JustBegun x = isListening (x .state) ≡ true → (x .listening .done ≡ 0) × (x .listening .heard ≡ 0) × (x .listening .last ≡ 0)
-
-abbrev pub Like : Node → Node → Type 0
-Like v x = Basic (v .n) (v .k) (v .own) (v .slots) x × JustBegun x
-
-abbrev same-basic : (v : Node) → Basic (v .n) (v .k) (v .own) (v .slots) v
-same-basic v = record { n-is = refl; k-is = refl; own-is = refl; slots-is = refl }
-
-pub gone-like : (v x : Node) → Gone v x → Like v x
-gone-like v x (isout c e) = rw e (record { n-is = refl; k-is = refl; own-is = refl; slots-is = refl }, λ p. absurd (false≢true p))
-gone-like v x (listens e) = rw e (record { n-is = refl; k-is = refl; own-is = refl; slots-is = refl }, λ p. (refl, refl, refl))
-
-pub gone-not : (v x : Node) → Gone v x → tracks (x .state) ≡ false
-gone-not v x (isout c e) = rw e refl
-gone-not v x (listens e) = rw e refl
-
-settled-like : (b : Bool) (s : ℕ) (v x : Node) → isListening (v .state) ≡ false → Settled b s v x → Like v x
-settled-like b s v x nl (gone g) = gone-like v x g
-settled-like b s v x nl (kept f e) = rw e (same-basic v, λ p. absurd (no-both p nl))
-settled-like b s v x nl (backed j kn h e) = rw e (record { n-is = refl; k-is = refl; own-is = refl; slots-is = refl }, λ p. absurd (false≢true p))
-settled-like b s v x nl (became j kn h e) = rw e (record { n-is = refl; k-is = refl; own-is = refl; slots-is = refl }, λ p. absurd (false≢true p))
-settled-like b s v x nl (joined j nk e) = rw e (record { n-is = refl; k-is = refl; own-is = refl; slots-is = refl }, λ p. absurd (no-both p nl))
-
-departed-like : (s m : ℕ) (v x : Node) → isListening (v .state) ≡ false → Departed s m v x → Like v x
-departed-like s m v x nl (left g) = gone-like v x g
-departed-like s m v x nl (settled ne st) = settled-like true s (withSet (setAfter m v) v) x nl st
-
-inside-like : (s m : ℕ) (r : Reading) (v x : Node) → isListening (v .state) ≡ false → Inside s m r v x → Like v x
-inside-like s m r v x nl (missed g) = gone-like v x g
-inside-like s m r v x nl (went f d) = departed-like s m (marked s r v) x nl d
-
-noted-like : (s : ℕ) (heard : Reading) (v x : Node) → isListening (v .state) ≡ false → Noted s heard v x → Basic (v .n) (v .k) (v .own) (v .slots) x × (isListening (x .state) ≡ false)
-noted-like s heard v x nl (knocks a b c e) = rw e (record { n-is = refl; k-is = refl; own-is = refl; slots-is = refl }, refl)
-noted-like s heard v x nl (silent a b e) = rw e (same-basic v, nl)
-noted-like s heard v x nl (awaits a b c e) = rw e (record { n-is = refl; k-is = refl; own-is = refl; slots-is = refl }, nl)
-noted-like s heard v x nl (ignores a b e) = rw e (same-basic v, nl)
-
-pub member-tracks : (st : State) → isMember st ≡ true → tracks st ≡ true
-member-tracks Member f = refl
-member-tracks Listening f = absurd (false≢true f)
-member-tracks Following f = refl
-member-tracks Knocking f = refl
-member-tracks (Out x) f = absurd (false≢true f)
-
-listening-no-member : (st : State) → isListening st ≡ true → isMember st ≡ false
-listening-no-member Member f = absurd (false≢true f)
-listening-no-member Listening f = refl
-listening-no-member Following f = refl
-listening-no-member Knocking f = refl
-listening-no-member (Out x) f = refl
-
-listening-not-member : (s : ℕ) (r : Reading) (v : Node) → isListening (v .state) ≡ true → isMember (listeningSlot s r v .state) ≡ false
-unfolding listeningSlot windowEnd
-listening-not-member s r v li = go (overheard s r (v .listening))
-  where
-    go : (l : Window) → isMember (cond (ltb (l .done) (v .n)) (withWindow l v) (cond (clean (v .n) (v .k) l) (cond (eqb (l .last) (l .heard)) (followingWith (l .heard) v) (listeningAfter (l .heard) v)) (listeningAfter 0 v)) .state) ≡ false
-    go l = choose (λ (x : Node). isMember (x .state) ≡ false) (ltb (l .done) (v .n)) (withWindow l v) _
-        (λ _. listening-no-member (v .state) li)
-        (λ _. choose (λ (x : Node). isMember (x .state) ≡ false) (clean (v .n) (v .k) l) _ (listeningAfter 0 v)
-        (λ _. choose (λ (x : Node). isMember (x .state) ≡ false) (eqb (l .last) (l .heard)) (followingWith (l .heard) v) (listeningAfter (l .heard) v) (λ _. refl) (λ _. refl))
-        (λ _. refl))
-
--- by what a node is
-pub by-state : (P : Node → Type 0) (v : Node) (s : ℕ) (r : Reading)
-    → (tracks (v .state) ≡ true → P (trackingSlot s r (counted v)))
-    → (isListening (v .state) ≡ true → P (listeningSlot s r (counted v)))
-    → ((c : Cause) → v .state ≡ Out c → P (counted v))
-    → P (slotIn (v .state) s r (counted v))
-by-state P v s r f g o = go (v .state) refl
-  where
-    go : (st : State) → v .state ≡ st → P (slotIn st s r (counted v))
-    go Member e = f (rw e refl)
-    go Listening e = g (rw e refl)
-    go Following e = f (rw e refl)
-    go Knocking e = f (rw e refl)
-    go (Out c) e = o c e
+use Rattle.agreement.proofs.Alike.{not-listening, listening-only, Basic, Like, gone-like, gone-not, inside-like, noted-like, member-tracks, listening-not-member, by-state}
 
 module _ (W : World) where
   open World W using (n, k, n-pos, E)
@@ -235,7 +133,9 @@ module _ (W : World) where
     pub listening : isListening (v .state) ≡ true → isHeard r ≡ E (suc N) .sent
 
   -- a listed slot
-  module _ (N L : ℕ) (B : Begins W N L) (lT : E (suc N) .listed ≡ true) (onL : has L (sender n (suc N)) ≡ true) (D : Decision W N L) where
+  module _ (S : ListedSlot W) where
+    open ListedSlot S using (N, L, B, lT, onL, D)
+
     abbrev s : ℕ
     s = sender n (suc N)
 
@@ -258,6 +158,10 @@ module _ (W : World) where
         hv : Hears W N i (counted v) r
         hv = counted-hears N i v r (h .tracking tr)
 
+        -- the node as one that hears the slot
+        abbrev T : Hearer W (S .N) (S .L)
+        T = record { r = r; says = says; i = i; i-pos = i-pos; i-le = i-le; v = counted v; vn = nv .n-is; vk = nv .k-is; vo = nv .own-is; iv = iv; h = hv }
+
         decides-it : decidedOf (v .n) (v .k) (v .set) s ≡ found.Member d
         decides-it = rw (nv .n-is, nv .k-is, nv .track tr .set-is) (D .it)
 
@@ -265,44 +169,44 @@ module _ (W : World) where
         outcome = inside-law s d r (counted v) decides-it
 
         settled-at : (x : Node) → Settled true s (withSet (setAfter d (marked s r (counted v))) (marked s r (counted v))) x
-            → Settled true s (withSet (A W N L B lT onL D) (marked s r (counted v))) x
+            → Settled true s (withSet (A W S) (marked s r (counted v))) x
         settled-at x st = subst (λ (y : ℕ). Settled true s (withSet y (marked s r (counted v))) x)
-            (set-after W N L B lT onL D r says i i-pos i-le (counted v) (nv .n-is) (nv .k-is) (nv .own-is) iv hv) st
+            (set-after W S T) st
 
-        tracked : (L′ : ℕ) → Next W N L B lT onL D L′ → (x : Node) → Inside s d r (counted v) x → (tracks (x .state) ≡ false) ⊎ Tracking W (suc N) L′ i x
+        tracked : (L′ : ℕ) → Next W S L′ → (x : Node) → Inside s d r (counted v) x → (tracks (x .state) ≡ false) ⊎ Tracking W (suc N) L′ i x
         tracked L′ nx x (missed g) = inl (gone-not (counted v) x g)
         tracked L′ nx x (went ok (left g)) = inl (gone-not (marked s r (counted v)) x g)
         tracked L′ nx x (went ok (settled ne st)) =
-            go (after-inside W N L B lT onL D r says i i-pos i-le (counted v) (nv .n-is) (nv .k-is) (nv .own-is) iv hv L′ nx ok ne x (settled-at x st))
+            go (after-inside W S T L′ nx ok ne x (settled-at x st))
           where
-            go : Gone (withSet (A W N L B lT onL D) (marked s r (counted v))) x ⊎ Tracking W (suc N) L′ i x → (tracks (x .state) ≡ false) ⊎ Tracking W (suc N) L′ i x
+            go : Gone (withSet (A W S) (marked s r (counted v))) x ⊎ Tracking W (suc N) L′ i x → (tracks (x .state) ≡ false) ⊎ Tracking W (suc N) L′ i x
             go (inl g) = inl (gone-not _ x g)
             go (inr t) = inr t
 
-        next-of : (x : Node) → Inside s d r (counted v) x → tracks (x .state) ≡ true → Next W N L B lT onL D (x .set)
+        next-of : (x : Node) → Inside s d r (counted v) x → tracks (x .state) ≡ true → Next W S (x .set)
         next-of x (missed g) p = absurd (no-both p (gone-not (counted v) x g))
         next-of x (went ok (left g)) p = absurd (no-both p (gone-not (marked s r (counted v)) x g))
         next-of x (went ok (settled ne st)) p =
-            go (next-from W N L B lT onL D r says i i-pos i-le (counted v) (nv .n-is) (nv .k-is) (nv .own-is) iv hv ok x (settled-at x st))
+            go (next-from W S T ok x (settled-at x st))
           where
-            go : Gone (withSet (A W N L B lT onL D) (marked s r (counted v))) x ⊎ Next W N L B lT onL D (x .set) → Next W N L B lT onL D (x .set)
+            go : Gone (withSet (A W S) (marked s r (counted v))) x ⊎ Next W S (x .set) → Next W S (x .set)
             go (inl g) = absurd (no-both p (gone-not _ x g))
             go (inr t) = t
 
-        tracking-after : (L′ : ℕ) → Next W N L B lT onL D L′ → NodeInv (suc N) L′ i (trackingSlot s r (counted v))
+        tracking-after : (L′ : ℕ) → Next W S L′ → NodeInv (suc N) L′ i (trackingSlot s r (counted v))
         tracking-after L′ nx = rw (is-inside tr) (finish N L L′ i v _ nv
             (inside-like s d r (counted v) _ (not-listening (v .state) tr) outcome)
             (tracked L′ nx _ outcome))
 
-      pub listed-after : (L′ : ℕ) → Next W N L B lT onL D L′ → K W (suc N) L′ → K′ W (suc N) → L′ < 2 ^ n → NodeInv (suc N) L′ i (slotIn (v .state) s r (counted v))
+      pub listed-after : (L′ : ℕ) → Next W S L′ → K W (suc N) L′ → K′ W (suc N) → L′ < 2 ^ n → NodeInv (suc N) L′ i (slotIn (v .state) s r (counted v))
       listed-after L′ nx κ κ′ small = by-state (NodeInv (suc N) L′ i) v s r
           (λ tr. tracking-after tr L′ nx)
           (λ li. listening-after N L L′ i (B .late) i-pos κ κ′ small v nv li r (h .listening li) (h .own) (λ _ u. absurd (no-both lT u)))
           (λ c e. out-after N L L′ i v nv c e)
 
       -- the list after the slot, as a member-state node has it
-      pub next-list : isMember (slotIn (v .state) s r (counted v) .state) ≡ true → Next W N L B lT onL D (slotIn (v .state) s r (counted v) .set)
-      next-list = by-state (λ (x : Node). isMember (x .state) ≡ true → Next W N L B lT onL D (x .set)) v s r
+      pub next-list : isMember (slotIn (v .state) s r (counted v) .state) ≡ true → Next W S (slotIn (v .state) s r (counted v) .set)
+      next-list = by-state (λ (x : Node). isMember (x .state) ≡ true → Next W S (x .set)) v s r
           (λ tr. rw (is-inside tr) (λ p. next-of tr _ (outcome tr) (member-tracks (insideSlot s r (counted v) .state) p)))
           (λ li p. absurd (no-both p (listening-not-member s r (counted v) li)))
           (λ c e p. absurd (false≢true (sym (ap isMember e) ∙ p)))

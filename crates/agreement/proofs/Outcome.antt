@@ -6,7 +6,7 @@ use mathlib.Core.Bool.{Bool, true, false, cond, not, _&&_, true≢false, false�
 use lib.Dec.{eqb}
 use borrow.Author.Tests.{eqb-true, eqb-false}
 use Rattle.nodeset.specs.Sets.{has, with, without}
-use Rattle.nodeset.proofs.Tests.{by-cases, both, chosen, otherwise}
+use Rattle.nodeset.proofs.Tests.{both, chosen, otherwise}
 use Rattle.ring.specs.declared.Found.{Found}
 use Rattle.ring.specs.declared.Found.the-variants as found
 use Rattle.ring.specs.Answers.{decidedOf}
@@ -18,7 +18,7 @@ use Rattle.record.specs.declared.Cause.{Cause}
 use Rattle.record.specs.declared.Cause.the-variants.{Unconfirmed, NothingHeard, MissedReturn}
 use Rattle.record.specs.States.{isMember, isFollowing, isKnocking}
 use Rattle.changes.specs.Changes.{outFor, fresh, leave, withSet, withReturning}
-use Rattle.steps.specs.Steps.{isHeard, missedReturn, marked, noted, tooFew, nothingHeard, joins, stateOnList, settledAs, join, settle, judged, departs, departing, insideSlot, outsideSlot}
+use Rattle.steps.specs.Steps.{isHeard, missedReturn, marked, noted, tooFew, nothingHeard, joins, stateOnList, settledAs, join, settle, judged, departs, departing, insideSlot}
 
 -- a choice, case by case
 pub choose : {A : Type 0} (P : A → Type 0) (b : Bool) (x y : A) → (b ≡ true → P x) → (b ≡ false → P y) → P (cond b x y)

@@ -17,7 +17,6 @@ use Rattle.record.specs.States.{isMember, isFollowing, isKnocking}
 use Rattle.changes.specs.Changes.{withReturning}
 use Rattle.steps.specs.Steps.{isHeard}
 use Rattle.sending.specs.Sending.{sends}
-use Rattle.bench.specs.Runs.{Entry}
 use Rattle.agreement.proofs.History.{World, Untold, one-knock, num-isnt}
 use Rattle.agreement.proofs.Invariant.{Tracking, Off, Knock, Awaits, aware, unaware}
 use Rattle.agreement.proofs.Marks.{no-both, not-true, not-false}

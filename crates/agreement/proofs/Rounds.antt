@@ -1,6 +1,6 @@
 -- K and K' after a slot: a listed one, with its joining, and one outside the list. Assumes nothing.
 use Prim.Native.Nat.{ℕ, zero, suc, _+_, _-_, _^_, _≤_, _<_}
-use mathlib.Core.Path.{_≡_, refl, sym, ap, _∙_}
+use mathlib.Core.Path.{_≡_, sym, ap, _∙_}
 use mathlib.Core.Logic.{_≢_}
 use mathlib.Core.Bool.{true, false}
 use native.Mathlib.Omega.{arith}
@@ -12,12 +12,11 @@ use Rattle.nodeset.proofs.Laws.{has-with-other, with-lt}
 use Rattle.ring.specs.Ring.{sender}
 use Rattle.ring.proofs.Senders.{sender-range, sender-period}
 use Rattle.ring.proofs.Walks.{Met, walk-meets}
-use Rattle.bench.specs.Runs.{Entry}
-use Rattle.agreement.proofs.History.{World, K, KFact, lst, full-round, size-from, Decision, num-isnt}
+use Rattle.agreement.proofs.History.{World, K, KFact, lst, full-round, size-from, num-isnt}
 use Rattle.agreement.proofs.Marks.{no-both}
-use Rattle.agreement.proofs.Listed.{Begins, same-window}
+use Rattle.agreement.proofs.Listed.{Begins, ListedSlot, same-window}
 use Rattle.agreement.proofs.Depart.{since-next, k-after, drop-lt}
-use Rattle.agreement.proofs.Join.{A, Joining, Next, plain, grown}
+use Rattle.agreement.proofs.Join.{A, Next, plain, grown}
 
 module _ (W : World) where
   open World W using (n, k, n-pos, n-most, k-two, k-lt, E, fair, few, once)
@@ -26,18 +25,17 @@ module _ (W : World) where
   abbrev pub K′ : ℕ → Type 0
   K′ N = (w e : ℕ) → w + n + e ≡ N → e < n → E (w + n) .listed ≡ true → E w .sent ≡ true
 
-  pub k-next : (N L : ℕ) (B : Begins W N L) (lT : E (suc N) .listed ≡ true) (onL : has L (sender n (suc N)) ≡ true) (D : Decision W N L) (L′ : ℕ)
-      → Next W N L B lT onL D L′ → K W (suc N) L′
-  k-next N L B lT onL D L′ (plain f q) = rw q (k-after W N L B lT onL D)
-  k-next N L B lT onL D L′ (grown w e J q) = rw q (λ u d z h. go u d z h (ℕ-discrete u w))
+  pub k-next : (S : ListedSlot W) (L′ : ℕ) → Next W S L′ → K W (suc (S .N)) L′
+  k-next S L′ (plain f q) = rw q (k-after W S)
+  k-next S L′ (grown w e J q) = rw q (λ u d z h. go u d z h (ℕ-discrete u w))
     where
       a : ℕ
-      a = A W N L B lT onL D
+      a = A W S
 
-      ago : w + suc e ≡ suc N
+      ago : w + suc e ≡ suc (S .N)
       ago = omega (arith, J .ago)
 
-      go : (u d : ℕ) → u + d ≡ suc N → d < n → Dec (u ≡ w) → KFact W (with a (sender n w)) u d
+      go : (u d : ℕ) → u + d ≡ suc (S .N) → d < n → Dec (u ≡ w) → KFact W (with a (sender n w)) u d
       go u d z h (yes y) =
           let x : d ≡ suc e = omega arith in
           let c : k ≤ sum (lst W) (suc u) d = rw (y, x) (J .since) in
@@ -48,9 +46,9 @@ module _ (W : World) where
             came = λ p q. (rw y (J .sent), c);
           }
       go u d z h (no y) =
-          let ne : sender n w ≢ sender n u = λ p. y (same-window W (suc N) u w d (suc e) (omega (arith, B .late)) z ago h (J .recent) (sym p)) in
+          let ne : sender n w ≢ sender n u = λ p. y (same-window W (suc (S .N)) u w d (suc e) (omega (arith, S .B .late)) z ago h (J .recent) (sym p)) in
           let same : has (with a (sender n w)) (sender n u) ≡ has a (sender n u) = has-with-other a (sender n w) (sender n u) ne in
-          let f = k-after W N L B lT onL D u d z h in
+          let f = k-after W S u d z h in
           record {
             spoke = λ p q. same ∙ f .spoke p q;
             waits = λ p q r. same ∙ f .waits p q r;
@@ -58,10 +56,15 @@ module _ (W : World) where
             came = λ p q. f .came p (sym same ∙ q);
           }
 
-  pub next-lt : (N L : ℕ) (B : Begins W N L) (lT : E (suc N) .listed ≡ true) (onL : has L (sender n (suc N)) ≡ true) (D : Decision W N L) (L′ : ℕ)
-      → Next W N L B lT onL D L′ → L′ < 2 ^ n
-  next-lt N L B lT onL D L′ (plain f q) = rw q (drop-lt W (E (D .u) .sent) L (sender n (D .u)) (sender-range n n-pos (D .u) .1) (B .small))
-  next-lt N L B lT onL D L′ (grown w e J q) = rw q (with-lt n (A W N L B lT onL D) (sender n w) (sender-range n n-pos w .1) (drop-lt W (E (D .u) .sent) L (sender n (D .u)) (sender-range n n-pos (D .u) .1) (B .small)))
+  pub next-lt : (S : ListedSlot W) (L′ : ℕ) → Next W S L′ → L′ < 2 ^ n
+  next-lt S L′ nx = go nx
+    where
+      small : A W S < 2 ^ n
+      small = drop-lt W (E (S .D .u) .sent) (S .L) (sender n (S .D .u)) (sender-range n n-pos (S .D .u) .1) (S .B .small)
+
+      go : Next W S L′ → L′ < 2 ^ n
+      go (plain f q) = rw q small
+      go (grown w e J q) = rw q (with-lt n (A W S) (sender n w) (sender-range n n-pos w .1) small)
 
   pub k′-listed : (N L : ℕ) → Begins W N L → has L (sender n (suc N)) ≡ true → K′ N → K′ (suc N)
   k′-listed N L B onL κ w (suc e) z h l = κ w e (omega arith) (omega arith) l

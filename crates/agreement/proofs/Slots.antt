@@ -1,8 +1,8 @@
 -- A slot keeps the invariant of a table. Assumes nothing.
-use Prim.Native.Nat.{ℕ, zero, suc, _+_, _-_, _^_, _≤_, _<_}
+use Prim.Native.Nat.{ℕ, suc, _+_, _-_, _^_, _≤_, _<_}
 use mathlib.Core.Path.{_≡_, refl, sym, ap, _∙_, subst}
 use mathlib.Core.Logic.{_≢_}
-use mathlib.Core.Bool.{Bool, true, false, cond, not, _&&_, _||_, true≢false, false≢true}
+use mathlib.Core.Bool.{Bool, true, false, cond, not, _&&_, _||_, false≢true}
 use native.Mathlib.Omega.{arith}
 use native.Mathlib.Decide.{ℕ-discrete}
 use lib.Dec.{eqb}
@@ -17,105 +17,34 @@ use Rattle.ring.proofs.Senders.{sender-range, sender-period}
 use Rattle.message.specs.declared.Reading.{Reading}
 use Rattle.message.specs.declared.Reading.the-variants as reading
 use Rattle.record.specs.declared.Node.{Node}
-use Rattle.record.specs.declared.State.{State}
-use Rattle.record.specs.declared.State.the-variants.{Member, Listening, Following, Knocking, Out}
-use Rattle.record.specs.States.{isMember, isListening, isFollowing, isOut}
+use Rattle.record.specs.declared.State.the-variants.{Member}
+use Rattle.record.specs.States.{isMember, isListening, isOut}
 use Rattle.record.specs.Soundness.{sound, limit}
 use Rattle.record.proofs.Tracking.{tracks}
 use Rattle.changes.specs.Changes.{counted}
-use Rattle.steps.specs.Steps.{isHeard, returnIn}
+use Rattle.steps.specs.Steps.{isHeard}
 use Rattle.sending.specs.Sending.{sends, hasFound, markBits, bitsSent, returnSent}
 use Rattle.sending.proofs.Laws.{has-markBits}
 use Rattle.node.specs.Slot as node
 use Rattle.node.specs.declared.Stepped.{Stepped}
 use Rattle.node.specs.Calls as calls
-use Rattle.bench.specs.Table.{Table, recordOf, ringOf, slotsOf, speaker}
+use Rattle.bench.specs.Table.{Table, recordOf, slotsOf, speaker}
 use Rattle.bench.specs.Calls.{transmits, unheard, spoken, heardBy, afterSlot}
 use Rattle.bench.specs.Runs.{Entry, slot, listOf, isListed, misses, entryOf}
 use Rattle.bench.specs.Demand.{AllHear}
-use Rattle.agreement.proofs.History.{World, K, Decision, decision, ks-is}
+use Rattle.agreement.proofs.History.{World, K, decision, ks-is}
 use Rattle.agreement.proofs.Invariant.{Tracking}
 use Rattle.agreement.proofs.Marks.{no-both, not-true, not-false, bitsIn}
-use Rattle.agreement.proofs.Listed.{Begins, Hears, Says}
+use Rattle.agreement.proofs.Listed.{Begins, Says, ListedSlot}
 use Rattle.agreement.proofs.Join.{Next}
 use Rattle.agreement.proofs.Outside.{OwnSlot}
 use Rattle.agreement.proofs.Rounds.{K′, k-next, next-lt, k′-listed, k′-outside, k-outside}
-use Rattle.agreement.proofs.Nodes.{NodeInv, HearsAny, listening-only, listed-after, next-list, outside-after}
+use Rattle.agreement.proofs.Alike.{listening-only}
+use Rattle.agreement.proofs.Nodes.{NodeInv, HearsAny, listed-after, next-list, outside-after}
 use Rattle.agreement.proofs.Places.{length-each, record-each}
 use Rattle.agreement.proofs.Counted.{step-done}
 use Rattle.agreement.proofs.Tables.{TableInv, Witness, witness, list-is, slots-at}
-
--- ---- what is heard: by whose slot it is, what is lost, who is named, who sends
-
-hear : (ow lo mi tr : Bool) (q : Reading) → isHeard q ≡ true → isHeard (cond ow unheard (cond (lo || mi) unheard (cond tr q unheard))) ≡ ((tr && (not lo && not mi)) && not ow)
-hear true lo mi tr q e = sym (last (tr && (not lo && not mi)))
-  where
-    last : (a : Bool) → (a && false) ≡ false
-    last true = refl
-    last false = refl
-hear false true mi true q e = refl
-hear false true mi false q e = refl
-hear false false true true q e = refl
-hear false false true false q e = refl
-hear false false false true q e = e
-hear false false false false q e = refl
-
--- who hears anything hears the message
-hear-message : (ow lo mi tr : Bool) (q : Reading) → isHeard (cond ow unheard (cond (lo || mi) unheard (cond tr q unheard))) ≡ true → cond ow unheard (cond (lo || mi) unheard (cond tr q unheard)) ≡ q
-hear-message true lo mi tr q e = absurd (false≢true e)
-hear-message false true mi tr q e = absurd (false≢true e)
-hear-message false false true tr q e = absurd (false≢true e)
-hear-message false false false true q e = refl
-hear-message false false false false q e = absurd (false≢true e)
-
-unheard-bits : (r : Reading) → isHeard r ≡ false → bitsIn r ≡ 0
-unheard-bits (reading.Heard bits bit) e = absurd (true≢false e)
-unheard-bits (reading.Refused c) e = refl
-
-unreached : (tr lo mi ow : Bool) → (tr && not lo) ≡ false → ((tr && (not lo && not mi)) && not ow) ≡ false
-unreached false lo mi ow e = refl
-unreached true false mi ow e = absurd (true≢false e)
-unreached true true mi ow e = refl
-
-and-no : (a b : Bool) → b ≡ true → (a && not b) ≡ false
-and-no true b e = rw e refl
-and-no false b e = refl
-
-reached : (tr lo mi ow : Bool) → (tr && not lo) ≡ true → ow ≡ false → ((tr && (not lo && not mi)) && not ow) ≡ not mi
-reached true false true ow e f = refl
-reached true false false ow e f = rw f refl
-reached true true mi ow e f = absurd (false≢true e)
-reached false lo mi ow e f = absurd (false≢true e)
-
-sent-parts : (tr lo : Bool) → (tr && not lo) ≡ true → (tr ≡ true) × (lo ≡ false)
-sent-parts true false e = (refl, refl)
-sent-parts true true e = absurd (false≢true e)
-sent-parts false lo e = absurd (false≢true e)
-
--- ---- states
-
-not-out : (st : State) → tracks st ≡ true → (isMember st || isOut st) ≡ true → isMember st ≡ true
-not-out Member f g = refl
-not-out Listening f g = absurd (false≢true f)
-not-out Following f g = absurd (false≢true g)
-not-out Knocking f g = absurd (false≢true g)
-not-out (Out c) f g = absurd (false≢true f)
-
-listening-neither : (st : State) → isListening st ≡ true → (isMember st || isOut st) ≡ false
-listening-neither Member f = absurd (false≢true f)
-listening-neither Listening f = refl
-listening-neither Following f = refl
-listening-neither Knocking f = refl
-listening-neither (Out c) f = absurd (false≢true f)
-
-sends-tracks : (st : State) (b : Bool) → (isMember st || (isFollowing st && b)) ≡ true → tracks st ≡ true
-sends-tracks Member b e = refl
-sends-tracks Listening b e = absurd (false≢true e)
-sends-tracks Following b e = refl
-sends-tracks Knocking b e = absurd (false≢true e)
-sends-tracks (Out c) b e = absurd (false≢true e)
-
--- ---- the slot
+use Rattle.agreement.proofs.Reached.{hear, hear-message, unheard-bits, unreached, and-no, reached, sent-parts, not-out, listening-neither, sends-tracks}
 
 module _ (W : World) where
   open World W using (n, k, n-pos, n-most, k-two, k-lt, E)
@@ -322,11 +251,8 @@ module _ (W : World) where
     listed-table : (onL : has L s ≡ true) → k + 1 ≤ size n (listOf after) → TableInv W (suc N) (listOf after) after
     listed-table onL ends = go (witness W after len-after (omega arith))
       where
-        lT : E (suc N) .listed ≡ true
-        lT = listed-is ∙ onL
-
-        D : Decision W N L
-        D = decision W N L (inv .late) (inv .kept) (begins .enough)
+        S : ListedSlot W
+        S = record { N = N; L = L; B = begins; lT = listed-is ∙ onL; onL = onL; D = decision W N L (inv .late) (inv .kept) (begins .enough) }
 
         go : Witness W after → TableInv W (suc N) (listOf after) after
         go x = done (rw (← (x .its)) at nx)
@@ -334,12 +260,12 @@ module _ (W : World) where
             e : recordOf after (x .i) ≡ node.slotIn (recordOf t (x .i) .state) s (hd (x .i)) (counted (recordOf t (x .i)))
             e = node-after (x .i) (x .pos) (x .le)
 
-            nx : Next W N L begins lT onL D (recordOf after (x .i) .set)
-            nx = subst (λ (y : Node). isMember (y .state) ≡ true → Next W N L begins lT onL D (y .set)) (sym e)
-                (next-list W N L begins lT onL D (hd (x .i)) (says onL (x .i)) (x .i) (x .pos) (x .le) (recordOf t (x .i)) (inv .nodes (x .i) (x .pos) (x .le)) (hears-any (x .i) (x .pos) (x .le)))
+            nx : Next W S (recordOf after (x .i) .set)
+            nx = subst (λ (y : Node). isMember (y .state) ≡ true → Next W S (y .set)) (sym e)
+                (next-list W S (hd (x .i)) (says onL (x .i)) (x .i) (x .pos) (x .le) (recordOf t (x .i)) (inv .nodes (x .i) (x .pos) (x .le)) (hears-any (x .i) (x .pos) (x .le)))
                 (x .member)
 
-            done : Next W N L begins lT onL D (listOf after) → TableInv W (suc N) (listOf after) after
+            done : Next W S (listOf after) → TableInv W (suc N) (listOf after) after
             done nx′ = record {
               len = len-after;
               late = omega (arith, inv .late);
@@ -347,17 +273,17 @@ module _ (W : World) where
               kept′ = κ′;
               small = sm;
               nodes = λ i h l. subst (λ (y : Node). NodeInv W (suc N) (listOf after) i y) (sym (node-after i h l))
-                  (listed-after W N L begins lT onL D (hd i) (says onL i) i h l (recordOf t i) (inv .nodes i h l) (hears-any i h l) (listOf after) nx′ κ κ′ sm);
+                  (listed-after W S (hd i) (says onL i) i h l (recordOf t i) (inv .nodes i h l) (hears-any i h l) (listOf after) nx′ κ κ′ sm);
             }
               where
                 κ : K W (suc N) (listOf after)
-                κ = k-next W N L begins lT onL D (listOf after) nx′
+                κ = k-next W S (listOf after) nx′
 
                 κ′ : K′ W (suc N)
                 κ′ = k′-listed W N L begins onL (inv .kept′)
 
                 sm : listOf after < 2 ^ n
-                sm = next-lt W N L begins lT onL D (listOf after) nx′
+                sm = next-lt W S (listOf after) nx′
 
     outside-table : (offL : has L s ≡ false) → TableInv W (suc N) L after
     outside-table offL = record {

@@ -1,5 +1,5 @@
 -- The invariant of a table: the start has it, off and restart keep it. Assumes nothing.
-use Prim.Native.Nat.{ℕ, zero, suc, _+_, _-_, _^_, _≤_, _<_}
+use Prim.Native.Nat.{ℕ, suc, _+_, _-_, _^_, _≤_, _<_}
 use mathlib.Core.Path.{_≡_, refl, sym, ap, _∙_, subst}
 use mathlib.Core.Logic.{_⊎_, inl, inr}
 use mathlib.Core.Bool.{Bool, true, false, cond, true≢false, false≢true}
@@ -8,7 +8,7 @@ use native.Mathlib.Omega.{arith}
 use lib.Dec.{eqb}
 use lib.ListN.{length, getD}
 use borrow.Author.Tests.{eqb-true}
-use Rattle.nodeset.specs.Sets.{has, full, size}
+use Rattle.nodeset.specs.Sets.{full, size}
 use Rattle.nodeset.proofs.Tests.{by-cases, chosen, otherwise}
 use Rattle.nodeset.proofs.Laws.{has-full, full-lt}
 use Rattle.nodeset.proofs.Counts.{size-none}
@@ -17,10 +17,8 @@ use Rattle.ring.proofs.Senders.{sender-range}
 use Rattle.record.specs.declared.Node.{Node}
 use Rattle.record.specs.declared.Cause.{Cause}
 use Rattle.record.specs.States.{isMember}
-use Rattle.record.specs.Soundness.{sound}
 use Rattle.changes.specs.Changes.{starting, outFor, fresh}
 use Rattle.node.specs.Calls.{noNode}
-use Rattle.bench.specs.declared.Listed.{Listed}
 use Rattle.bench.specs.declared.Listed.the-variants as listed
 use Rattle.bench.specs.Table.{Table, recordOf, each, slotsOf}
 use Rattle.bench.specs.Calls.{startTable, listIn}
@@ -29,7 +27,8 @@ use Rattle.agreement.proofs.History.{World, K}
 use Rattle.agreement.proofs.Marks.{no-both}
 use Rattle.agreement.proofs.Rounds.{K′}
 use Rattle.agreement.proofs.Hearing.{fresh-inv}
-use Rattle.agreement.proofs.Nodes.{NodeInv, member-tracks}
+use Rattle.agreement.proofs.Alike.{member-tracks}
+use Rattle.agreement.proofs.Nodes.{NodeInv}
 use Rattle.agreement.proofs.Places.{length-each, record-each}
 
 -- ---- the list

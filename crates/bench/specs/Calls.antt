@@ -2,8 +2,8 @@
 -- "Checks run in table order, except that .. 4 comes just before 3 where n is taken from a record .. Off and restart don't test 5." A refused call
 -- leaves the table as it was.
 use Prim.Native.Nat.{ℕ, max}
-use mathlib.Core.Bool.{Bool, true, false, cond, not, _&&_, _||_}
-use mathlib.Core.List.{List, [], _∷_}
+use mathlib.Core.Bool.{Bool, true, false, cond, _||_}
+use mathlib.Core.List.{[], _∷_}
 use lib.Dec.{eqb, leb, ltb}
 use lib.ListN.{length}
 use Rattle.refusal.specs.declared.Refusal.{Refusal}
@@ -12,7 +12,6 @@ use Rattle.nodeset.specs.Sets.{has, within, distance}
 use Rattle.ring.specs.Ring.{ringSize, sponsorCount, nodeNumber}
 use Rattle.message.specs.declared.Reading.{Reading}
 use Rattle.message.specs.declared.Reading.the-variants as reading
-use Rattle.record.specs.declared.Node.{Node}
 use Rattle.record.specs.States.{isMember, isOut}
 use Rattle.record.specs.Soundness.{limit}
 use Rattle.changes.specs.Changes.{starting}

@@ -1,7 +1,7 @@
 -- Demand 3 (document 01, "The bench"): the lists agree, and a listed node whose slot was lost or silent leaves them at its deciding slot. What is said here of
 -- the table after every sequence of calls is said of the table after each call of every sequence: premises of a sequence hold of each beginning of it
 -- (agreement's proofs/Throughout).
-use Prim.Native.Nat.{ℕ, zero, suc, _+_, _-_, _≤_, _<_}
+use Prim.Native.Nat.{ℕ, zero, suc, _+_, _-_, _≤_}
 use mathlib.Core.Path.{_≡_}
 use mathlib.Core.Logic.{_≢_}
 use mathlib.Core.Bool.{Bool, true, false, cond, _&&_, _||_}

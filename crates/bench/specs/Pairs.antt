@@ -1,8 +1,8 @@
 -- The pairs of a slot (document 01, "The bench"): "two bytes per node whose state changed: node, then kind .. the bytes after them are untouched, and the
 -- number of pairs is returned. The order among changes of one slot is left open."
-use Prim.Native.Nat.{ℕ, zero, suc, _+_, _*_}
+use Prim.Native.Nat.{ℕ, _+_, _*_}
 use mathlib.Core.Path.{_≡_}
-use mathlib.Core.Bool.{Bool, true, false, cond, not, _&&_, _||_}
+use mathlib.Core.Bool.{Bool, cond, not, _&&_, _||_}
 use mathlib.Core.List.{List, [], _∷_, _++_}
 use lib.Dec.{eqb}
 use lib.ListN.{length, drop}

@@ -1,6 +1,6 @@
 -- Sequences of bench calls from a common start, and what each of their slots was (document 01, "The bench"). The calls are folded over the definitions that the
 -- bench's contracts cite. A sequence of calls is a list with THE LATEST FIRST.
-use Prim.Native.Nat.{ℕ, zero, suc, _+_, _-_}
+use Prim.Native.Nat.{ℕ, _+_, _-_}
 use mathlib.Core.Bool.{Bool, true, false, cond, not, _&&_}
 use mathlib.Core.List.{List, [], _∷_}
 use lib.Dec.{eqb}

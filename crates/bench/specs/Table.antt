@@ -1,5 +1,5 @@
 -- The table (document 01, "The bench"): "a lent slice of node records, one per node in number order, all with the same n, k and slot count".
-use Prim.Native.Nat.{ℕ, zero, suc, _+_, _-_}
+use Prim.Native.Nat.{ℕ, suc, _+_, _-_}
 use mathlib.Core.Bool.{Bool, true, false, _&&_}
 use mathlib.Core.List.{List, [], _∷_}
 use lib.Dec.{eqb}

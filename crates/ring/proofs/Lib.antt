@@ -4,3 +4,4 @@ pub mod Speakers
 pub mod Members
 pub mod Walks
 pub mod Examples
+pub mod Nexts

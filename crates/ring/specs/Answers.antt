@@ -31,3 +31,9 @@ sponsoredOf n k set x j = onSponsoredRing n k x (sponsored n k set x j)
 
 abbrev pub decidedOf : ℕ → ℕ → ℕ → ℕ → Found
 decidedOf n k set x = onSponsoredRing n k x (decided n k set x)
+
+-- The nearest member before one that was found; where none was found, none is.
+abbrev pub beforeFound : ℕ → ℕ → Found → Found
+beforeFound n set (Found.Member x) = beforeOf n set x 1
+beforeFound n set Found.Nobody = Found.Nobody
+beforeFound n set (Found.Refused r) = Found.Refused r

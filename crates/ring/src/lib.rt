@@ -4,7 +4,7 @@ use refusal::Refusal;
 ghost use mathlib.Core.Path.{_≡_};
 ghost use Prim.Native.Nat.{_+_, _≤_};
 ghost use Rattle.ring.specs.Ring.{ringSize, nodeNumber, sponsorCount, ks, previous, walk};
-ghost use Rattle.ring.specs.Answers.{senderOf, beforeOf, sponsoredOf, decidedOf};
+ghost use Rattle.ring.specs.Answers.{senderOf, beforeOf, sponsoredOf, decidedOf, beforeFound};
 
 // Whose slot it is.
 pub enum Speaker {
@@ -103,6 +103,17 @@ pub fn before(n: u32, set: u32, x: u32, j: u32) -> Found
         return Found::Nobody;
     }
     walk(n - 1, n, set, x, j)
+}
+
+// The nearest member before one that was found.
+pub fn before_found(n: u32, set: u32, found: Found) -> Found
+    ensures { λ r. ⌜ r ≡ beforeFound n set found ⌝ }
+{
+    match found {
+        Found::Member(x) => before(n, set, x, 1),
+        Found::Nobody => found,
+        Found::Refused(_) => found,
+    }
 }
 
 // The j-th member that node x sponsors, the nearest first.

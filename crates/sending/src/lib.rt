@@ -8,7 +8,6 @@ ghost use mathlib.Core.Path.{_≡_};
 ghost use mathlib.Core.Bool.{cond};
 ghost use Rattle.nodeset.specs.Sets.{with, size};
 ghost use Rattle.ring.specs.Ring.{ks};
-ghost use Rattle.ring.specs.Answers.{sponsoredOf};
 ghost use Rattle.sending.specs.Sending.{hasFound, sends, markBits, bitsSent, returnSent};
 
 fn has_found(set: u32, found: Found) -> bool
@@ -21,26 +20,29 @@ fn has_found(set: u32, found: Found) -> bool
     }
 }
 
-// The bits with that of the j-th sponsored member.
-fn mark_bit(j: u32, bits: u32, v: Node) -> u32
-    ensures { λ r. ⌜ r ≡ cond (hasFound (v .present) (sponsoredOf (v .n) (v .k) (v .set) (v .own) j)) (with bits j) bits ⌝ }
+// The bits with that of a sponsored member, the j-th.
+fn mark_bit(j: u32, bits: u32, marks: u32, found: Found) -> u32
+    ensures { λ r. ⌜ r ≡ cond (hasFound marks found) (with bits j) bits ⌝ }
 {
-    if has_found(v.present, ring::sponsored(v.n, v.k, v.set, v.own, j)) {
+    if has_found(marks, found) {
         return nodeset::with(bits, j);
     }
     bits
 }
 
-// The acknowledgement bits of a member: its marks of those that it sponsors.
+// The acknowledgement bits of a member: its marks of those that it sponsors, which are taken one
+// after the other, each the nearest before the last.
 fn mark_bits(v: Node) -> u32
     ensures { λ r. ⌜ r ≡ markBits (ks (v .k) (size (v .n) (v .set))) v ⌝ }
 {
     let most = ring::ks(v.k, nodeset::size(v.n, v.set));
     let mut bits = 0;
+    let mut found = ring::sponsored(v.n, v.k, v.set, v.own, 1);
     let mut j = 0;
     while j < most {
         j += 1;
-        bits = mark_bit(j, bits, v);
+        bits = mark_bit(j, bits, v.present, found);
+        found = ring::before_found(v.n, v.set, found);
     }
     bits
 }

@@ -12,7 +12,6 @@ ghost use mathlib.Core.Path.{_≡_};
 ghost use mathlib.Core.Bool.{cond};
 ghost use Rattle.nodeset.specs.Sets.{has, size};
 ghost use Rattle.ring.specs.Ring.{ks};
-ghost use Rattle.ring.specs.Answers.{sponsoredOf};
 ghost use Rattle.steps.specs.Steps.{isHeard, returnIn, withFound, confirmed, marksAfter, missedReturn, returnHeard, marked, noted, tooFew, nothingHeard, isFound, joins, stateOnList, joined, join, settle, judged, departs, insideSlot, outsideSlot, trackingSlot};
 
 // The return bit heard.
@@ -52,26 +51,29 @@ fn with_found(set: u32, found: Found) -> u32
     }
 }
 
-// The marks with that of the j-th member that s sponsors, if its bit is 1.
-fn confirm(j: u32, marks: u32, s: u32, bits: u32, v: Node) -> u32
-    ensures { λ r. ⌜ r ≡ cond (has bits j) (withFound marks (sponsoredOf (v .n) (v .k) (v .set) s j)) marks ⌝ }
+// The marks with that of a sponsored member, the j-th, if its bit is 1.
+fn confirm(j: u32, marks: u32, bits: u32, found: Found) -> u32
+    ensures { λ r. ⌜ r ≡ cond (has bits j) (withFound marks found) marks ⌝ }
 {
     if nodeset::has(bits, j) {
-        return with_found(marks, ring::sponsored(v.n, v.k, v.set, s, j));
+        return with_found(marks, found);
     }
     marks
 }
 
-// The marks after a heard message: its sender's, and those that it acknowledges.
+// The marks after a heard message: its sender's, and those that it acknowledges. The members that
+// the sender sponsors are taken one after the other, each the nearest before the last.
 fn confirmed(s: u32, bits: u32, v: Node) -> u32
     ensures { λ r. ⌜ r ≡ confirmed (ks (v .k) (size (v .n) (v .set))) s bits v ⌝ }
 {
     let most = ring::ks(v.k, nodeset::size(v.n, v.set));
     let mut marks = nodeset::with(v.present, s);
+    let mut found = ring::sponsored(v.n, v.k, v.set, s, 1);
     let mut j = 0;
     while j < most {
         j += 1;
-        marks = confirm(j, marks, s, bits, v);
+        marks = confirm(j, marks, bits, found);
+        found = ring::before_found(v.n, v.set, found);
     }
     marks
 }

@@ -87,13 +87,13 @@ pub const CLAUSES: &[Clause] = &[
 ];
 
 /// A node must leave: with a cause, or because too few members remain.
-enum Leaving {
+pub enum Leaving {
     With(Cause),
     TooFewMembers,
 }
 
 /// What a readable message says: the acknowledgements, bit 1 lowest, and the return bit.
-type Said = (u32, bool);
+pub type Said = (u32, bool);
 
 impl Node {
     /// "All start as members, set full, all marks on, returning 0."
@@ -191,18 +191,23 @@ impl Node {
         }
     }
 
-    /// The number of bytes written. "Members send in their own slots, bits taken from the marks before
-    /// the slot; the return bit is 1 if returning is not 0. A knock carries zero bits and return bit 0."
+    /// The number of bytes written.
     pub fn send(&self, out: &mut [u8]) -> Result<usize, u32> {
         self.check_sound()?;
         self.check_limit()?;
-        if self.next_sender() != self.own {
-            return Err(refusal::TURN);
-        }
+        let (acks, return_bit) = self.says().ok_or(refusal::TURN)?;
+        message::write(self.k, acks, return_bit, out)
+    }
+
+    /// What this node says in the next slot, if it sends. "Members send in their own slots, bits taken
+    /// from the marks before the slot; the return bit is 1 if returning is not 0. A knock carries zero
+    /// bits and return bit 0."
+    pub fn says(&self) -> Option<Said> {
         match self.state {
-            State::Member => message::write(self.k, self.acknowledgements(), self.returning != 0, out),
-            State::Following if self.returning == 0 => message::write(self.k, 0, false, out),
-            _ => Err(refusal::TURN),
+            _ if self.next_sender() != self.own => None,
+            State::Member => Some((self.acknowledgements(), self.returning != 0)),
+            State::Following if self.returning == 0 => Some((0, false)),
+            _ => None,
         }
     }
 
@@ -221,10 +226,15 @@ impl Node {
     pub fn slot(&self, bytes: &[u8]) -> Result<Node, u32> {
         self.check_sound()?;
         self.check_limit()?;
-        let sender = self.next_sender();
         // "An unreadable message counts as not heard."
+        Ok(self.step(message::read(self.k, bytes).ok()))
+    }
+
+    /// One slot of a sound record below the limit; `heard` is what was heard in it and could be read.
+    pub fn step(&self, heard: Option<Said>) -> Node {
+        let sender = self.next_sender();
         // "A message handed over in the own slot is ignored."
-        let heard = if sender == self.own { None } else { message::read(self.k, bytes).ok() };
+        let heard = if sender == self.own { None } else { heard };
         let mut next = Node { slots: self.slots + 1, ..*self };
         match self.state {
             State::Out(_) => {}
@@ -235,7 +245,7 @@ impl Node {
                 }
             }
         }
-        Ok(next)
+        next
     }
 
     /// The five steps. An error ends them: the node leaves.
@@ -258,7 +268,7 @@ impl Node {
     }
 
     /// "The sender is in the set." In its own slot the node hears nothing, so its own mark goes off.
-    fn step_1(&mut self, sender: u32, heard: Option<Said>) -> Result<(), Leaving> {
+    pub fn step_1(&mut self, sender: u32, heard: Option<Said>) -> Result<(), Leaving> {
         let Some((acks, return_bit)) = heard else {
             self.marks = self.marks.without(sender);
             return Ok(());
@@ -280,7 +290,7 @@ impl Node {
     }
 
     /// "The sender is outside the set."
-    fn step_2(&mut self, sender: u32, heard: Option<Said>) {
+    pub fn step_2(&mut self, sender: u32, heard: Option<Said>) {
         if self.returning != 0 {
             return;
         }
@@ -294,7 +304,7 @@ impl Node {
     }
 
     /// "the decided member leaves if its mark is off. If that is this node, it leaves with cause 1"
-    fn step_3(&mut self, sender: u32) -> Result<(), Leaving> {
+    pub fn step_3(&mut self, sender: u32) -> Result<(), Leaving> {
         match ring::decided(self.n, self.k, self.set, sender) {
             Some(member) if !self.marks.has(member) => {
                 if member == self.own {
@@ -309,7 +319,7 @@ impl Node {
 
     /// "Following and knocking need two members or more in the set; if fewer remain after step 3, the
     /// node goes to fresh listening."
-    fn enough_members(&self) -> Result<(), Leaving> {
+    pub fn enough_members(&self) -> Result<(), Leaving> {
         if self.returns() && self.set.count() < 2 {
             Err(Leaving::TooFewMembers)
         } else {
@@ -318,7 +328,7 @@ impl Node {
     }
 
     /// "if no other member is marked, this node leaves with cause 2"
-    fn step_4(&self) -> Result<(), Leaving> {
+    pub fn step_4(&self) -> Result<(), Leaving> {
         if self.marks.without(self.own) == Set::EMPTY {
             Err(Leaving::With(Cause::NothingHeard))
         } else {
@@ -327,7 +337,7 @@ impl Node {
     }
 
     /// "only if the sender is in the set and is the nearest member before the returning node"
-    fn step_5(&mut self, sender: u32) {
+    pub fn step_5(&mut self, sender: u32) {
         if self.returning == 0 {
             return;
         }
@@ -349,7 +359,7 @@ impl Node {
     }
 
     /// "A member that leaves is out"; "A following or knocking node that must leave starts listening afresh"
-    fn leave(&mut self, why: Leaving) {
+    pub fn leave(&mut self, why: Leaving) {
         *self = match (self.state, why) {
             (State::Member, Leaving::With(cause)) => self.emptied(State::Out(cause)),
             _ => self.listening_afresh(),

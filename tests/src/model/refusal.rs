@@ -22,3 +22,5 @@ pub const OUTPUT: u32 = 9;
 pub const TURN: u32 = 10;
 /// "restart of a node that is not out"
 pub const NOT_OUT: u32 = 11;
+/// "plan line unreadable or too long"
+pub const LINE: u32 = 12;

@@ -55,6 +55,11 @@ impl Set {
         self.0.count_ones()
     }
 
+    /// The numbers found in just one of the two.
+    pub fn distance(self, other: Set) -> u32 {
+        (self.0 ^ other.0).count_ones()
+    }
+
     /// Each of these nodes is one of the others.
     pub fn within(self, others: Set) -> bool {
         self.0 & !others.0 == 0
@@ -68,7 +73,8 @@ impl Set {
 
 /// The members before x, the nearest first, "going back round the ring in slot order".
 pub fn members_before(n: u32, set: Set, x: u32) -> impl Iterator<Item = u32> {
-    (1..n).map(move |back| (x + n - back - 1) % n + 1).filter(move |&y| set.has(y))
+    let node = move |back| if back < x { x - back } else { x + n - back };
+    (1..n).map(node).filter(move |&y| set.has(y))
 }
 
 /// "With c members, ks is the smaller of k and c - 1." Nobody is sponsored where there is no member.

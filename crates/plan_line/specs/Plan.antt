@@ -1,0 +1,140 @@
+-- Document 01, "The bench program" and "Causes and their numbers": what a plan line says. "A plan line is tested for 12 first"; "Plan numbers of
+-- readable form but wrong value give 1, 2 or 3."
+use Prim.Native.Nat.{ℕ, suc}
+use mathlib.Core.Bool.{Bool, true, false, cond, _&&_}
+use mathlib.Core.List.{List, [], _∷_}
+use lib.Dec.{leb}
+use lib.ListN.{length, drop}
+use Rattle.refusal.specs.declared.Refusal.{Refusal}
+use Rattle.refusal.specs.declared.Refusal.the-variants.{RingSize, SponsorCount, NodeNumber, PlanLine}
+use Rattle.nodeset.specs.Sets.{with}
+use Rattle.ring.specs.Ring.{ringSize, sponsorCount, nodeNumber}
+use Rattle.plan_line.specs.declared.Opening.{Opening}
+use Rattle.plan_line.specs.declared.Opening.the-variants as opening
+use Rattle.plan_line.specs.declared.Named.{Named}
+use Rattle.plan_line.specs.declared.Named.the-variants as named
+use Rattle.plan_line.specs.declared.Missed.{Missed}
+use Rattle.plan_line.specs.declared.Order.{Order}
+use Rattle.plan_line.specs.declared.Order.the-variants as order
+use Rattle.plan_line.specs.Words.{before, after, wordsOf, begins, same, isNumber, valueOf}
+
+-- "Lines of at most 120 bytes end in a line feed, itself not counted."
+abbrev pub shortEnough : List ℕ → Bool
+shortEnough line = leb (length line) 120
+
+-- ---- line one
+
+-- The opening where a test holds, and the refusal where it does not.
+abbrev pub ifOpened : Bool → Refusal → Opening → Opening
+ifOpened true cause opened = opened
+ifOpened false cause opened = opening.Refused cause
+
+-- n and k: 1 is tested before 2.
+unfoldable pub ringOf : ℕ → ℕ → Opening
+ringOf n k = ifOpened (ringSize n) RingSize (ifOpened (sponsorCount n k) SponsorCount (opening.Ring n k))
+
+-- Two words that should be numbers.
+unfoldable pub numbersOf : List ℕ → List ℕ → Opening
+numbersOf first second = ifOpened (isNumber first && isNumber second) PlanLine (ringOf (valueOf first) (valueOf second))
+
+-- "Line one: n, space, k."
+unfoldable pub openingOf : List ℕ → Opening
+openingOf line = ifOpened (shortEnough line) PlanLine (numbersOf (before line) (after line))
+
+-- ---- one node
+
+-- "Node number not 1 to n". A ring has at most 32 nodes, so that no number above 32 is one, whatever n is given.
+abbrev pub inRing : ℕ → ℕ → Bool
+inRing n a = nodeNumber n a && leb a 32
+
+abbrev pub ifNamed : Bool → Refusal → Named → Named
+ifNamed true cause found = found
+ifNamed false cause found = named.Refused cause
+
+-- What stands after `off ` or `on ` names a node.
+unfoldable pub namedOf : ℕ → List ℕ → Named
+namedOf n word = ifNamed (isNumber word) PlanLine (ifNamed (inRing n (valueOf word)) NodeNumber (named.Node (valueOf word)))
+
+-- ---- several nodes
+
+unfoldable pub allNumbers : List (List ℕ) → Bool
+allNumbers [] = true
+allNumbers (word ∷ words) = isNumber word && allNumbers words
+
+unfoldable pub valuesOf : List (List ℕ) → List ℕ
+valuesOf [] = []
+valuesOf (word ∷ words) = valueOf word ∷ valuesOf words
+
+-- "Numbers rising": each is more than the one before it. The first is at least `least`.
+unfoldable pub risingFrom : ℕ → List ℕ → Bool
+risingFrom least [] = true
+risingFrom least (a ∷ rest) = leb least a && risingFrom (suc a) rest
+
+unfoldable pub allInRing : ℕ → List ℕ → Bool
+allInRing n [] = true
+allInRing n (a ∷ rest) = inRing n a && allInRing n rest
+
+-- The set with each of these nodes.
+unfoldable pub withAll : ℕ → List ℕ → ℕ
+withAll set [] = set
+withAll set (a ∷ rest) = withAll (with set a) rest
+
+-- The order where a test holds, and the refusal where it does not.
+abbrev pub ifOrdered : Bool → Refusal → Order → Order
+ifOrdered true cause ordered = ordered
+ifOrdered false cause ordered = order.Refused cause
+
+-- What came of the words so far, with one node more; and what they say.
+abbrev pub joined : ℕ → Missed → ℕ → Missed
+joined n missed a = record { inside = missed .inside && inRing n a; set = with (missed .set) a }
+
+abbrev pub missedOrder : Missed → Order
+missedOrder missed = ifOrdered (missed .inside) NodeNumber (order.Miss (missed .set))
+
+-- "`miss a b` (numbers rising, at least one)": what stands after `miss `. A list that does not rise is unreadable, so that 12 is tested before 3.
+unfoldable pub missingOf : ℕ → List ℕ → Order
+missingOf n text =
+    ifOrdered (allNumbers (wordsOf text) && risingFrom 0 (valuesOf (wordsOf text))) PlanLine
+    (ifOrdered (allInRing n (valuesOf (wordsOf text))) NodeNumber
+    (order.Miss (withAll 0 (valuesOf (wordsOf text)))))
+
+-- ---- the lines after line one
+
+-- The plan words, each with the space that follows it: `ok`, `lost`, `miss `, `off `, `on `.
+abbrev pub okWord : List ℕ
+okWord = 111 ∷ 107 ∷ []
+
+abbrev pub lostWord : List ℕ
+lostWord = 108 ∷ 111 ∷ 115 ∷ 116 ∷ []
+
+abbrev pub missWord : List ℕ
+missWord = 109 ∷ 105 ∷ 115 ∷ 115 ∷ 32 ∷ []
+
+abbrev pub offWord : List ℕ
+offWord = 111 ∷ 102 ∷ 102 ∷ 32 ∷ []
+
+abbrev pub onWord : List ℕ
+onWord = 111 ∷ 110 ∷ 32 ∷ []
+
+-- "`off a` and `on a` switch or restart a node"
+abbrev pub offOrder : Named → Order
+offOrder (named.Node a) = order.Off a
+offOrder (named.Refused cause) = order.Refused cause
+
+abbrev pub onOrder : Named → Order
+onOrder (named.Node a) = order.On a
+onOrder (named.Refused cause) = order.Refused cause
+
+-- "Then `ok`, `lost`, `miss a b` (numbers rising, at least one) each run a slot; `off a` and `on a` switch or restart a node".
+unfoldable pub wordOf : ℕ → List ℕ → Order
+wordOf n line =
+    cond (same okWord line) order.Ok
+    (cond (same lostWord line) order.Lost
+    (cond (begins missWord line) (missingOf n (drop 5 line))
+    (cond (begins offWord line) (offOrder (namedOf n (drop 4 line)))
+    (cond (begins onWord line) (onOrder (namedOf n (drop 3 line)))
+    (order.Refused PlanLine)))))
+
+-- "Plan line unreadable or too long" is 12.
+unfoldable pub orderOf : ℕ → List ℕ → Order
+orderOf n line = ifOrdered (shortEnough line) PlanLine (wordOf n line)

@@ -1,0 +1,70 @@
+-- Document 01, "The bench program": the words and the numbers of a plan line. A line is the list of its bytes, without the line feed.
+use Prim.Native.Nat.{ℕ, suc, _+_, _-_, _*_}
+use mathlib.Core.Bool.{Bool, true, false, cond, not, _&&_}
+use mathlib.Core.List.{List, [], _∷_}
+use lib.Dec.{eqb, ltb, leb}
+use lib.ListN.{length, getD, take, drop}
+
+-- ---- words
+
+-- How many bytes stand before the first space (byte 32), all where there is none.
+unfoldable pub gap : List ℕ → ℕ
+gap [] = 0
+gap (byte ∷ rest) = cond (eqb byte 32) 0 (suc (gap rest))
+
+-- The bytes before the first space, and those after it (none where there is no space).
+abbrev pub before : List ℕ → List ℕ
+before line = take (gap line) line
+
+abbrev pub after : List ℕ → List ℕ
+after line = drop (suc (gap line)) line
+
+-- The first word is longer by a byte.
+abbrev pub longer : ℕ → List (List ℕ) → List (List ℕ)
+longer byte [] = (byte ∷ []) ∷ []
+longer byte (word ∷ words) = (byte ∷ word) ∷ words
+
+-- "Single spaces": the words that spaces part. A space at an end, and a second one in a row, part off an empty word, which is no number.
+unfoldable pub wordsOf : List ℕ → List (List ℕ)
+wordsOf [] = [] ∷ []
+wordsOf (byte ∷ rest) = cond (eqb byte 32) ([] ∷ wordsOf rest) (longer byte (wordsOf rest))
+
+-- "Plan words compared with fixed byte strings": the line begins with the bytes of a word; it is just these.
+unfoldable pub begins : List ℕ → List ℕ → Bool
+begins [] line = true
+begins (byte ∷ word) [] = false
+begins (byte ∷ word) (other ∷ line) = eqb byte other && begins word line
+
+abbrev pub same : List ℕ → List ℕ → Bool
+same word line = eqb (length word) (length line) && begins word line
+
+-- ---- numbers
+
+-- Bytes 48 to 57 are the digits 0 to 9.
+abbrev pub isDigit : ℕ → Bool
+isDigit byte = leb 48 byte && leb byte 57
+
+unfoldable pub allDigits : List ℕ → Bool
+allDigits [] = true
+allDigits (byte ∷ rest) = isDigit byte && allDigits rest
+
+-- More digits follow a first 0.
+abbrev pub leadingZero : List ℕ → Bool
+leadingZero word = ltb 1 (length word) && eqb (getD word 0 0) 48
+
+-- "Decimal, no leading zeros": digits, at least one. A number may be of any length.
+unfoldable pub isNumber : List ℕ → Bool
+isNumber word = ltb 0 (length word) && (not (leadingZero word) && allDigits word)
+
+-- The number that digits stand for, after digits that stand for `high`.
+unfoldable pub valueFrom : ℕ → List ℕ → ℕ
+valueFrom high [] = high
+valueFrom high (byte ∷ rest) = valueFrom (high * 10 + (byte - 48)) rest
+
+abbrev pub valueOf : List ℕ → ℕ
+valueOf word = valueFrom 0 word
+
+-- The least number that may follow a word where "numbers rising" is asked: any where there is no word before.
+abbrev pub leastAfter : List ℕ → ℕ
+leastAfter [] = 0
+leastAfter (byte ∷ rest) = suc (valueOf (byte ∷ rest))

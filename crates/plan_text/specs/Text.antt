@@ -1,0 +1,86 @@
+-- Document 01, "The bench program": the text of what the program prints, as the list of its bytes, and what writing it into lent bytes leaves.
+use Prim.Native.Nat.{ℕ, zero, suc, _+_, _/_, _%_}
+use mathlib.Core.Path.{_≡_}
+use mathlib.Core.Bool.{cond}
+use mathlib.Core.List.{List, [], _∷_, _++_}
+use lib.Dec.{ltb, leb}
+use lib.ListN.{length, take, drop}
+use Rattle.refusal.specs.declared.Refusal.the-variants.{OutputShort}
+use Rattle.plan_text.specs.declared.Fate.{Fate}
+use Rattle.plan_text.specs.declared.Fate.the-variants.{Silent, Lost, Knock, Sent}
+use Rattle.plan_text.specs.declared.Shown.{Shown}
+use Rattle.plan_text.specs.declared.Shown.the-variants.{Set, Nobody}
+use Rattle.plan_text.specs.declared.Written.{Written}
+use Rattle.plan_text.specs.declared.Written.the-variants.{Bytes, Refused}
+
+-- ---- numbers
+
+-- The byte of a digit: `0` to `9`, then `a` to `f`.
+abbrev pub glyph : ℕ → ℕ
+glyph digit = cond (ltb digit 10) (48 + digit) (87 + digit)
+
+-- The last `count` digits of a number in a base, the highest first.
+unfoldable pub digits : ℕ → ℕ → ℕ → List ℕ
+digits base zero x = []
+digits base (suc count) x = digits base count (x / base) ++ (glyph (x % base) ∷ [])
+
+-- How many decimal digits a number takes, if these are at most one more than `more`.
+unfoldable pub places : ℕ → ℕ → ℕ
+places zero x = 1
+places (suc more) x = cond (ltb x 10) 1 (suc (places more (x / 10)))
+
+-- "Decimal, no leading zeros". A number below 10 ^ 20 has at most 20 digits. (It is read back by the definitions of plan lines: proofs/ReadBack.)
+unfoldable pub decimal : ℕ → List ℕ
+decimal x = digits 10 (places 19 x) x
+
+-- A number, and the byte after it.
+abbrev pub numberThen : ℕ → ℕ → List ℕ
+numberThen byte x = decimal x ++ (byte ∷ [])
+
+-- ---- a slot: each part has the space after it
+
+-- "Fate (`silent` if nothing is sent ..; else `lost` if lost, ..; else `knock` or `sent`)": `silent `, `lost `, `knock `, `sent `
+abbrev pub fateText : Fate → List ℕ
+fateText Silent = 115 ∷ 105 ∷ 108 ∷ 101 ∷ 110 ∷ 116 ∷ 32 ∷ []
+fateText Lost = 108 ∷ 111 ∷ 115 ∷ 116 ∷ 32 ∷ []
+fateText Knock = 107 ∷ 110 ∷ 111 ∷ 99 ∷ 107 ∷ 32 ∷ []
+fateText Sent = 115 ∷ 101 ∷ 110 ∷ 116 ∷ 32 ∷ []
+
+-- "The set of the lowest-numbered member as eight hexadecimal digits (node 1 is the lowest bit; `--------` if none)"
+abbrev pub shownText : Shown → List ℕ
+shownText (Set set) = digits 16 8 set ++ (32 ∷ [])
+shownText Nobody = 45 ∷ 45 ∷ 45 ∷ 45 ∷ 45 ∷ 45 ∷ 45 ∷ 45 ∷ 32 ∷ []
+
+-- "Each slot prints: slot, sender, fate .., the set .., the greatest distance"; 10 is the line feed.
+unfoldable pub slotText : ℕ → ℕ → Fate → Shown → ℕ → List ℕ
+slotText slot sender fate shown distance =
+    numberThen 32 slot ++ numberThen 32 sender ++ fateText fate ++ shownText shown ++ numberThen 10 distance
+
+-- ---- a refusal
+
+-- `line ` and `refusal `
+abbrev pub lineWord : List ℕ
+lineWord = 108 ∷ 105 ∷ 110 ∷ 101 ∷ 32 ∷ []
+
+abbrev pub refusalWord : List ℕ
+refusalWord = 114 ∷ 101 ∷ 102 ∷ 117 ∷ 115 ∷ 97 ∷ 108 ∷ 32 ∷ []
+
+-- "A refused line prints `line L refusal N`"
+unfoldable pub refusalText : ℕ → ℕ → List ℕ
+refusalText line cause = lineWord ++ numberThen 32 line ++ refusalWord ++ numberThen 10 cause
+
+-- ---- writing
+
+-- Lent bytes with a text at a place: the bytes before it and after it are as they were.
+unfoldable pub pasted : List ℕ → ℕ → List ℕ → List ℕ
+pasted out at text = take at out ++ (text ++ drop (at + length text) out)
+
+-- A text was put at a place, and the next place told.
+pub record PutAt (next at : ℕ) (text before after : List ℕ) : Type 0 where
+  pub end : next ≡ at + length text
+  pub bytes : after ≡ pasted before at text
+
+-- What comes of writing a line: the number of its bytes, and all of the lent bytes afterwards. "Lent output too short" is 9: 80 bytes from the place on
+-- hold every line. It leaves "every byte" as it was.
+unfoldable pub writtenOf : List ℕ → ℕ → List ℕ → Written × List ℕ
+writtenOf text at out = cond (leb (at + 80) (length out)) (Bytes (length text), pasted out at text) (Refused OutputShort, out)

@@ -1,0 +1,118 @@
+//! The refusals of the bench's calls and the pairs of a slot, typed from document 01.
+
+use comparison::model::bench::{self, Call, Document01, Fate, Kind};
+use comparison::model::node::{Node, State};
+use comparison::model::ring::{Set, LIMIT};
+use comparison::report::Count;
+
+fn table(n: u32, k: u32) -> Vec<Node> {
+    bench::set_up(n, k, n as usize).expect("n and k are in range")
+}
+
+/// Set-up: 1, 2, then 4 for a table that has not one record per node.
+pub fn set_up(count: &mut Count) -> Result<(), String> {
+    #[rustfmt::skip]
+    let sizes = [
+        (2, 9, 2, 1), (33, 0, 33, 1), (4, 1, 4, 2), (4, 4, 9, 2), (4, 2, 3, 4), (4, 2, 5, 4), (4, 2, 0, 4),
+        (3, 2, 3, 0), (4, 3, 4, 0), (32, 31, 32, 0),
+    ];
+    for (n, k, length, expected) in sizes {
+        count.expected(expected);
+        let got = bench::set_up(n, k, length).map(|nodes| nodes.len());
+        let same = got == if expected == 0 { Ok(n as usize) } else { Err(expected) };
+        count.check(same, || format!("set-up {n} {k}, table of {length}: {got:?}, not {expected}"))?;
+    }
+    Ok(())
+}
+
+/// Tables that are not "one per node in number order, all with the same n, k and slot count", or hold a
+/// record that is not sound.
+fn bad_tables() -> Vec<Vec<Node>> {
+    let changed = |change: fn(&mut Vec<Node>)| {
+        let mut nodes = table(4, 2);
+        change(&mut nodes);
+        nodes
+    };
+    vec![
+        changed(|nodes| nodes.clear()),
+        changed(|nodes| nodes.truncate(3)),
+        changed(|nodes| nodes.push(nodes[3])),
+        changed(|nodes| nodes.swap(0, 3)),
+        changed(|nodes| nodes[2] = nodes[1]),
+        changed(|nodes| nodes[3].slots = 1),
+        changed(|nodes| nodes[1].k = 3),
+        changed(|nodes| nodes[0] = table(5, 2)[0]),
+        changed(|nodes| nodes[3].marks = Set(0x10)),
+        changed(|nodes| nodes[0].state = State::Following),
+    ]
+}
+
+/// A refused call gives this number and leaves the table as it was.
+fn refused(
+    count: &mut Count,
+    nodes: &[Node],
+    expected: u32,
+    call: impl Fn(&mut [Node]) -> Result<(), u32>,
+) -> Result<(), String> {
+    count.expected(expected);
+    let mut after = nodes.to_vec();
+    let got = call(&mut after);
+    count.check(got == Err(expected) && after == nodes, || format!("{got:?}, expected refusal {expected}"))
+}
+
+/// "Checks run in table order, except that .. 4 comes just before 3 where n is taken from a record."
+pub fn refusals(count: &mut Count) -> Result<(), String> {
+    let slot = |missed, room| move |nodes: &mut [Node]| bench::slot(nodes, false, missed, room).map(|_| ());
+    for nodes in bad_tables() {
+        refused(count, &nodes, 4, slot(Set(0x80), 0))?;
+        refused(count, &nodes, 4, |nodes| bench::off(nodes, 9))?;
+        refused(count, &nodes, 4, |nodes| bench::restart(nodes, 9))?;
+    }
+    let mut nodes = table(4, 2);
+    refused(count, &nodes, 9, slot(Set(0xf), 63))?;
+    refused(count, &nodes, 11, |nodes| bench::restart(nodes, 4))?;
+    nodes.iter_mut().for_each(|node| node.slots = LIMIT);
+    refused(count, &nodes, 3, slot(Set(0x10), 0))?;
+    refused(count, &nodes, 5, slot(Set(0xf), 0))?;
+    for x in [0, 5, 33, u32::MAX] {
+        refused(count, &nodes, 3, |nodes| bench::off(nodes, x))?;
+        refused(count, &nodes, 3, |nodes| bench::restart(nodes, x))?;
+    }
+    // "Off and restart don't test 5."
+    let switched = bench::off(&mut nodes, 1).and_then(|()| bench::restart(&mut nodes, 1));
+    count.check(switched == Ok(()), || format!("off and restart at the limit: {switched:?}"))
+}
+
+/// A slot, its fate and its pairs.
+type Changed = (u64, Fate, &'static [(u32, Kind)]);
+
+/// A run in which node 3 of four goes and comes back, its first knock lost; k is 2. In all other slots no
+/// state changes.
+#[rustfmt::skip]
+const CHANGES: &[Changed] = &[
+    (13, Fate::Sent, &[(3, Kind::Follows)]),
+    (15, Fate::Lost, &[(3, Kind::Knocked)]),
+    (18, Fate::Sent, &[(3, Kind::FollowsAgain)]),
+    (19, Fate::Knock, &[(3, Kind::Knocked)]),
+    (22, Fate::Sent, &[(3, Kind::Joined)]),
+    (23, Fate::Lost, &[]),
+    (25, Fate::Sent, &[(3, Kind::Left)]),
+];
+
+pub fn changes(count: &mut Count) -> Result<(), String> {
+    let mut nodes = table(4, 2);
+    let mut run = |call| bench::run(&Document01, &mut nodes, call).expect("no call is refused");
+    run(Call::Off(3));
+    for number in 1..=30 {
+        if number == 6 {
+            run(Call::Restart(3));
+        }
+        let lost = [15, 23].contains(&number);
+        let slot = run(Call::Slot { lost, missed: Set::EMPTY }).expect("a slot");
+        let expected = CHANGES.iter().find(|row| row.0 == number);
+        let same = expected.is_none_or(|row| row.1 == slot.fate)
+            && slot.changes == expected.map_or(&[][..], |row| row.2);
+        count.check(same, || format!("slot {number}: {:?} {:?}", slot.fate, slot.changes))?;
+    }
+    Ok(())
+}

@@ -1,0 +1,165 @@
+//! Rules with one change each. Under the premises each of them must break demand 3.
+
+use comparison::model::bench::Rules;
+use comparison::model::node::{Cause, Leaving, Node, Said, State};
+use comparison::model::ring::{self, Set};
+
+#[derive(Clone, Copy, PartialEq, Eq, Debug)]
+pub enum Mutant {
+    /// The own mark stays on in the own slot.
+    OwnMarkStays,
+    /// A return bit of 1 heard while returning is 0 is ignored.
+    NoCause3,
+    /// The return bit is always sent as 0.
+    NoReturnBit,
+    /// A knocking node joins without a return bit heard.
+    JoinsUnheard,
+    /// Sponsors are counted back by node number, gaps included.
+    SponsorsByNumber,
+    /// The decision falls out where the sender is not heard.
+    NoDecisionUnheard,
+    /// One clean window is enough.
+    OneWindow,
+    /// Two clean windows in a row are enough, whatever nodes were heard in them.
+    UnequalWindows,
+}
+
+use Mutant::*;
+
+/// All of them, with the names that the report shows.
+pub const ALL: [(Mutant, &str); 8] = [
+    (OwnMarkStays, "claim fails: the own mark stays on in the own slot"),
+    (NoCause3, "claim fails: no leaving with cause 3"),
+    (NoReturnBit, "claim fails: the return bit is never sent"),
+    (JoinsUnheard, "claim fails: a knocking node joins unheard"),
+    (SponsorsByNumber, "claim fails: sponsors counted by number across gaps"),
+    (NoDecisionUnheard, "claim fails: no decision where the sender is not heard"),
+    (OneWindow, "claim fails: one clean window is enough"),
+    (UnequalWindows, "claim fails: two unequal clean windows are enough"),
+];
+
+impl Rules for Mutant {
+    fn says(&self, node: &Node) -> Option<Said> {
+        let (acks, return_bit) = node.says()?;
+        match self {
+            NoReturnBit => Some((acks, false)),
+            SponsorsByNumber if node.state == State::Member => Some((acks_by_number(node), return_bit)),
+            _ => Some((acks, return_bit)),
+        }
+    }
+
+    fn step(&self, node: &Node, heard: Option<Said>) -> Node {
+        let mut node = *node;
+        match (self, node.state) {
+            (OwnMarkStays, State::Member) => own_mark_stays(&node, heard),
+            (JoinsUnheard, State::Knocking) => {
+                node.return_heard = true;
+                node.step(heard)
+            }
+            (OneWindow | UnequalWindows, State::Listening) => {
+                self.other_windows(&mut node, heard.is_some());
+                node.step(heard)
+            }
+            (NoCause3, State::Member | State::Following) => {
+                let returning = node.returning != 0;
+                node.step(heard.map(|(acks, return_bit)| (acks, return_bit && returning)))
+            }
+            (SponsorsByNumber | NoDecisionUnheard, State::Member | State::Following | State::Knocking) => {
+                self.stepped(node, heard)
+            }
+            _ => node.step(heard),
+        }
+    }
+}
+
+fn next_sender(node: &Node) -> u32 {
+    ring::sender(node.n, node.slots + 1)
+}
+
+fn own_mark_stays(node: &Node, heard: Option<Said>) -> Node {
+    let mut next = node.step(heard);
+    if next.state == State::Member && next_sender(node) == node.own {
+        next.marks = next.marks.with(node.own);
+    }
+    next
+}
+
+/// The nodes before x by number: as many as a member sponsors, members or not.
+fn by_number(node: &Node, x: u32) -> impl Iterator<Item = u32> {
+    ring::members_before(node.n, Set::full(node.n), x).take(ring::ks(node.k, node.set) as usize)
+}
+
+fn acks_by_number(node: &Node) -> u32 {
+    by_number(node, node.own).enumerate().fold(0, |acks, (bit, x)| acks | u32::from(node.marks.has(x)) << bit)
+}
+
+/// The same acknowledgements in the places that the rules give them.
+fn acks_by_member(node: &Node, sender: u32, acks: u32) -> u32 {
+    let said_yes = |x| by_number(node, sender).position(|y| y == x).is_some_and(|bit| acks >> bit & 1 == 1);
+    let sponsored = ring::sponsored(node.n, node.k, node.set, sender);
+    sponsored.enumerate().fold(0, |acks, (bit, x)| acks | u32::from(said_yes(x)) << bit)
+}
+
+impl Mutant {
+    /// At the end of a window: the last one counts as clean and as equal.
+    fn other_windows(self, node: &mut Node, heard: bool) {
+        let data = &mut node.listening;
+        let sender = ring::sender(node.n, node.slots + 1);
+        let last_slot = data.done + 1 == node.n;
+        if last_slot && (self == OneWindow || data.last != Set::EMPTY) {
+            data.last = if heard { data.heard.with(sender) } else { data.heard };
+        }
+    }
+
+    /// One slot with the steps as they stand, but for the changed ones.
+    fn stepped(self, mut node: Node, heard: Option<Said>) -> Node {
+        let sender = next_sender(&node);
+        node.slots += 1;
+        if let Err(why) = self.steps(&mut node, sender, heard) {
+            node.leave(why);
+        }
+        node
+    }
+
+    fn steps(self, node: &mut Node, sender: u32, heard: Option<Said>) -> Result<(), Leaving> {
+        let in_set = node.set.has(sender);
+        if in_set {
+            self.step_1(node, sender, heard)?;
+        } else {
+            node.step_2(sender, heard);
+        }
+        if in_set {
+            self.step_3(node, sender, heard)?;
+        }
+        node.enough_members()?;
+        node.step_4()?;
+        if in_set {
+            node.step_5(sender);
+        }
+        Ok(())
+    }
+
+    fn step_1(self, node: &mut Node, sender: u32, heard: Option<Said>) -> Result<(), Leaving> {
+        match heard {
+            Some((acks, return_bit)) if self == SponsorsByNumber => {
+                node.step_1(sender, Some((acks_by_member(node, sender, acks), return_bit)))
+            }
+            _ => node.step_1(sender, heard),
+        }
+    }
+
+    fn step_3(self, node: &mut Node, sender: u32, heard: Option<Said>) -> Result<(), Leaving> {
+        if self == NoDecisionUnheard {
+            let decides = heard.is_some() || sender == node.own;
+            return if decides { node.step_3(sender) } else { Ok(()) };
+        }
+        match by_number(node, sender).last() {
+            Some(x) if x == node.own && !node.marks.has(x) => Err(Leaving::With(Cause::Unconfirmed)),
+            Some(x) if !node.marks.has(x) => {
+                node.set = node.set.without(x);
+                Ok(())
+            }
+            _ => Ok(()),
+        }
+    }
+}

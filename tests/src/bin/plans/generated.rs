@@ -1,0 +1,141 @@
+//! Plans drawn line by line with the table before each line in view.
+
+use super::compare::{compare, SLOTS};
+use comparison::adversary::{those, Adversary};
+use comparison::lasting::Lasting;
+use comparison::model::bench::{Kind, Slot};
+use comparison::model::node::State;
+use comparison::plan::Plan;
+use comparison::random::Random;
+use comparison::report::Count;
+
+const CHANGES: &[&str] = &[
+    "change: 1, left",
+    "change: 2, listening to following",
+    "change: 3, knocked",
+    "change: 4, joined",
+    "change: 5, knocking to following",
+    "change: 6, to listening",
+];
+
+fn note_changes(count: &mut Count, slot: &Slot) {
+    for &(_, kind) in &slot.changes {
+        count.event(match kind {
+            Kind::Left => "change: 1, left",
+            Kind::Follows => "change: 2, listening to following",
+            Kind::Knocked => "change: 3, knocked",
+            Kind::Joined => "change: 4, joined",
+            Kind::FollowsAgain => "change: 5, knocking to following",
+            Kind::Listens => "change: 6, to listening",
+        });
+    }
+}
+
+/// A plan of so many lines after the first; no line of it is refused.
+pub fn plan(count: &mut Count, adversary: &mut Adversary, n: u32, k: u32, lines: u64) -> Plan {
+    let mut plan = Plan::new(n, k);
+    adversary.calm_down(n);
+    for _ in 0..lines {
+        let call = adversary.next(&plan.nodes);
+        if let Some(slot) = plan.push(call) {
+            note_changes(count, &slot);
+        }
+    }
+    plan
+}
+
+/// k of this n: often 2 or 3.
+pub fn any_k(random: &mut Random, n: u32) -> u32 {
+    let most = if random.bit() { n - 1 } else { 3.min(n - 1) };
+    random.within(2, u64::from(most)) as u32
+}
+
+/// Two plans in five end with a line that is refused, and lines after it.
+fn end(random: &mut Random, plan: &mut Plan) {
+    let n = plan.nodes[0].n;
+    let line = match random.below(20) {
+        0 => format!("off {}", wrong_node(random, n)),
+        1 => format!("on {}", wrong_node(random, n)),
+        2 => format!("miss {} {}", random.within(1, u64::from(n)), n + 1),
+        3 => format!("miss {} {}", random.below(u64::from(n) + 3), random.below(u64::from(n) + 3)),
+        4 => ["", "o", "ok ", "lost x", "miss", "off", "on"][random.below(7) as usize].to_string(),
+        5..=7 => {
+            let not_out = those(&plan.nodes, |node| !matches!(node.state, State::Out(_)));
+            match not_out.nodes().nth(random.below(u64::from(n)) as usize) {
+                Some(x) => format!("on {x}"),
+                None => return,
+            }
+        }
+        _ => return,
+    };
+    plan.text.extend(line.as_bytes());
+    plan.text.extend(b"\nok\nlost\noff 1\non 1\nok\n");
+}
+
+fn wrong_node(random: &mut Random, n: u32) -> u32 {
+    [0, n + 1, n + 2, 64, 257, u32::MAX][random.below(6) as usize]
+}
+
+fn compare_drawn(count: &mut Count, adversary: &mut Adversary, n: u32, k: u32) -> Result<(), String> {
+    let lines = adversary.random.within(u64::from(n), 10 * u64::from(n));
+    let mut plan = plan(count, adversary, n, k, lines);
+    end(&mut adversary.random, &mut plan);
+    compare(count, &plan.text)
+}
+
+/// Twelve plans for each n and k.
+pub fn every_n_and_k(count: &mut Count) -> Result<(), String> {
+    let mut adversary = Adversary::new(41);
+    for n in 3..=32 {
+        for k in 2..n {
+            for _ in 0..12 {
+                compare_drawn(count, &mut adversary, n, k)?;
+            }
+        }
+    }
+    count.needs(SLOTS)?;
+    count.needs(CHANGES)
+}
+
+/// 15,000 plans for n from 3 to 9: each is short, but long enough to leave, return and leave again.
+pub fn small_rings(count: &mut Count) -> Result<(), String> {
+    let mut adversary = Adversary::new(42);
+    for i in 0..15_000 {
+        let n = 3 + i % 7;
+        let k = any_k(&mut adversary.random, n);
+        compare_drawn(count, &mut adversary, n, k)?;
+    }
+    count.needs(SLOTS)?;
+    count.needs(CHANGES)
+}
+
+/// What plans that live on must meet.
+const OF_LASTING: &[&str] = &[
+    "change: 1, left",
+    "change: 2, listening to following",
+    "change: 3, knocked",
+    "change: 4, joined",
+    "change: 5, knocking to following",
+    "slot: silent",
+    "slot: lost",
+    "slot: knock",
+    "slot: sent",
+];
+
+/// A few plans of 50,000 lines in which the nodes go and come back all the time, each with a refused line
+/// at its end.
+pub fn long(count: &mut Count) -> Result<(), String> {
+    for (n, k) in [(3, 2), (5, 2), (9, 4), (32, 3)] {
+        let mut lasting = Lasting::new(u64::from(n));
+        let mut plan = Plan::new(n, k);
+        for _ in 0..50_000 {
+            let call = lasting.next(&plan.nodes);
+            if let Some(slot) = plan.push(call) {
+                note_changes(count, &slot);
+            }
+        }
+        plan.text.extend(b"off 99\n");
+        compare(count, &plan.text)?;
+    }
+    count.needs(OF_LASTING)
+}

@@ -1,0 +1,220 @@
+//! Document 01, "The bench". The calls take a table of records and change it; a refused call gives the
+//! number of the refusal and leaves the table as it was.
+
+use super::node::{Node, Said, State};
+use super::refusal;
+use super::ring::{self, Set};
+
+/// "a lent buffer of at least 64 bytes"
+pub const ROOM: usize = 64;
+
+/// What the nodes do. The bench itself is the same for all of them: a test can try other rules on it.
+pub trait Rules {
+    /// What a node says in the next slot, if it sends.
+    fn says(&self, node: &Node) -> Option<Said>;
+    /// A record after the next slot, in which this was heard.
+    fn step(&self, node: &Node, heard: Option<Said>) -> Node;
+}
+
+/// The rules as they stand.
+pub struct Document01;
+
+impl Rules for Document01 {
+    fn says(&self, node: &Node) -> Option<Said> {
+        node.says()
+    }
+
+    fn step(&self, node: &Node, heard: Option<Said>) -> Node {
+        node.step(heard)
+    }
+}
+
+/// "`silent` if nothing is sent, also on a `lost` line; else `lost` if lost, a knock included; else
+/// `knock` or `sent`"
+#[derive(Clone, Copy, PartialEq, Eq, Debug)]
+pub enum Fate {
+    Silent,
+    Lost,
+    Knock,
+    Sent,
+}
+
+/// "1 left, 2 listening to following, 3 knocked, 4 joined, 5 knocking to following, 6 to listening from
+/// following or knocking"
+#[derive(Clone, Copy, PartialEq, Eq, Debug)]
+pub enum Kind {
+    Left = 1,
+    Follows = 2,
+    Knocked = 3,
+    Joined = 4,
+    FollowsAgain = 5,
+    Listens = 6,
+}
+
+/// What happened in a slot: its message, and each node whose state changed, by rising number.
+pub struct Slot {
+    pub sender: u32,
+    pub fate: Fate,
+    pub changes: Vec<(u32, Kind)>,
+}
+
+/// "Demand 3's calls are the bench's slot, off and restart"
+#[derive(Clone, Copy, PartialEq, Eq)]
+pub enum Call {
+    Slot { lost: bool, missed: Set },
+    Off(u32),
+    Restart(u32),
+}
+
+/// "All start as members", a record for each node in the lent table of this length.
+pub fn set_up(n: u32, k: u32, length: usize) -> Result<Vec<Node>, u32> {
+    let first = Node::set_up(n, k, 1)?;
+    if length != n as usize {
+        return Err(refusal::UNSOUND);
+    }
+    Ok((1..=n).map(|own| Node { own, ..first }).collect())
+}
+
+/// "one per node in number order, all with the same n, k and slot count", each of them sound
+pub fn check_table(nodes: &[Node]) -> Result<(), u32> {
+    let Some(first) = nodes.first() else { return Err(refusal::UNSOUND) };
+    let alike = |node: &Node| (node.n, node.k, node.slots) == (first.n, first.k, first.slots);
+    let in_order = nodes.iter().zip(1..).all(|(node, number)| node.own == number);
+    let whole = nodes.len() == first.n as usize && in_order;
+    if whole && nodes.iter().all(|node| alike(node) && node.is_sound()) {
+        Ok(())
+    } else {
+        Err(refusal::UNSOUND)
+    }
+}
+
+/// "node number not 1 to n"
+fn check_node(nodes: &[Node], x: u32) -> Result<(), u32> {
+    if ring::is_node(nodes[0].n, x) {
+        Ok(())
+    } else {
+        Err(refusal::NODE)
+    }
+}
+
+fn check_slot(nodes: &[Node], missed: Set, room: usize) -> Result<(), u32> {
+    check_table(nodes)?;
+    if !missed.within(Set::full(nodes[0].n)) {
+        return Err(refusal::NODE);
+    }
+    if nodes[0].slots == ring::LIMIT {
+        return Err(refusal::LIMIT);
+    }
+    if room < ROOM {
+        return Err(refusal::OUTPUT);
+    }
+    Ok(())
+}
+
+/// One slot: the message is lost to all or not, and these nodes miss it; `room` is the length of the
+/// lent buffer.
+pub fn slot(nodes: &mut [Node], lost: bool, missed: Set, room: usize) -> Result<Slot, u32> {
+    check_slot(nodes, missed, room)?;
+    Ok(run_slot(&Document01, nodes, lost, missed))
+}
+
+/// "`off` works in every state, giving cause 4."
+pub fn off(nodes: &mut [Node], x: u32) -> Result<(), u32> {
+    check_table(nodes)?;
+    check_node(nodes, x)?;
+    let node = &mut nodes[x as usize - 1];
+    *node = node.off()?;
+    Ok(())
+}
+
+/// "Restart takes a node from out to listening."
+pub fn restart(nodes: &mut [Node], x: u32) -> Result<(), u32> {
+    check_table(nodes)?;
+    check_node(nodes, x)?;
+    let node = &mut nodes[x as usize - 1];
+    *node = node.restart()?;
+    Ok(())
+}
+
+/// Any of the calls, by these rules; what happened, if it is a slot.
+pub fn run(rules: &impl Rules, nodes: &mut [Node], call: Call) -> Result<Option<Slot>, u32> {
+    match call {
+        Call::Slot { lost, missed } => {
+            check_slot(nodes, missed, ROOM)?;
+            Ok(Some(run_slot(rules, nodes, lost, missed)))
+        }
+        Call::Off(x) => off(nodes, x).map(|()| None),
+        Call::Restart(x) => restart(nodes, x).map(|()| None),
+    }
+}
+
+/// The sender of the table's next slot.
+pub fn next_sender(nodes: &[Node]) -> u32 {
+    ring::sender(nodes[0].n, nodes[0].slots + 1)
+}
+
+/// One slot of a table that is as it must be and below the limit.
+fn run_slot(rules: &impl Rules, nodes: &mut [Node], lost: bool, missed: Set) -> Slot {
+    let sender = next_sender(nodes);
+    let speaker = &nodes[sender as usize - 1];
+    let said = rules.says(speaker);
+    let fate = fate(speaker, said, lost);
+    // "A lost message is heard by nobody, named or not."
+    let said = if lost { None } else { said };
+    let mut changes = Vec::new();
+    for node in nodes {
+        // "A sender or silent slot is unaffected by being named." What it says the sender does not hear.
+        let hears = node.own != sender && !missed.has(node.own);
+        let next = rules.step(node, if hears { said } else { None });
+        if let Some(kind) = change(node.state, next.state) {
+            changes.push((node.own, kind));
+        }
+        *node = next;
+    }
+    Slot { sender, fate, changes }
+}
+
+/// What becomes of the message of this node, whose slot it is.
+fn fate(speaker: &Node, said: Option<Said>, lost: bool) -> Fate {
+    match (said, speaker.state) {
+        (None, _) => Fate::Silent,
+        _ if lost => Fate::Lost,
+        (_, State::Member) => Fate::Sent,
+        _ => Fate::Knock,
+    }
+}
+
+/// The kind of a change of state in one slot.
+fn change(before: State, after: State) -> Option<Kind> {
+    match (before, after) {
+        (State::Member, State::Out(_)) => Some(Kind::Left),
+        (State::Listening, State::Following) => Some(Kind::Follows),
+        (State::Following, State::Knocking) => Some(Kind::Knocked),
+        (State::Knocking, State::Member) => Some(Kind::Joined),
+        (State::Knocking, State::Following) => Some(Kind::FollowsAgain),
+        (State::Following | State::Knocking, State::Listening) => Some(Kind::Listens),
+        _ => None,
+    }
+}
+
+/// The sets of the nodes in the member state, by rising number.
+pub fn member_sets(nodes: &[Node]) -> impl Iterator<Item = Set> + '_ {
+    nodes.iter().filter(|node| node.state == State::Member).map(|node| node.set)
+}
+
+/// "*The list* is the set of the lowest-numbered member-state node": none if there is no such node.
+pub fn list(nodes: &[Node]) -> Option<Set> {
+    member_sets(nodes).next()
+}
+
+/// "the greatest distance between sets of two members (0 if fewer than two)"
+pub fn greatest_distance(nodes: &[Node]) -> u32 {
+    let sets: Vec<Set> = member_sets(nodes).collect();
+    let mut greatest = 0;
+    for (i, set) in sets.iter().enumerate() {
+        for other in &sets[i + 1..] {
+            greatest = greatest.max(set.distance(*other));
+        }
+    }
+    greatest
+}
