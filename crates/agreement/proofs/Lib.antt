@@ -24,3 +24,4 @@ pub mod Leaving
 pub mod Beginnings
 pub mod Kept
 pub mod Demanded
+pub mod Throughout

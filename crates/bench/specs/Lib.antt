@@ -3,3 +3,4 @@ pub mod Calls
 pub mod Pairs
 pub mod Runs
 pub mod Demand
+pub mod Computed

@@ -1,0 +1,20 @@
+-- All the definitions that a run is computed from, to be unfolded together by the line `unfolding computed`.
+use mathlib.Core.Bool.{xor}
+use Rattle.nodeset.specs.Sums.{sum}
+use Rattle.nodeset.specs.Sets.{has, with, without, full, subset, size, distance, runFrom}
+use Rattle.ring.specs.Ring.{sender, previous, walk, memberBefore, sponsored, decided}
+use Rattle.record.specs.Soundness.{sound}
+use Rattle.changes.specs.Changes.{leave}
+use Rattle.steps.specs.Steps.{confirmed, noted, join, settle, judged, insideSlot, outsideSlot, trackingSlot}
+use Rattle.hearing.specs.Hearing.{clean, windowEnd, listeningSlot}
+use Rattle.sending.specs.Sending.{markBits, bitsSent}
+use Rattle.node.specs.Slot as slot
+use Rattle.node.specs.Calls as node
+use Rattle.bench.specs.Table.{recordOf, eachFrom, placedFrom, tableSound, slotsOf, speaker}
+use Rattle.bench.specs.Calls.{setUpOf, transmits, spoken, heardBy, afterSlot, slotOf, offOf, restartOf, listIn, farthest, greatest, fateOf}
+use Rattle.bench.specs.Runs.{callOf, tableAfter, isSlot, listOf, isListed, misses, failuresIn, entry}
+use Rattle.bench.specs.Demand.{next, onwards, isDeciding, isDecided}
+
+unfoldable pub computed : Unit {0}
+unfolding xor sum has with without full subset size distance runFrom sender previous walk memberBefore sponsored decided sound leave confirmed noted join settle judged insideSlot outsideSlot trackingSlot clean windowEnd listeningSlot markBits bitsSent slot.afterSlot node.stepOf node.offOf node.restartOf recordOf eachFrom placedFrom tableSound slotsOf speaker setUpOf transmits spoken heardBy afterSlot slotOf offOf restartOf listIn farthest greatest fateOf callOf tableAfter isSlot listOf isListed misses failuresIn entry next onwards isDeciding isDecided
+computed = tt

@@ -1,0 +1,67 @@
+-- The premises of demand 3 are met by a run in which a node fails, leaves, is restarted, knocks and joins again: the demand does not hold for want of runs.
+-- Assumes nothing.
+use Prim.Native.Nat.{ℕ, _≤_}
+use mathlib.Core.Path.{_≡_, refl}
+use mathlib.Core.Bool.{true}
+use mathlib.Core.List.{List, [], _∷_, map, reverse}
+use lib.Dec.{lit≤}
+use lib.ListN.{replicate}
+use Rattle.record.specs.declared.Node.{Node}
+use Rattle.record.specs.declared.State.{State}
+use Rattle.record.specs.declared.State.the-variants.{Member, Out}
+use Rattle.record.specs.declared.Cause.the-variants.{Unconfirmed}
+use Rattle.bench.specs.Table.{Table}
+use Rattle.bench.specs.Calls.{setUpOf}
+use Rattle.bench.specs.Runs.{tableAfter}
+use Rattle.bench.specs.Demand.{Premises, Claims, Demand3}
+use Rattle.bench.specs.Computed.{computed}
+use Rattle.agreement.proofs.Places.{Placed}
+use Rattle.agreement.proofs.Runs.{start-placed}
+use Rattle.agreement.proofs.Demanded.{demand3}
+use Rattle.premises.specs.Plans.{departure, return}
+use Rattle.premises.specs.Needed.{Premise, few-failures, one-outside, list-kept, all-heard, Holds}
+use Rattle.premises.proofs.Tested.{every, test, by-test}
+use Rattle.premises.proofs.Needed.{the-four}
+use Rattle.premises.proofs.Scan.{noted, scan}
+
+-- state and set of each node
+abbrev shown : Table → List (State × ℕ)
+shown t = map {B = State × ℕ} (λ v. (v .state, v .set)) t
+
+module _ (a b c d e : Node) where
+  -- whatever five records were lent
+  abbrev lent : Table
+  lent = a ∷ b ∷ c ∷ d ∷ e ∷ []
+
+  abbrev start : Table
+  start = setUpOf 5 2 lent .table
+
+  begins : Placed 5 2 0 start
+  begins = start-placed 5 2 (lit≤ tt) (lit≤ tt) (lit≤ tt) (lit≤ tt) lent refl
+
+  pub departed : shown (tableAfter start (reverse departure))
+      ≡ (Member, 0b11101) ∷ (Out Unconfirmed, 0) ∷ (Member, 0b11101) ∷ (Member, 0b11101) ∷ (Member, 0b11101) ∷ []
+  unfolding computed
+  departed = refl
+
+  pub returned : shown (tableAfter start (reverse return)) ≡ replicate 5 (Member, 0b11111)
+  unfolding computed
+  returned = refl
+
+  meets : (p : Premise) → Holds p 5 2 start (reverse return)
+  unfolding computed every noted scan
+  meets p = by-test 5 2 (lit≤ tt) start begins (reverse return) p (each p)
+    where
+      each : (p : Premise) → test p 5 2 start (reverse return) ≡ true
+      each few-failures = refl
+      each one-outside = refl
+      each list-kept = refl
+      each all-heard = refl
+
+  pub premises-met : Premises 5 2 start (reverse return)
+  premises-met = the-four 5 2 start (reverse return) meets
+
+  -- so demand 3 speaks of it
+  pub claims-follow : Claims 5 2 start (reverse return)
+  unfolding Demand3
+  claims-follow = demand3 5 2 (lit≤ tt) (lit≤ tt) (lit≤ tt) (lit≤ tt) lent refl (reverse return) premises-met

@@ -1,0 +1,4 @@
+pub mod Scan
+pub mod Tested
+pub mod Needed
+pub mod Inhabited

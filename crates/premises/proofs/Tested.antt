@@ -1,0 +1,197 @@
+-- Each premise of demand 3 as a test of a run: it holds exactly where the test does. Assumes nothing.
+use Prim.Native.Nat.{ℕ, zero, suc, _+_, _-_, _≤_, _<_}
+use mathlib.Core.Path.{_≡_, refl, sym, ap, _∙_}
+use mathlib.Core.Bool.{Bool, true, false, not, _&&_, _||_, true≢false}
+use mathlib.Core.List.{List, [], _∷_}
+use native.Mathlib.Omega.{arith}
+use native.Mathlib.Decide.{ℕ-discrete, decLe}
+use lib.Dec.{eqb, leb}
+use borrow.Author.Tests.{eqb-false, ne-eqb, leb-true, le-leb}
+use Rattle.nodeset.specs.Sums.{sum, num}
+use Rattle.nodeset.specs.Sets.{has, size}
+use Rattle.nodeset.proofs.Sums.{sum-same, sum-zero}
+use Rattle.nodeset.proofs.Tests.{by-cases, both, all, or-left, or-right, or-else}
+use Rattle.record.specs.States.{isMember, isOut}
+use Rattle.bench.specs.Table.{Table, recordOf, slotsOf, speaker}
+use Rattle.bench.specs.Calls.{transmits}
+use Rattle.bench.specs.Runs.{Call, slot, off, restart, tableAfter, isSlot, listOf, Entry, noEntry, entry}
+use Rattle.bench.specs.Demand.{AtEach, KeepsList, AllHear, HearEverything}
+use Rattle.agreement.proofs.Places.{Placed}
+use Rattle.agreement.proofs.Entries.{entry-later}
+use Rattle.premises.specs.Needed.{Premise, few-failures, one-outside, list-kept, all-heard, Holds}
+use Rattle.premises.proofs.Scan.{Notes, noted, Scan, SlotTest, scan, atSlots, Right, scan-right}
+
+-- ---- a test of each of the numbers 1 to m
+
+unfoldable pub every : (ℕ → Bool) → ℕ → Bool
+every f zero = true
+every f (suc m) = every f m && f (suc m)
+
+every-one : (f : ℕ → Bool) (m : ℕ) → every f m ≡ true → (i : ℕ) → 1 ≤ i → i ≤ m → f i ≡ true
+unfolding every
+every-one f zero e i h l = let z : ⊥ = omega arith in absurd z
+every-one f (suc m) e i h l = go (λ (q : i ≤ m). every-one f m (x .0) i h q) (ℕ-discrete i (suc m))
+  where
+    x : (every f m ≡ true) × (f (suc m) ≡ true)
+    x = both (every f m) (f (suc m)) e
+
+    go : (i ≤ m → f i ≡ true) → Dec (i ≡ suc m) → f i ≡ true
+    go r (yes q) = ap f q ∙ x .1
+    go r (no q) = r (omega arith)
+
+every-all : (f : ℕ → Bool) (m : ℕ) → ((i : ℕ) → 1 ≤ i → i ≤ m → f i ≡ true) → every f m ≡ true
+unfolding every
+every-all f zero h = refl
+every-all f (suc m) h = all (every-all f m (λ i p q. h i p (omega arith))) (h (suc m) (omega arith) (omega arith))
+
+-- ---- the tests
+
+-- n in a row: those that begin in slots 1 to m
+abbrev pub fewIn : (ℕ → ℕ) → ℕ → ℕ → ℕ → Bool
+fewIn f n c m = every (λ a. leb (sum f a n) c) m
+
+abbrev pub keepsIn : ℕ → ℕ → SlotTest
+keepsIn n k c t u = leb (k + 1) (size n (listOf t)) && leb (k + 1) (size n (listOf u))
+
+-- node i hears, or need not
+abbrev pub hearsAt : Bool → ℕ → Table → ℕ → Bool
+hearsAt lost missed t i =
+    (not (transmits t) || lost)
+    || (eqb i (speaker t) || (not (has missed i) || (isMember (recordOf t i .state) || isOut (recordOf t i .state))))
+
+abbrev pub hearIn : ℕ → SlotTest
+hearIn n (slot lost missed room) t u = every (hearsAt lost missed t) n
+hearIn n (off a) t u = true
+hearIn n (restart a) t u = true
+
+abbrev pub testOf : Premise → ℕ → ℕ → Scan → Bool
+testOf few-failures n k s = fewIn (noted (s .failures)) n (k - 1) (slotsOf (s .table))
+testOf one-outside n k s = fewIn (noted (s .outside)) n 1 (slotsOf (s .table))
+testOf list-kept n k s = s .kept
+testOf all-heard n k s = s .heard
+
+abbrev pub test : Premise → ℕ → ℕ → Table → List Call → Bool
+test p n k start cs = testOf p n k (scan (keepsIn n k) (hearIn n) start cs)
+
+-- ---- n in a row
+
+few-sound : (f : ℕ → ℕ) (n c m : ℕ) → ((u : ℕ) → m < u → f u ≡ 0) → fewIn f n c m ≡ true → (a : ℕ) → sum f (suc a) n ≤ c
+few-sound f n c m z e a = go (decLe (suc a) m)
+  where
+    go : Dec (suc a ≤ m) → sum f (suc a) n ≤ c
+    go (yes h) = leb-true (sum f (suc a) n) c (every-one (λ a. leb (sum f a n) c) m e (suc a) (omega arith) h)
+    go (no h) = omega (arith, sum-zero f (suc a) n (λ u p q. z u (omega arith)))
+
+few-complete : (f : ℕ → ℕ) (n c m : ℕ) → ((a : ℕ) → sum f (suc a) n ≤ c) → fewIn f n c m ≡ true
+few-complete f n c m h = every-all (λ a. leb (sum f a n) c) m (λ i p q. le-leb (sum f i n) c (one i p))
+  where
+    one : (i : ℕ) → 1 ≤ i → sum f i n ≤ c
+    one i p = let z : suc (i - 1) ≡ i = omega arith in rw z at (h (i - 1))
+
+-- ---- at each slot
+
+-- where a test holds, what it guards
+implied : (a b : Bool) → (not a || b) ≡ true → a ≡ true → b ≡ true
+implied a b e h = or-else (not a) b e (ap not h)
+
+implying : (a b : Bool) → (a ≡ true → b ≡ true) → (not a || b) ≡ true
+implying true b h = h refl
+implying false b h = refl
+
+module _ (P : Call → List Call → Type 0) (f : SlotTest) (start : Table) where
+  -- what the test says of a slot
+  abbrev At : Call → List Call → Type 0
+  At c cs = isSlot c (tableAfter start cs) ≡ true → f c (tableAfter start cs) (tableAfter start (c ∷ cs)) ≡ true
+
+  each-sound : ((c : Call) (cs : List Call) → At c cs → P c cs) → (cs : List Call) → atSlots f start cs ≡ true → AtEach P cs
+  unfolding AtEach atSlots
+  each-sound h [] e = tt
+  each-sound h (c ∷ cs) e =
+      let x = both (atSlots f start cs) (not (isSlot c (tableAfter start cs)) || f c (tableAfter start cs) (tableAfter start (c ∷ cs))) e in
+      (each-sound h cs (x .0), h c cs (implied (isSlot c (tableAfter start cs)) (f c (tableAfter start cs) (tableAfter start (c ∷ cs))) (x .1)))
+
+  each-complete : ((c : Call) (cs : List Call) → P c cs → At c cs) → (cs : List Call) → AtEach P cs → atSlots f start cs ≡ true
+  unfolding AtEach atSlots
+  each-complete h [] p = refl
+  each-complete h (c ∷ cs) p =
+      all (each-complete h cs (p .0)) (implying (isSlot c (tableAfter start cs)) (f c (tableAfter start cs) (tableAfter start (c ∷ cs))) (h c cs (p .1)))
+
+keeps-sound : (n k : ℕ) (t u : Table) (c : Call) → keepsIn n k c t u ≡ true → (k + 1 ≤ size n (listOf t)) × (k + 1 ≤ size n (listOf u))
+keeps-sound n k t u c e =
+    let x = both (leb (k + 1) (size n (listOf t))) (leb (k + 1) (size n (listOf u))) e in
+    (leb-true (k + 1) (size n (listOf t)) (x .0), leb-true (k + 1) (size n (listOf u)) (x .1))
+
+keeps-complete : (n k : ℕ) (t u : Table) (c : Call) → (k + 1 ≤ size n (listOf t)) × (k + 1 ≤ size n (listOf u)) → keepsIn n k c t u ≡ true
+keeps-complete n k t u c (a, b) = all (le-leb (k + 1) (size n (listOf t)) a) (le-leb (k + 1) (size n (listOf u)) b)
+
+-- ---- hearing
+
+hear-sound : (n : ℕ) (c : Call) (t u : Table) → hearIn n c t u ≡ true → AllHear n c t
+hear-sound n (slot lost missed room) t u e = λ sent kept i p q other named.
+    let a = every-one (hearsAt lost missed t) n e i p q in
+    let silent : (not (transmits t) || lost) ≡ false = ap (λ (b : Bool). not b || lost) sent ∙ kept in
+    let b = or-else (not (transmits t) || lost) (eqb i (speaker t) || (not (has missed i) || (isMember (recordOf t i .state) || isOut (recordOf t i .state)))) a silent in
+    let d = or-else (eqb i (speaker t)) (not (has missed i) || (isMember (recordOf t i .state) || isOut (recordOf t i .state))) b (ne-eqb i (speaker t) other) in
+    implied (has missed i) (isMember (recordOf t i .state) || isOut (recordOf t i .state)) d named
+hear-sound n (off a) t u e = tt
+hear-sound n (restart a) t u e = tt
+
+hear-complete : (n : ℕ) (c : Call) (t u : Table) → AllHear n c t → hearIn n c t u ≡ true
+hear-complete n (slot lost missed room) t u h = every-all (hearsAt lost missed t) n at
+  where
+    rest : ℕ → Bool
+    rest i = not (has missed i) || (isMember (recordOf t i .state) || isOut (recordOf t i .state))
+
+    kept : (a b : Bool) → (not a || b) ≡ false → (a ≡ true) × (b ≡ false)
+    kept true b e = (refl, e)
+    kept false b e = absurd (true≢false e)
+
+    at : (i : ℕ) → 1 ≤ i → i ≤ n → hearsAt lost missed t i ≡ true
+    at i p q = by-cases (not (transmits t) || lost)
+        (λ e. or-left (not (transmits t) || lost) (eqb i (speaker t) || rest i) e)
+        (λ e. or-right (not (transmits t) || lost) (eqb i (speaker t) || rest i) (by-cases (eqb i (speaker t))
+        (λ s. or-left (eqb i (speaker t)) (rest i) s)
+        (λ s. or-right (eqb i (speaker t)) (rest i) (implying (has missed i) (isMember (recordOf t i .state) || isOut (recordOf t i .state))
+        (λ m. h (kept (transmits t) lost e .0) (kept (transmits t) lost e .1) i p q (eqb-false i (speaker t) s) m)))))
+hear-complete n (off a) t u h = refl
+hear-complete n (restart a) t u h = refl
+
+-- ---- each premise
+
+module _ (n k : ℕ) (pos : 1 ≤ n) (start : Table) (begins : Placed n k 0 start) (cs : List Call) where
+  abbrev S : Scan
+  S = scan (keepsIn n k) (hearIn n) start cs
+
+  right : Right (keepsIn n k) (hearIn n) start cs S
+  right = scan-right (keepsIn n k) (hearIn n) start cs
+
+  -- a number of each slot's entry, as it is noted
+  module _ (f : Entry → ℕ) (none : f noEntry ≡ 0) (notes : Notes) (are : (u : ℕ) → noted notes u ≡ f (entry start cs u)) (c : ℕ) where
+    same-sum : (a : ℕ) → sum (noted notes) a n ≡ sum (λ u. f (entry start cs u)) a n
+    same-sum a = sum-same (noted notes) (λ u. f (entry start cs u)) a n (λ u _ _. are u)
+
+    few-by : fewIn (noted notes) n c (slotsOf (S .table)) ≡ true → (a : ℕ) → sum (λ u. f (entry start cs u)) (suc a) n ≤ c
+    few-by e a = omega (arith, same-sum (suc a), few-sound (noted notes) n c (slotsOf (S .table)) later e a)
+      where
+        later : (u : ℕ) → slotsOf (S .table) < u → noted notes u ≡ 0
+        later u h = are u ∙ ap f (entry-later n k pos start begins cs u (omega (arith, h, ap slotsOf (right .table-is)))) ∙ none
+
+    few-tested : ((a : ℕ) → sum (λ u. f (entry start cs u)) (suc a) n ≤ c) → fewIn (noted notes) n c (slotsOf (S .table)) ≡ true
+    few-tested h = few-complete (noted notes) n c (slotsOf (S .table)) (λ a. omega (arith, same-sum (suc a), h a))
+
+  pub by-test : (p : Premise) → test p n k start cs ≡ true → Holds p n k start cs
+  unfolding KeepsList HearEverything
+  by-test few-failures e = few-by (λ x. x .failures) refl (S .failures) (right .failures-are) (k - 1) e
+  by-test one-outside e = few-by (λ x. num (x .outside)) refl (S .outside) (right .outside-are) 1 e
+  by-test list-kept e = each-sound (KeepsList n k start) (keepsIn n k) start (λ c ds h s. keeps-sound n k (tableAfter start ds) (tableAfter start (c ∷ ds)) c (h s)) cs (sym (right .kept-is) ∙ e)
+  by-test all-heard e = each-sound (HearEverything n start) (hearIn n) start (λ c ds h s. hear-sound n c (tableAfter start ds) (tableAfter start (c ∷ ds)) (h s)) cs (sym (right .heard-is) ∙ e)
+
+  tested : (p : Premise) → Holds p n k start cs → test p n k start cs ≡ true
+  unfolding KeepsList HearEverything
+  tested few-failures h = few-tested (λ x. x .failures) refl (S .failures) (right .failures-are) (k - 1) h
+  tested one-outside h = few-tested (λ x. num (x .outside)) refl (S .outside) (right .outside-are) 1 h
+  tested list-kept h = right .kept-is ∙ each-complete (KeepsList n k start) (keepsIn n k) start (λ c ds x s. keeps-complete n k (tableAfter start ds) (tableAfter start (c ∷ ds)) c (x s)) cs h
+  tested all-heard h = right .heard-is ∙ each-complete (HearEverything n start) (hearIn n) start (λ c ds x s. hear-complete n c (tableAfter start ds) (tableAfter start (c ∷ ds)) (x s)) cs h
+
+  pub by-failed-test : (p : Premise) → test p n k start cs ≡ false → Holds p n k start cs → ⊥
+  by-failed-test p e h = true≢false (sym (tested p h) ∙ e)

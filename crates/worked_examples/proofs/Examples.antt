@@ -1,0 +1,26 @@
+-- The table of worked examples holds. Assumes nothing.
+use mathlib.Core.Path.{refl}
+use mathlib.Core.List.{[], _∷_}
+use Rattle.message.specs.Message.{bytesOf, messageOf, little, saidBy, readOf, writeOf}
+use Rattle.record.specs.declared.Node.{Node}
+use Rattle.bench.specs.Computed.{computed}
+use Rattle.worked_examples.specs.Examples.{AllHold, examples}
+
+infixr 1 _and_
+_and_ : {A B : Type 0} → A → B → A × B
+_and_ x y = (x, y)
+
+pub worked-examples : (a b c d : Node) → AllHold (examples (a ∷ b ∷ c ∷ d ∷ []))
+unfolding examples computed bytesOf messageOf little saidBy readOf writeOf
+worked-examples a b c d =
+    refl and refl  -- senders
+    and refl and refl and refl and refl  -- {1,3,4}
+    and refl and refl and refl  -- {2,5}
+    and refl and refl  -- {2}
+    and refl and refl  -- messages written
+    and refl and refl  -- messages refused
+    and refl and refl  -- the listing
+    and refl  -- node 3 misses slot 2
+    and refl and refl and refl and refl and refl  -- and slot 4 is lost
+    and refl and refl and refl and refl  -- nodes 1 and 2 off
+    and tt

@@ -1,0 +1,188 @@
+-- "The examples marked P form a single table, proved by one statement against the definitions" (document 01, "What a contract says, and which examples carry
+-- proof"). A row is what is asked of a definition that the contracts cite, and what is answered; the rows stand in document 01's order under its sentences.
+use Prim.Native.Nat.{ℕ}
+use mathlib.Core.Path.{_≡_}
+use mathlib.Core.Bool.{Bool, true, false}
+use mathlib.Core.List.{List, [], _∷_, foldr, map, reverse}
+use lib.ListN.{replicate}
+use Rattle.refusal.specs.Causes.{numberOf}
+use Rattle.nodeset.specs.Sums.{sum}
+use Rattle.nodeset.specs.Sets.{with}
+use Rattle.ring.specs.declared.Speaker.the-variants as speaker
+use Rattle.ring.specs.declared.Found.the-variants as found
+use Rattle.ring.specs.Answers.{senderOf, sponsoredOf, decidedOf}
+use Rattle.message.specs.declared.Reading.{Reading}
+use Rattle.message.specs.declared.Reading.the-variants as reading
+use Rattle.message.specs.declared.Written.the-variants as written
+use Rattle.message.specs.Message.{readOf, writeOf}
+use Rattle.record.specs.declared.Node.{Node}
+use Rattle.record.specs.declared.State.{State}
+use Rattle.record.specs.declared.State.the-variants as state
+use Rattle.record.specs.States.{causeNumber}
+use Rattle.bench.specs.declared.Listed.{Listed}
+use Rattle.bench.specs.declared.Listed.the-variants as listed
+use Rattle.bench.specs.declared.Apart.{Apart}
+use Rattle.bench.specs.declared.Apart.the-variants as apart
+use Rattle.bench.specs.declared.Fate.the-variants as fate
+use Rattle.bench.specs.declared.Next.{Next}
+use Rattle.bench.specs.declared.Next.the-variants as next
+use Rattle.bench.specs.Table.{Table, recordOf, slotsOf}
+use Rattle.bench.specs.Calls.{setUpOf, listedOf, distanceOf, nextOf}
+use Rattle.bench.specs.Runs.{Call, slot, off, restart, callOf, tableAfter, entry}
+
+-- ---- rows
+
+pub record Row : Type 1 where
+  pub Answer : Type 0
+  pub asked : Answer
+  pub answered : Answer
+
+infix 2 _gives_
+abbrev pub _gives_ : {A : Type 0} → A → A → Row
+_gives_ {A = A} x y = record { Answer = A; asked = x; answered = y }
+
+abbrev pub AllHold : List Row → Type 0
+AllHold [] = Unit {0}
+AllHold (r ∷ rows) = (r .asked ≡ r .answered) × AllHold rows
+
+-- ---- how rows are written
+
+-- The set of these nodes.
+abbrev pub these : List ℕ → ℕ
+these nodes = foldr (λ x s. with s x) 0 nodes
+
+-- The number of the refusal; 0 where the bytes are read.
+abbrev pub refusalIn : Reading → ℕ
+refusalIn (reading.Heard bits returnBit) = 0
+refusalIn (reading.Refused cause) = numberOf cause
+
+-- What is told of a node: it is a member and holds this set, it is out with a cause of this number, or it is in another state.
+pub data Told : Type 0 where
+  holds : ℕ → Told
+  out : ℕ → Told
+  other : Told
+
+abbrev pub toldAs : State → ℕ → Told
+toldAs state.Member set = holds set
+toldAs state.Listening set = other
+toldAs state.Following set = other
+toldAs state.Knocking set = other
+toldAs (state.Out cause) set = out (causeNumber cause)
+
+abbrev pub told : Table → ℕ → Told
+told t i = toldAs (recordOf t i .state) (recordOf t i .set)
+
+-- The same of each node.
+abbrev pub tellings : Table → List Told
+tellings t = map (λ (v : Node). toldAs (v .state) (v .set)) t
+
+-- The lines of a plan (the first comes first), with a buffer of 64 bytes.
+abbrev pub ok : Call
+ok = slot false 0 64
+
+abbrev pub lost : Call
+lost = slot true 0 64
+
+abbrev pub miss : List ℕ → Call
+miss nodes = slot false (these nodes) 64
+
+-- The table after a plan, over a table that was lent to set-up.
+abbrev pub after : ℕ → ℕ → Table → List Call → Table
+after n k lent plan = tableAfter (setUpOf n k lent .table) (reverse plan)
+
+-- The failures in the first m slots of a plan.
+abbrev pub failures : ℕ → ℕ → Table → List Call → ℕ → ℕ
+failures n k lent plan m = sum (λ u. entry (setUpOf n k lent .table) (reverse plan) u .failures) 1 m
+
+-- "Each slot prints: slot, sender, fate .., the set of the lowest-numbered member .., the greatest distance between sets of two members" ("The bench program"):
+-- the slot count after the slot, the sender and the fate as told before it, the set and the distance as told after it.
+abbrev pub Line : Type 0
+Line = ℕ × Next × Listed × Apart
+
+abbrev pub lineOf : Bool → Table → Table → Line
+lineOf isLost before t = (slotsOf t, nextOf isLost before, listedOf t, distanceOf t)
+
+abbrev pub linesFrom : Table → List Call → List Line
+linesFrom t [] = []
+linesFrom t (slot isLost missed room ∷ plan) =
+    let u = callOf (slot isLost missed room) t .table in
+    lineOf isLost t u ∷ linesFrom u plan
+linesFrom t (off a ∷ plan) = linesFrom (callOf (off a) t .table) plan
+linesFrom t (restart a ∷ plan) = linesFrom (callOf (restart a) t .table) plan
+
+abbrev pub lines : ℕ → ℕ → Table → List Call → List Line
+lines n k lent plan = linesFrom (setUpOf n k lent .table) plan
+
+-- ---- plans, and the listing
+
+-- "Input `4 2`, `ok`, `lost`, `ok`, `ok` prints" ("The bench program")
+abbrev pub slotTwoLost : List Call
+slotTwoLost = ok ∷ lost ∷ ok ∷ ok ∷ []
+
+abbrev pub listing : List Line
+listing =
+    (1, next.Slot 1 fate.Sent, listed.Set 0x0000000f, apart.Nodes 0)
+    ∷ (2, next.Slot 2 fate.Lost, listed.Set 0x0000000f, apart.Nodes 0)
+    ∷ (3, next.Slot 3 fate.Sent, listed.Set 0x0000000f, apart.Nodes 0)
+    ∷ (4, next.Slot 4 fate.Sent, listed.Set 0x0000000d, apart.Nodes 0)
+    ∷ []
+
+-- "node 3 alone misses slot 2"
+abbrev pub slotTwoMissed : List Call
+slotTwoMissed = ok ∷ miss (3 ∷ []) ∷ ok ∷ ok ∷ []
+
+-- "the same with slot 4 lost"
+abbrev pub slotFourLost : List Call
+slotFourLost = ok ∷ miss (3 ∷ []) ∷ ok ∷ lost ∷ []
+
+-- "nodes 1 and 2 off from the start", and so many slots
+abbrev pub twoOff : ℕ → List Call
+twoOff slots = off 1 ∷ off 2 ∷ replicate slots ok
+
+abbrev pub allFour : ℕ
+allFour = these (1 ∷ 2 ∷ 3 ∷ 4 ∷ [])
+
+-- ---- the table
+
+-- Over any table of four records that was lent to set-up.
+unfoldable pub examples : Table → List Row
+examples lent =
+    -- "n = 4, slot 4 has sender 4; slot 5 has 1."
+    (senderOf 4 4 gives speaker.Node 4)
+    ∷ (senderOf 4 5 gives speaker.Node 1)
+    -- "set {1,3,4}, k = 2: node 1 sponsors 4, 3 and decides 3."
+    ∷ (sponsoredOf 4 2 (these (1 ∷ 3 ∷ 4 ∷ [])) 1 1 gives found.Member 4)
+    ∷ (sponsoredOf 4 2 (these (1 ∷ 3 ∷ 4 ∷ [])) 1 2 gives found.Member 3)
+    ∷ (sponsoredOf 4 2 (these (1 ∷ 3 ∷ 4 ∷ [])) 1 3 gives found.Nobody)
+    ∷ (decidedOf 4 2 (these (1 ∷ 3 ∷ 4 ∷ [])) 1 gives found.Member 3)
+    -- "set {2,5}, k = 3: node 5 sponsors and decides 2."
+    ∷ (sponsoredOf 5 3 (these (2 ∷ 5 ∷ [])) 5 1 gives found.Member 2)
+    ∷ (sponsoredOf 5 3 (these (2 ∷ 5 ∷ [])) 5 2 gives found.Nobody)
+    ∷ (decidedOf 5 3 (these (2 ∷ 5 ∷ [])) 5 gives found.Member 2)
+    -- "set {2}: nobody."
+    ∷ (sponsoredOf 5 3 (these (2 ∷ [])) 2 1 gives found.Nobody)
+    ∷ (decidedOf 5 3 (these (2 ∷ [])) 2 gives found.Nobody)
+    -- "k = 2, both yes, no return: 02 03 01 00."
+    ∷ (writeOf 2 0b11 false (replicate 4 0xAA) gives (written.Bytes 4, 0x02 ∷ 0x03 ∷ 0x01 ∷ 0x00 ∷ []))
+    -- "k = 9, all yes, return: 09 FF 01 01 01."
+    ∷ (writeOf 9 0b1_1111_1111 true (replicate 5 0xAA) gives (written.Bytes 5, 0x09 ∷ 0xFF ∷ 0x01 ∷ 0x01 ∷ 0x01 ∷ []))
+    -- "for k = 2, 02 07 01 00 is refusal 8; 02 03 02 00 is 7."
+    ∷ (refusalIn (readOf 2 (0x02 ∷ 0x07 ∷ 0x01 ∷ 0x00 ∷ [])) gives 8)
+    ∷ (refusalIn (readOf 2 (0x02 ∷ 0x03 ∷ 0x02 ∷ 0x00 ∷ [])) gives 7)
+    -- "the listing above; node 2 is out, cause 1."
+    ∷ (lines 4 2 lent slotTwoLost gives listing)
+    ∷ (told (after 4 2 lent slotTwoLost) 2 gives out 1)
+    -- "n = 4, k = 2, node 3 alone misses slot 2: after slot 4 all hold {1,2,3,4}."
+    ∷ (tellings (after 4 2 lent slotTwoMissed) gives replicate 4 (holds allFour))
+    -- "the same with slot 4 lost: two failures; node 3 holds {1,3,4}, node 1 all four, node 2 is out, distance 1."
+    ∷ (failures 4 2 lent slotFourLost 4 gives 2)
+    ∷ (told (after 4 2 lent slotFourLost) 3 gives holds (these (1 ∷ 3 ∷ 4 ∷ [])))
+    ∷ (told (after 4 2 lent slotFourLost) 1 gives holds allFour)
+    ∷ (told (after 4 2 lent slotFourLost) 2 gives out 1)
+    ∷ (distanceOf (after 4 2 lent slotFourLost) gives apart.Nodes 1)
+    -- "n = 4, k = 3, nodes 1 and 2 off from the start: 1 leaves at slot 4, 2 at slot 8."
+    ∷ (tellings (after 4 3 lent (twoOff 3)) gives out 4 ∷ out 4 ∷ replicate 2 (holds allFour))
+    ∷ (tellings (after 4 3 lent (twoOff 4)) gives out 4 ∷ out 4 ∷ replicate 2 (holds (these (2 ∷ 3 ∷ 4 ∷ []))))
+    ∷ (tellings (after 4 3 lent (twoOff 7)) gives out 4 ∷ out 4 ∷ replicate 2 (holds (these (2 ∷ 3 ∷ 4 ∷ []))))
+    ∷ (tellings (after 4 3 lent (twoOff 8)) gives out 4 ∷ out 4 ∷ replicate 2 (holds (these (3 ∷ 4 ∷ []))))
+    ∷ []
