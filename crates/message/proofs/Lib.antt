@@ -4,4 +4,3 @@ pub mod Tests
 pub mod Parts
 pub mod RoundTrip
 pub mod Places
-pub mod Examples

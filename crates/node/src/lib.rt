@@ -29,8 +29,8 @@ pub struct Stepped {
     pub answer: Answer,
 }
 
-// The record that comes with a refused set-up.
-const NO_NODE: Node = Node {
+// A record of no node: it comes with a refused set-up.
+pub const NO_NODE: Node = Node {
     n: 0,
     k: 0,
     own: 0,

@@ -3,5 +3,4 @@ pub mod Senders
 pub mod Speakers
 pub mod Members
 pub mod Walks
-pub mod Examples
 pub mod Nexts
