@@ -36,10 +36,10 @@ use Rattle.bench.specs.declared.Next.the-variants as next
 use Rattle.bench.specs.declared.Changed.{Changed}
 use Rattle.bench.specs.declared.Changed.the-variants as changed
 use Rattle.bench.specs.declared.Members.{Members}
-use Rattle.bench.specs.Table.{Table}
+use Rattle.bench.specs.Table.{Table, eachFrom}
 use Rattle.bench.specs.Calls.{unheard}
 use Rattle.bench.specs.Pairs.{sameState, kindFrom}
-use Rattle.bench.specs.Survey.{surveyOf, fineTable}
+use Rattle.bench.specs.Survey.{foldFrom, surveyOf, fineTable}
 
 -- ---- orders
 
@@ -107,9 +107,8 @@ carried (order.Off a) i v = offAt a v
 carried (order.Restart a) i v = restartAt a v
 carried (order.Slot heard missed) i v = stepAt heard missed v
 
-unfoldable pub carriedFrom : Order → ℕ → Table → Table
-carriedFrom o i [] = []
-carriedFrom o i (v ∷ t) = carried o i v ∷ carriedFrom o (suc i) t
+abbrev pub carriedFrom : Order → ℕ → Table → Table
+carriedFrom o i t = eachFrom (carried o) i t
 
 -- ---- the pairs, in rising order of nodes
 
@@ -121,11 +120,10 @@ noted p before after =
     cond (sameState (before .state) (after .state)) p
     (cond (ltb (p .count) 32 && leb (before .own) 32) (pushed p (before .own) (kindFrom (before .state) (after .state))) p)
 
-unfoldable pub notedFrom : Order → Told → ℕ → Table → Told
-notedFrom o p i [] = p
-notedFrom o p i (v ∷ t) = notedFrom o (noted p v (carried o i v)) (suc i) t
+abbrev pub notedFrom : Order → Told → ℕ → Table → Told
+notedFrom o p i t = foldFrom (λ p i v. noted p v (carried o i v)) p i t
 
-abbrev pub noPairs : Told
+unfoldable pub noPairs : Told
 noPairs = record { count = 0; bytes = replicate 64 0 }
 
 -- ---- reports
@@ -137,5 +135,8 @@ answerTo (order.Off a) = answer.Done
 answerTo (order.Restart a) = answer.Done
 answerTo (order.Slot heard missed) = answer.Done
 
+unfoldable pub reported : Order → Told → Report
+reported o p = record { answer = answerTo o; told = p }
+
 unfoldable pub reportOf : Order → Table → Report
-reportOf o t = record { answer = answerTo o; told = notedFrom o noPairs 0 t }
+reportOf o t = reported o (notedFrom o noPairs 0 t)

@@ -17,6 +17,11 @@ use Rattle.bench.specs.declared.Survey.{Survey}
 use Rattle.bench.specs.declared.Members.{Members}
 use Rattle.bench.specs.Table.{Table, inPlace}
 
+-- What is gathered record by record; the first stands at index i.
+unfoldable pub foldFrom : {S : Type 0} → (S → ℕ → Node → S) → S → ℕ → Table → S
+foldFrom f s i [] = s
+foldFrom f s i (v ∷ t) = foldFrom f (f s i v) (suc i) t
+
 -- The sender of the slot that follows those of a record, and 0 where its n is no ring's.
 abbrev pub numberOf : Speaker → ℕ
 numberOf (speaker.Node x) = x
@@ -63,12 +68,11 @@ seen s i v = record {
 unfoldable pub surveyed : Survey → ℕ → Node → Survey
 surveyed s i v = seen (cond (eqb i 0) (begun true (s .asked) v) s) i v
 
-unfoldable pub surveyFrom : Survey → ℕ → Table → Survey
-surveyFrom s i [] = s
-surveyFrom s i (v ∷ t) = surveyFrom (surveyed s i v) (suc i) t
+abbrev pub surveyFrom : Survey → ℕ → Table → Survey
+surveyFrom s i t = foldFrom surveyed s i t
 
 -- Of an empty table nothing is fine.
-abbrev pub unseen : ℕ → Survey
+unfoldable pub unseen : ℕ → Survey
 unseen asked = begun false asked noNode
 
 unfoldable pub surveyOf : ℕ → Table → Survey
@@ -99,11 +103,10 @@ gathered m i v =
     (memberSeen (surveyed (m .survey) i v .n) (surveyed (m .survey) i v) m v)
     (record { survey = surveyed (m .survey) i v; count = m .count; sets = m .sets; greatest = m .greatest })
 
-unfoldable pub gatheredFrom : Members → ℕ → Table → Members
-gatheredFrom m i [] = m
-gatheredFrom m i (v ∷ t) = gatheredFrom (gathered m i v) (suc i) t
+abbrev pub gatheredFrom : Members → ℕ → Table → Members
+gatheredFrom m i t = foldFrom gathered m i t
 
-abbrev pub noMembers : Members
+unfoldable pub noMembers : Members
 noMembers = record { survey = unseen 0; count = 0; sets = replicate 32 0; greatest = 0 }
 
 unfoldable pub membersOf : Table → Members

@@ -16,7 +16,7 @@ ghost use lib.ListN.{length, take};
 ghost use Rattle.bench.specs.Table.{inPlace};
 ghost use Rattle.bench.specs.Pairs.{sameState, kindFrom};
 ghost use Rattle.bench.specs.Survey.{senderAfter, begun, listWith, seen, surveyed, unseen, surveyOf, fineTable, farFrom, gathered, noMembers, membersOf};
-ghost use Rattle.bench.specs.Orders.{askedNode, setUpOrder, offOrder, restartOrder, saidBy, slotOrder, orderOf, placeOf, offAt, restartAt, stepAt, carried, carriedFrom, pushed, noted, noPairs, notedFrom, answerTo};
+ghost use Rattle.bench.specs.Orders.{askedNode, setUpOrder, offOrder, restartOrder, saidBy, slotOrder, orderOf, placeOf, offAt, restartAt, stepAt, carried, carriedFrom, pushed, noted, noPairs, notedFrom, answerTo, reported, reportOf, orderFor};
 
 // What came of a slot: how many pairs tell its changes.
 pub enum Changed {
@@ -497,4 +497,55 @@ fn answer_to(order: Order) -> Answer
         Order::Restart(_) => Answer::Done,
         Order::Slot(_, _) => Answer::Done,
     }
+}
+
+// What came of an order.
+fn reporting(order: Order, told: Told) -> Report
+    ensures { λ r. ⌜ r ≡ reported order told ⌝ }
+{
+    let answer = answer_to(order);
+    Report {
+        answer,
+        told,
+    }
+}
+
+// Looks over the table.
+fn look_over(table: &[Node], asked: u32) -> Survey
+    ensures { λ r. ⌜ r ≡ surveyOf asked (now (table .entry)) ⌝ }
+{
+    let mut s = unseen(asked);
+    let mut i = 0;
+    while i < table.len() {
+        s = surveyed(s, i, table[i]);
+        i += 1;
+    }
+    s
+}
+
+// Has each record do what is ordered, and tells whose state changed.
+fn carry_out(table: &mut [Node], order: Order) -> Told
+    ensures { λ r. ⌜ (now (table .exit) ≡ carriedFrom order 0 (now (table .entry))) × (r ≡ notedFrom order noPairs 0 (now (table .entry))) ⌝ }
+{
+    let mut told = no_pairs();
+    let mut i = 0;
+    while i < table.len() {
+        let before = table[i];
+        let after = carried(order, i, before);
+        told = noted(told, before, after);
+        table[i] = after;
+        i += 1;
+    }
+    told
+}
+
+// A call that changes the table: a look over it, an order, and the order carried out.
+fn work(table: &mut [Node], asked: Asked) -> Report
+    ensures { λ r. ⌜ (now (table .exit) ≡ carriedFrom (orderFor asked (now (table .entry))) 0 (now (table .entry))) × (r ≡ reportOf (orderFor asked (now (table .entry))) (now (table .entry))) ⌝ }
+{
+    let about = asked_node(asked);
+    let s = look_over(table, about);
+    let order = order_of(asked, s, table.len());
+    let told = carry_out(table, order);
+    reporting(order, told)
 }
