@@ -29,7 +29,7 @@ use Rattle.bench.specs.declared.Order.the-variants as order
 use Rattle.bench.specs.Table.{Table, eachFrom, each, placedFrom, tableSound, slotsOf, recordOf, speaker}
 use Rattle.bench.specs.Calls.{Called, done, ifPassed, setUpOf, startTable, offOf, afterOff, restartOf, afterRestart, slotOf, afterSlot, heardBy, spoken, transmits, unheard}
 use Rattle.bench.specs.Survey.{surveyOf}
-use Rattle.bench.specs.Orders.{ifGood, saidBy, orderFor, carried, placeOf, answerTo}
+use Rattle.bench.specs.Orders.{ifGood, saidBy, orderFor, carried, placeOf, answerTo, reported, reportOf}
 use Rattle.bench.proofs.Surveys.{Placed, placed, fine-table, Said, said}
 
 -- ---- each record
@@ -135,3 +135,8 @@ slot-called lost missed room t =
         by-own (length t) (recordOf t 1 .k) (slotsOf t) (carried (order.Slot (saidBy lost (surveyOf 0 t .speaker)) missed)) (λ i v. node.stepOf (heardBy lost missed t i) v .node)
         (λ j v own. ap (λ (i : ℕ). node.stepOf (cond (has missed i) unheard (saidBy lost (surveyOf 0 t .speaker))) v .node) own
             ∙ ap (λ (h : Reading). node.stepOf h v .node) (hears lost missed t (suc j) (surveyOf 0 t .speaker) (s .spoken))) 0 t (s .rows)
+
+-- the answer of a report
+pub answered : (o : Order) (t : Table) → reportOf o t .answer ≡ answerTo o
+unfolding reportOf reported
+answered o t = refl
