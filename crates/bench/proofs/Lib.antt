@@ -1,0 +1,6 @@
+pub mod Numbers
+pub mod Partly
+pub mod Shared
+pub mod Surveys
+pub mod Works
+pub mod Readings
