@@ -14,9 +14,9 @@ use Rattle.bench.specs.Calls.{setUpOf, greatest}
 use Rattle.bench.specs.Runs.{Call, tableAfter}
 use Rattle.bench.specs.Demand.{Failed, isDecided, Premises}
 use Rattle.bench.specs.Computed.{computed}
-use Rattle.agreement.proofs.Places.{Placed}
-use Rattle.agreement.proofs.Runs.{start-placed, run-length}
-use Rattle.agreement.proofs.Throughout.{nothing-apart}
+use Rattle.bench.proofs.agreement.Places.{Placed}
+use Rattle.bench.proofs.agreement.Runs.{start-placed, run-length}
+use Rattle.bench.proofs.agreement.Throughout.{nothing-apart}
 use Rattle.premises.specs.Plans.{twoMiss, twoKnocks, threeLeft, noThird, missesTwice}
 use Rattle.premises.specs.Needed.{Premise, few-failures, one-outside, list-kept, all-heard, Holds, Others, Agree, InTime, InRange, Bites, Without}
 use Rattle.premises.proofs.Scan.{noted, scan}

@@ -20,13 +20,13 @@ use Rattle.record.specs.declared.State.the-variants.{Member, Following}
 use Rattle.record.specs.States.{isMember, isKnocking}
 use Rattle.changes.specs.Changes.{withSet, withReturning}
 use Rattle.steps.specs.Steps.{marksAfter, missedReturn, returnHeard, marked, joins}
-use Rattle.agreement.proofs.History.{World, sender-most, Untold, lst, told-in-time, num-is}
-use Rattle.agreement.proofs.Invariant.{Tracking, Off, Knock, Awaits, aware, unaware}
-use Rattle.agreement.proofs.Marks.{no-both, not-true, not-false, has-with-keeps}
-use Rattle.agreement.proofs.Outcome.{Gone, Settled, gone, kept, backed, became, joined, listedAs}
-use Rattle.agreement.proofs.Listed.{ListedSlot, Hearer, same-window, off-after, on-after}
-use Rattle.agreement.proofs.Depart.{drop-sub, L₁, sender-stays, not-dropped, Nearest, nearest, enough-since}
-use Rattle.agreement.proofs.Returns.{joins-yes, joins-if, not-member, same-knock, Stays, member-stays, outsider-stays, awaits-after, lost-after, quiet-after}
+use Rattle.bench.proofs.agreement.History.{World, sender-most, Untold, lst, told-in-time, num-is}
+use Rattle.bench.proofs.agreement.Invariant.{Tracking, Off, Knock, Awaits, aware, unaware}
+use Rattle.bench.proofs.agreement.Marks.{no-both, not-true, not-false, has-with-keeps}
+use Rattle.bench.proofs.agreement.Outcome.{Gone, Settled, gone, kept, backed, became, joined, listedAs}
+use Rattle.bench.proofs.agreement.Listed.{ListedSlot, Hearer, same-window, off-after, on-after}
+use Rattle.bench.proofs.agreement.Depart.{drop-sub, L₁, sender-stays, not-dropped, Nearest, nearest, enough-since}
+use Rattle.bench.proofs.agreement.Returns.{joins-yes, joins-if, not-member, same-knock, Stays, member-stays, outsider-stays, awaits-after, lost-after, quiet-after}
 
 module _ (W : World) where
   open World W using (n, k, n-pos, n-most, k-two, k-lt, E, fair, few, once)

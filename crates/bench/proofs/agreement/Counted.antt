@@ -25,7 +25,7 @@ use Rattle.hearing.specs.Hearing.{overheard, clean, windowEnd, listeningSlot}
 use Rattle.node.specs.declared.Stepped.{Stepped}
 use Rattle.node.specs.Slot.{heardFrom, slotIn, afterSlot}
 use Rattle.node.specs.Calls.{done, refused, stepOf, offOf, restartOf}
-use Rattle.agreement.proofs.Outcome.{choose}
+use Rattle.bench.proofs.agreement.Outcome.{choose}
 
 pub record Numbers (n k own slots : ℕ) (v : Node) : Type 0 where
   pub n-is : v .n ≡ n

@@ -17,9 +17,9 @@ use Rattle.ring.specs.Answers.{beforeOf}
 use Rattle.ring.proofs.Senders.{sender-range, sender-period, same-slot}
 use Rattle.ring.proofs.Walks as walks
 use Rattle.ring.proofs.Walks.{Met, walk-meets, before-is, others}
-use Rattle.agreement.proofs.History.{World, K, KFact, lst, one-knock, size-from, before-answer, num-is, num-isnt}
-use Rattle.agreement.proofs.Marks.{no-both, not-true, same-member}
-use Rattle.agreement.proofs.Listed.{ListedSlot, other-sender, same-window}
+use Rattle.bench.proofs.agreement.History.{World, K, KFact, lst, one-knock, size-from, before-answer, num-is, num-isnt}
+use Rattle.bench.proofs.agreement.Marks.{no-both, not-true, same-member}
+use Rattle.bench.proofs.agreement.Listed.{ListedSlot, other-sender, same-window}
 
 module _ (W : World) where
   open World W using (n, k, n-pos, n-most, k-two, k-lt, E, fair, few, once)

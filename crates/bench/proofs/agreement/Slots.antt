@@ -28,23 +28,23 @@ use Rattle.sending.proofs.Laws.{has-markBits}
 use Rattle.node.specs.Slot as node
 use Rattle.node.specs.declared.Stepped.{Stepped}
 use Rattle.node.specs.Calls as calls
 use Rattle.bench.specs.Table.{Table, recordOf, slotsOf, speaker}
 use Rattle.bench.specs.Calls.{transmits, unheard, spoken, heardBy, afterSlot}
 use Rattle.bench.specs.Runs.{Entry, slot, listOf, isListed, misses, entryOf}
 use Rattle.bench.specs.Demand.{AllHear}
-use Rattle.agreement.proofs.History.{World, K, decision, ks-is}
-use Rattle.agreement.proofs.Invariant.{Tracking}
-use Rattle.agreement.proofs.Marks.{no-both, not-true, not-false, bitsIn}
-use Rattle.agreement.proofs.Listed.{Begins, Says, ListedSlot}
-use Rattle.agreement.proofs.Join.{Next}
-use Rattle.agreement.proofs.Outside.{OwnSlot}
-use Rattle.agreement.proofs.Rounds.{K′, k-next, next-lt, k′-listed, k′-outside, k-outside}
-use Rattle.agreement.proofs.Alike.{listening-only}
-use Rattle.agreement.proofs.Nodes.{NodeInv, HearsAny, listed-after, next-list, outside-after}
-use Rattle.agreement.proofs.Places.{length-each, record-each}
-use Rattle.agreement.proofs.Counted.{step-done}
-use Rattle.agreement.proofs.Tables.{TableInv, Witness, witness, list-is, slots-at}
-use Rattle.agreement.proofs.Reached.{hear, hear-message, unheard-bits, unreached, and-no, reached, sent-parts, not-out, listening-neither, sends-tracks}
+use Rattle.bench.proofs.agreement.History.{World, K, decision, ks-is}
+use Rattle.bench.proofs.agreement.Invariant.{Tracking}
+use Rattle.bench.proofs.agreement.Marks.{no-both, not-true, not-false, bitsIn}
+use Rattle.bench.proofs.agreement.Listed.{Begins, Says, ListedSlot}
+use Rattle.bench.proofs.agreement.Join.{Next}
+use Rattle.bench.proofs.agreement.Outside.{OwnSlot}
+use Rattle.bench.proofs.agreement.Rounds.{K′, k-next, next-lt, k′-listed, k′-outside, k-outside}
+use Rattle.bench.proofs.agreement.Alike.{listening-only}
+use Rattle.bench.proofs.agreement.Nodes.{NodeInv, HearsAny, listed-after, next-list, outside-after}
+use Rattle.bench.proofs.agreement.Places.{length-each, record-each}
+use Rattle.bench.proofs.agreement.Counted.{step-done}
+use Rattle.bench.proofs.agreement.Tables.{TableInv, Witness, witness, list-is, slots-at}
+use Rattle.bench.proofs.agreement.Reached.{hear, hear-message, unheard-bits, unreached, and-no, reached, sent-parts, not-out, listening-neither, sends-tracks}
 
 module _ (W : World) where
   open World W using (n, k, n-pos, n-most, k-two, k-lt, E)

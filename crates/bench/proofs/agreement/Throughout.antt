@@ -14,14 +14,14 @@ use Rattle.nodeset.proofs.Tests.{by-cases}
 use Rattle.record.specs.declared.Node.{Node}
 use Rattle.record.specs.States.{isMember}
 use Rattle.node.specs.Calls.{noNode}
 use Rattle.bench.specs.Table.{Table, recordOf, slotsOf}
 use Rattle.bench.specs.Calls.{setUpOf, farthest, greatest}
 use Rattle.bench.specs.Runs.{Call, tableAfter, Entry, noEntry, entry}
 use Rattle.bench.specs.Demand.{AtEach, Premises, MemberAt, Claims, Demand3}
-use Rattle.agreement.proofs.Places.{Placed}
-use Rattle.agreement.proofs.Runs.{start-placed, run-length}
-use Rattle.agreement.proofs.Entries.{entry-old, entry-later}
-use Rattle.agreement.proofs.Demanded.{demand3}
+use Rattle.bench.proofs.agreement.Places.{Placed}
+use Rattle.bench.proofs.agreement.Runs.{start-placed, run-length}
+use Rattle.bench.proofs.agreement.Entries.{entry-old, entry-later}
+use Rattle.bench.proofs.agreement.Demanded.{demand3}
 
 -- ---- the premises of each beginning
 

@@ -6,13 +6,13 @@ use mathlib.Core.List.{List, [], _∷_}
 use native.Mathlib.Omega.{arith}
 use lib.Dec.{leb}
 use borrow.Author.Tests.{lt-leb}
 use Rattle.bench.specs.Table.{Table, slotsOf}
 use Rattle.bench.specs.Runs.{Call, tableAfter, isSlot, newEntry, entry}
 use Rattle.bench.specs.Demand.{isDeciding, isDecided}
-use Rattle.agreement.proofs.History.{num-is}
-use Rattle.agreement.proofs.Places.{Placed}
-use Rattle.agreement.proofs.Runs.{slots-next}
-use Rattle.agreement.proofs.Entries.{entry-old, entry-new}
+use Rattle.bench.proofs.agreement.History.{num-is}
+use Rattle.bench.proofs.agreement.Places.{Placed}
+use Rattle.bench.proofs.agreement.Runs.{slots-next}
+use Rattle.bench.proofs.agreement.Entries.{entry-old, entry-new}
 
 -- the calls cs are a beginning of all the calls
 pub data Beginning (all : List Call) : List Call → Type 0 where

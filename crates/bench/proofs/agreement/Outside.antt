@@ -17,12 +17,12 @@ use Rattle.record.specs.States.{isMember, isFollowing, isKnocking}
 use Rattle.changes.specs.Changes.{withReturning}
 use Rattle.steps.specs.Steps.{isHeard}
 use Rattle.sending.specs.Sending.{sends}
-use Rattle.agreement.proofs.History.{World, Untold, one-knock, num-isnt}
-use Rattle.agreement.proofs.Invariant.{Tracking, Off, Knock, Awaits, aware, unaware}
-use Rattle.agreement.proofs.Marks.{no-both, not-true, not-false}
-use Rattle.agreement.proofs.Outcome.{Noted, knocks, silent, awaits, ignores}
-use Rattle.agreement.proofs.Listed.{Begins, Hears, other-sender, extend}
-use Rattle.agreement.proofs.Rounds.{Ahead, ahead}
+use Rattle.bench.proofs.agreement.History.{World, Untold, one-knock, num-isnt}
+use Rattle.bench.proofs.agreement.Invariant.{Tracking, Off, Knock, Awaits, aware, unaware}
+use Rattle.bench.proofs.agreement.Marks.{no-both, not-true, not-false}
+use Rattle.bench.proofs.agreement.Outcome.{Noted, knocks, silent, awaits, ignores}
+use Rattle.bench.proofs.agreement.Listed.{Begins, Hears, other-sender, extend}
+use Rattle.bench.proofs.agreement.Rounds.{Ahead, ahead}
 
 following-only : (st : State) → isFollowing st ≡ true → (isMember st ≡ false) × (isKnocking st ≡ false)
 following-only Member f = absurd (false≢true f)

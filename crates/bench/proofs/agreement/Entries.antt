@@ -11,14 +11,14 @@ use borrow.Author.Tests.{eq-eqb, ne-eqb}
 use Rattle.nodeset.specs.Sums.{sum, num}
 use Rattle.nodeset.proofs.Sums.{sum-none, sum-next, sum-split, sum-zero}
 use Rattle.nodeset.proofs.Tests.{chosen, otherwise, all}
 use Rattle.bench.specs.Table.{Table, ringOf, slotsOf}
 use Rattle.bench.specs.Calls.{transmits}
 use Rattle.bench.specs.Runs.{Call, slot, off, restart, tableAfter, isSlot, isListed, misses, failuresIn, Entry, entryOf, noEntry, newEntry, entry}
 use Rattle.bench.specs.Demand.{Premises}
-use Rattle.agreement.proofs.History.{sum-more, Fair, World, num-is}
-use Rattle.agreement.proofs.Outcome.{choose}
-use Rattle.agreement.proofs.Places.{Placed}
-use Rattle.agreement.proofs.Runs.{run-length, slots-next}
+use Rattle.bench.proofs.agreement.History.{sum-more, Fair, World, num-is}
+use Rattle.bench.proofs.agreement.Outcome.{choose}
+use Rattle.bench.proofs.agreement.Places.{Placed}
+use Rattle.bench.proofs.agreement.Runs.{run-length, slots-next}
 
 -- ---- which entry a slot has
 

@@ -11,18 +11,18 @@ use Rattle.ring.specs.Ring.{nodeNumber}
 use Rattle.record.specs.declared.Cause.the-variants.{SwitchedOff}
 use Rattle.node.specs.declared.Stepped.{Stepped}
 use Rattle.node.specs.Calls.{offOf, restartOf}
 use Rattle.bench.specs.Table.{Table, tableSound, ringOf, slotsOf}
 use Rattle.bench.specs.Calls.{setUpOf, afterSlot}
 use Rattle.bench.specs.Runs.{Call, slot, off, restart, tableAfter, isSlot, entryOf, entry}
 use Rattle.bench.specs.Demand.{AtEach, KeepsList, HearEverything, Premises}
-use Rattle.agreement.proofs.History.{World, num-is, num-isnt}
-use Rattle.agreement.proofs.Places.{Placed, slots-of-placed}
-use Rattle.agreement.proofs.Accepted.{slot-done, slot-refused, off-done, off-refused, off-no-slot, restarts, restart-done, restart-refused, restart-no-slot}
-use Rattle.agreement.proofs.Runs.{start-table, start-placed, below-limit, placed-run, never-unsound, slots-next}
-use Rattle.agreement.proofs.Entries.{world}
-use Rattle.agreement.proofs.Beginnings.{Beginning, shorter, entry-here}
-use Rattle.agreement.proofs.Tables.{TableInv, off-keeps, restart-keeps, start-keeps}
-use Rattle.agreement.proofs.Slots.{slot-keeps}
+use Rattle.bench.proofs.agreement.History.{World, num-is, num-isnt}
+use Rattle.bench.proofs.agreement.Places.{Placed, slots-of-placed}
+use Rattle.bench.proofs.agreement.Accepted.{slot-done, slot-refused, off-done, off-refused, off-no-slot, restarts, restart-done, restart-refused, restart-no-slot}
+use Rattle.bench.proofs.agreement.Runs.{start-table, start-placed, below-limit, placed-run, never-unsound, slots-next}
+use Rattle.bench.proofs.agreement.Entries.{world}
+use Rattle.bench.proofs.agreement.Beginnings.{Beginning, shorter, entry-here}
+use Rattle.bench.proofs.agreement.Tables.{TableInv, off-keeps, restart-keeps, start-keeps}
+use Rattle.bench.proofs.agreement.Slots.{slot-keeps}
 
 -- what demand 3 is given
 pub record Given : Type 0 where

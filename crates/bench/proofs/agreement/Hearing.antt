@@ -21,13 +21,13 @@ use Rattle.record.specs.declared.Window.{Window}
 use Rattle.changes.specs.Changes.{listeningAfter, followingWith, withWindow}
 use Rattle.steps.specs.Steps.{isHeard}
 use Rattle.hearing.specs.Hearing.{overheard, clean, windowEnd, listeningSlot}
 use Rattle.bench.specs.Runs.{Entry}
-use Rattle.agreement.proofs.History.{World, K, KFact}
-use Rattle.agreement.proofs.Invariant.{Tracking, ListeningInv}
-use Rattle.agreement.proofs.Marks.{no-both, not-true, not-false, bitsIn}
-use Rattle.agreement.proofs.Outcome.{choose}
-use Rattle.agreement.proofs.Listed.{other-sender}
-use Rattle.agreement.proofs.Rounds.{K′}
+use Rattle.bench.proofs.agreement.History.{World, K, KFact}
+use Rattle.bench.proofs.agreement.Invariant.{Tracking, ListeningInv}
+use Rattle.bench.proofs.agreement.Marks.{no-both, not-true, not-false, bitsIn}
+use Rattle.bench.proofs.agreement.Outcome.{choose}
+use Rattle.bench.proofs.agreement.Listed.{other-sender}
+use Rattle.bench.proofs.agreement.Rounds.{K′}
 
 -- a knock's bits have no ones to run
 run-zero : run 0 ≡ 0

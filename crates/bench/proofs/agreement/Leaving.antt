@@ -15,10 +15,10 @@ use Rattle.ring.specs.Ring.{sender}
 use Rattle.ring.proofs.Senders.{same-slot, size-round}
 use Rattle.ring.proofs.Walks.{member}
 use Rattle.steps.specs.Steps.{isFound}
 use Rattle.bench.specs.Demand.{memberAfter}
-use Rattle.agreement.proofs.History.{World, K, lst, span, num-is, sum-more}
-use Rattle.agreement.proofs.Depart.{since-next}
-use Rattle.agreement.proofs.Onwards.{Ahead, onwards-meets}
+use Rattle.bench.proofs.agreement.History.{World, K, lst, span, num-is, sum-more}
+use Rattle.bench.proofs.agreement.Depart.{since-next}
+use Rattle.bench.proofs.agreement.Onwards.{Ahead, onwards-meets}
 
 same-member : (x y : ℕ) → Member x ≡ Member y → x ≡ y
 same-member x y e = cc

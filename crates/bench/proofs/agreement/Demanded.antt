@@ -19,22 +19,22 @@ use Rattle.ring.specs.Ring.{sender}
 use Rattle.ring.proofs.Senders.{sender-period}
 use Rattle.record.specs.Soundness.{sound, limit}
 use Rattle.steps.specs.Steps.{isFound}
 use Rattle.bench.specs.Table.{Table, recordOf, slotsOf, speaker}
 use Rattle.bench.specs.Runs.{Call, slot, off, restart, tableAfter, isSlot, listOf, Entry, entryOf, entry}
 use Rattle.bench.specs.Demand.{AtEach, KeepsList, HearEverything, memberAfter, isDeciding, isDecided, Failed, MemberAt, OnAll, OffAll, Claims, Demand3}
-use Rattle.agreement.proofs.History.{World, lst, full-round, num-is, num-isnt}
-use Rattle.agreement.proofs.Marks.{no-both}
-use Rattle.agreement.proofs.Returns.{found-it}
-use Rattle.agreement.proofs.Alike.{member-tracks}
-use Rattle.agreement.proofs.Places.{Placed}
-use Rattle.agreement.proofs.Accepted.{off-no-slot, restart-no-slot}
-use Rattle.agreement.proofs.Runs.{below-limit, placed-run, slots-next}
-use Rattle.agreement.proofs.Beginnings.{Beginning, whole, shorter, entry-stable, decided-later}
-use Rattle.agreement.proofs.Tables.{list-is}
-use Rattle.agreement.proofs.Slots.{speaker-is, list, listed-is}
-use Rattle.agreement.proofs.Leaving.{not-found, deciding, undecided}
-use Rattle.agreement.proofs.Kept as kept
-use Rattle.agreement.proofs.Kept.{Given, Run, run, none-yet, entry-at}
+use Rattle.bench.proofs.agreement.History.{World, lst, full-round, num-is, num-isnt}
+use Rattle.bench.proofs.agreement.Marks.{no-both}
+use Rattle.bench.proofs.agreement.Returns.{found-it}
+use Rattle.bench.proofs.agreement.Alike.{member-tracks}
+use Rattle.bench.proofs.agreement.Places.{Placed}
+use Rattle.bench.proofs.agreement.Accepted.{off-no-slot, restart-no-slot}
+use Rattle.bench.proofs.agreement.Runs.{below-limit, placed-run, slots-next}
+use Rattle.bench.proofs.agreement.Beginnings.{Beginning, whole, shorter, entry-stable, decided-later}
+use Rattle.bench.proofs.agreement.Tables.{list-is}
+use Rattle.bench.proofs.agreement.Slots.{speaker-is, list, listed-is}
+use Rattle.bench.proofs.agreement.Leaving.{not-found, deciding, undecided}
+use Rattle.bench.proofs.agreement.Kept as kept
+use Rattle.bench.proofs.agreement.Kept.{Given, Run, run, none-yet, entry-at}
 
 module _ (G : Given) where
   open Given G using (n, k, three, all, premises)

@@ -12,11 +12,11 @@ use Rattle.nodeset.proofs.Laws.{has-with-other, with-lt}
 use Rattle.ring.specs.Ring.{sender}
 use Rattle.ring.proofs.Senders.{sender-range, sender-period}
 use Rattle.ring.proofs.Walks.{Met, walk-meets}
-use Rattle.agreement.proofs.History.{World, K, KFact, lst, full-round, size-from, num-isnt}
-use Rattle.agreement.proofs.Marks.{no-both}
-use Rattle.agreement.proofs.Listed.{Begins, ListedSlot, same-window}
-use Rattle.agreement.proofs.Depart.{since-next, k-after, drop-lt}
-use Rattle.agreement.proofs.Join.{A, Next, plain, grown}
+use Rattle.bench.proofs.agreement.History.{World, K, KFact, lst, full-round, size-from, num-isnt}
+use Rattle.bench.proofs.agreement.Marks.{no-both}
+use Rattle.bench.proofs.agreement.Listed.{Begins, ListedSlot, same-window}
+use Rattle.bench.proofs.agreement.Depart.{since-next, k-after, drop-lt}
+use Rattle.bench.proofs.agreement.Join.{A, Next, plain, grown}
 
 module _ (W : World) where
   open World W using (n, k, n-pos, n-most, k-two, k-lt, E, fair, few, once)

@@ -20,13 +20,13 @@ use Rattle.changes.specs.Changes.{starting}
 use Rattle.changes.proofs.Sound.{starting-sound}
 use Rattle.node.specs.Calls.{stepOf, offOf, restartOf}
 use Rattle.node.proofs.Sound.{step-sound, off-sound, restart-sound}
 use Rattle.bench.specs.Table.{Table, recordOf, each, tableSound, ringOf, slotsOf, speaker}
 use Rattle.bench.specs.Calls.{startTable, setUpOf, heardBy, afterSlot, afterOff, afterRestart}
 use Rattle.bench.specs.Runs.{Call, slot, off, restart, callOf, tableAfter, isSlot}
-use Rattle.agreement.proofs.Outcome.{choose}
-use Rattle.agreement.proofs.Places.{length-each, record-each, InPlace, Placed, placed-sound, slots-of-placed}
-use Rattle.agreement.proofs.Counted.{Numbers, step-numbers, off-same, restart-same}
-use Rattle.agreement.proofs.Accepted.{start-is, slotRuns, is-slot, slot-done, slot-refused, off-done, off-refused, restarts, restart-done, restart-refused, off-no-slot, restart-no-slot}
+use Rattle.bench.proofs.agreement.Outcome.{choose}
+use Rattle.bench.proofs.agreement.Places.{length-each, record-each, InPlace, Placed, placed-sound, slots-of-placed}
+use Rattle.bench.proofs.agreement.Counted.{Numbers, step-numbers, off-same, restart-same}
+use Rattle.bench.proofs.agreement.Accepted.{start-is, slotRuns, is-slot, slot-done, slot-refused, off-done, off-refused, restarts, restart-done, restart-refused, off-no-slot, restart-no-slot}
 
 -- ---- the records of the table that a call leaves
 

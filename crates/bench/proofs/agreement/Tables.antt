@@ -19,17 +19,17 @@ use Rattle.record.specs.declared.Cause.{Cause}
 use Rattle.record.specs.States.{isMember}
 use Rattle.changes.specs.Changes.{starting, outFor, fresh}
 use Rattle.node.specs.Calls.{noNode}
 use Rattle.bench.specs.declared.Listed.the-variants as listed
 use Rattle.bench.specs.Table.{Table, recordOf, each, slotsOf}
 use Rattle.bench.specs.Calls.{startTable, listIn}
 use Rattle.bench.specs.Runs.{Entry, setIn, listOf}
-use Rattle.agreement.proofs.History.{World, K}
-use Rattle.agreement.proofs.Marks.{no-both}
-use Rattle.agreement.proofs.Rounds.{K′}
-use Rattle.agreement.proofs.Hearing.{fresh-inv}
-use Rattle.agreement.proofs.Alike.{member-tracks}
-use Rattle.agreement.proofs.Nodes.{NodeInv}
-use Rattle.agreement.proofs.Places.{length-each, record-each}
+use Rattle.bench.proofs.agreement.History.{World, K}
+use Rattle.bench.proofs.agreement.Marks.{no-both}
+use Rattle.bench.proofs.agreement.Rounds.{K′}
+use Rattle.bench.proofs.agreement.Hearing.{fresh-inv}
+use Rattle.bench.proofs.agreement.Alike.{member-tracks}
+use Rattle.bench.proofs.agreement.Nodes.{NodeInv}
+use Rattle.bench.proofs.agreement.Places.{length-each, record-each}
 
 -- ---- the list
 

@@ -16,8 +16,8 @@ use Rattle.changes.specs.Changes.{counted, withSet, withWindow, followingWith, 
 use Rattle.steps.specs.Steps.{marked, trackingSlot}
 use Rattle.hearing.specs.Hearing.{overheard, clean, windowEnd, listeningSlot}
 use Rattle.node.specs.Slot.{slotIn}
-use Rattle.agreement.proofs.Marks.{no-both}
-use Rattle.agreement.proofs.Outcome.{choose, Gone, isout, listens, Settled, gone, kept, backed, became, joined, Departed, left, settled, Inside, missed, went, Noted, knocks, silent, awaits, ignores, setAfter}
+use Rattle.bench.proofs.agreement.Marks.{no-both}
+use Rattle.bench.proofs.agreement.Outcome.{choose, Gone, isout, listens, Settled, gone, kept, backed, became, joined, Departed, left, settled, Inside, missed, went, Noted, knocks, silent, awaits, ignores, setAfter}
 
 pub not-listening : (st : State) → tracks st ≡ true → isListening st ≡ false
 not-listening Member f = refl

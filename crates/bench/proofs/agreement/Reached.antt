@@ -13,8 +13,8 @@ use Rattle.record.proofs.Tracking.{tracks}
 use Rattle.steps.specs.Steps.{isHeard}
 use Rattle.node.specs.Slot as node
 use Rattle.node.specs.Calls as calls
 use Rattle.bench.specs.Calls.{unheard}
-use Rattle.agreement.proofs.Marks.{bitsIn}
+use Rattle.bench.proofs.agreement.Marks.{bitsIn}
 
 -- ---- what is heard: by whose slot it is, what is lost, who is named, who sends
 

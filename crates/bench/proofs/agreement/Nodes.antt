@@ -18,17 +18,17 @@ use Rattle.changes.specs.Changes.{counted, withSet}
 use Rattle.steps.specs.Steps.{isHeard, marked, noted, settle, insideSlot, outsideSlot, trackingSlot}
 use Rattle.hearing.specs.Hearing.{listeningSlot}
 use Rattle.node.specs.Slot.{slotIn}
-use Rattle.agreement.proofs.History.{World, K}
-use Rattle.agreement.proofs.Invariant.{Tracking, ListeningInv, Awaits, aware, unaware}
-use Rattle.agreement.proofs.Marks.{no-both, bitsIn}
-use Rattle.agreement.proofs.Outcome.{Gone, Settled, left, settled, Inside, missed, went, inside-law, noted-law, Noted, settle-outside, setAfter}
-use Rattle.agreement.proofs.Listed.{Begins, Hears, Says, ListedSlot, Hearer}
-use Rattle.agreement.proofs.Returns.{set-after}
-use Rattle.agreement.proofs.Join.{A, Next, after-inside, next-from}
-use Rattle.agreement.proofs.Outside.{OwnSlot, after-noted}
-use Rattle.agreement.proofs.Rounds.{K′}
-use Rattle.agreement.proofs.Hearing.{fresh-inv, listening-law, Hearkened, on, again, follows}
-use Rattle.agreement.proofs.Alike.{not-listening, listening-only, Basic, Like, gone-like, gone-not, inside-like, noted-like, member-tracks, listening-not-member, by-state}
+use Rattle.bench.proofs.agreement.History.{World, K}
+use Rattle.bench.proofs.agreement.Invariant.{Tracking, ListeningInv, Awaits, aware, unaware}
+use Rattle.bench.proofs.agreement.Marks.{no-both, bitsIn}
+use Rattle.bench.proofs.agreement.Outcome.{Gone, Settled, left, settled, Inside, missed, went, inside-law, noted-law, Noted, settle-outside, setAfter}
+use Rattle.bench.proofs.agreement.Listed.{Begins, Hears, Says, ListedSlot, Hearer}
+use Rattle.bench.proofs.agreement.Returns.{set-after}
+use Rattle.bench.proofs.agreement.Join.{A, Next, after-inside, next-from}
+use Rattle.bench.proofs.agreement.Outside.{OwnSlot, after-noted}
+use Rattle.bench.proofs.agreement.Rounds.{K′}
+use Rattle.bench.proofs.agreement.Hearing.{fresh-inv, listening-law, Hearkened, on, again, follows}
+use Rattle.bench.proofs.agreement.Alike.{not-listening, listening-only, Basic, Like, gone-like, gone-not, inside-like, noted-like, member-tracks, listening-not-member, by-state}
 
 module _ (W : World) where
   open World W using (n, k, n-pos, E)

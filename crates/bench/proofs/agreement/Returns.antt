@@ -25,12 +25,12 @@ use Rattle.record.specs.declared.State.{State}
 use Rattle.record.specs.declared.State.the-variants.{Member, Listening, Following, Knocking, Out}
 use Rattle.record.specs.States.{isMember, isKnocking}
 use Rattle.steps.specs.Steps.{isHeard, returnIn, isFound, marksAfter, missedReturn, returnHeard, marked, joins}
-use Rattle.agreement.proofs.History.{World, Untold, lst, told-in-time, one-knock, num-is}
-use Rattle.agreement.proofs.Invariant.{Knock, Awaits, aware, unaware}
-use Rattle.agreement.proofs.Marks.{no-both, not-true, not-false}
-use Rattle.agreement.proofs.Outcome.{setAfter}
-use Rattle.agreement.proofs.Listed.{Says, ListedSlot, Hearer, same-window, extend, missed-failure, off-after, on-after}
-use Rattle.agreement.proofs.Depart.{drop-sub, drop-keeps, since-next, L₁}
+use Rattle.bench.proofs.agreement.History.{World, Untold, lst, told-in-time, one-knock, num-is}
+use Rattle.bench.proofs.agreement.Invariant.{Knock, Awaits, aware, unaware}
+use Rattle.bench.proofs.agreement.Marks.{no-both, not-true, not-false}
+use Rattle.bench.proofs.agreement.Outcome.{setAfter}
+use Rattle.bench.proofs.agreement.Listed.{Says, ListedSlot, Hearer, same-window, extend, missed-failure, off-after, on-after}
+use Rattle.bench.proofs.agreement.Depart.{drop-sub, drop-keeps, since-next, L₁}
 
 -- ---- tests taken apart
 

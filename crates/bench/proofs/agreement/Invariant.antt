@@ -7,7 +7,7 @@ use Rattle.nodeset.specs.Sets.{has}
 use Rattle.ring.specs.Ring.{sender}
 use Rattle.record.specs.declared.Node.{Node}
 use Rattle.record.specs.States.{isMember, isKnocking}
-use Rattle.agreement.proofs.History.{World, Untold}
+use Rattle.bench.proofs.agreement.History.{World, Untold}
 
 module _ (W : World) where
   open World W using (n, k, E)

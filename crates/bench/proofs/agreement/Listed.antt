@@ -18,9 +18,9 @@ use Rattle.message.specs.declared.Reading.{Reading}
 use Rattle.record.specs.declared.Node.{Node}
 use Rattle.record.specs.States.{isMember}
 use Rattle.steps.specs.Steps.{isHeard, returnIn, marksAfter}
-use Rattle.agreement.proofs.History.{World, sender-most, Untold, K, lst, told-in-time, ks-is, Decision, sponsored-since, Sponsored, num-is}
-use Rattle.agreement.proofs.Invariant.{Tracking, Off}
-use Rattle.agreement.proofs.Marks.{no-both, not-true, not-false, bitsIn, Told, sponsors, mark-of-sender, off-before, on-before}
+use Rattle.bench.proofs.agreement.History.{World, sender-most, Untold, K, lst, told-in-time, ks-is, Decision, sponsored-since, Sponsored, num-is}
+use Rattle.bench.proofs.agreement.Invariant.{Tracking, Off}
+use Rattle.bench.proofs.agreement.Marks.{no-both, not-true, not-false, bitsIn, Told, sponsors, mark-of-sender, off-before, on-before}
 
 module _ (W : World) where
   open World W using (n, k, n-pos, n-most, k-two, k-lt, E, fair, few, once)
