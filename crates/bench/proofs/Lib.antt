@@ -5,3 +5,4 @@ pub mod Surveys
 pub mod Works
 pub mod Readings
 pub mod agreement
+pub mod Reports
