@@ -3,3 +3,5 @@ pub mod Calls
 pub mod Pairs
 pub mod Runs
 pub mod Demand
+pub mod Survey
+pub mod Orders

@@ -1,0 +1,22 @@
+-- `bench::place_of` meets its contract: its test is that of the definition. Assumes nothing.
+use borrow.Author.Needs.{needs}
+use mathlib.Core.Path.{_≡_, refl, sym, ap, ap₂, _∙_}
+use Rattle.nodeset.proofs.Tests.{failed, passed, told, chosen, otherwise}
+use borrow.Author.Tests.{eq-eqb, ne-eqb, le-leb, lt-leb, lt-ltb, le-ltb}
+use Rattle.bench.proofs.place_of.Statement.{statement}
+use Rattle.bench.proofs.place_of.Tie as tie
+
+returns : tie.Need-returns
+returns c = sym (otherwise _ _ (le-ltb _ _ (c .if1 .taken)))
+
+cast-result : tie.Need-cast-result
+cast-result c = search needs
+
+add-result : tie.Need-add-result
+add-result c = search needs
+
+returns-2 : tie.Need-returns-2
+returns-2 c = sym (chosen _ _ (lt-ltb _ _ (c .if1 .left)))
+
+pub place-of-spec : {M : Type 1} → statement M
+place-of-spec = tie.close (tie.spec returns cast-result add-result returns-2)
