@@ -1,3 +1,5 @@
 pub mod Numbers
 pub mod Partly
 pub mod Shared
+pub mod Surveys
+pub mod Works

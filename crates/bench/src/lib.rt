@@ -14,6 +14,7 @@ ghost use Prim.Native.Nat.{_+_, _<_};
 ghost use lib.Dec.{eqb};
 ghost use lib.ListN.{length, take};
 ghost use Rattle.bench.specs.Table.{inPlace};
+ghost use Rattle.bench.specs.Calls.{setUpOf, offOf, restartOf};
 ghost use Rattle.bench.specs.Pairs.{sameState, kindFrom};
 ghost use Rattle.bench.specs.Survey.{senderAfter, begun, listWith, seen, surveyed, unseen, surveyOf, fineTable, farFrom, gathered, noMembers, membersOf};
 ghost use Rattle.bench.specs.Orders.{askedNode, setUpOrder, offOrder, restartOrder, saidBy, slotOrder, orderOf, placeOf, offAt, restartAt, stepAt, carried, carriedFrom, pushed, noted, noPairs, notedFrom, answerTo, reported, reportOf, orderFor};
@@ -548,4 +549,59 @@ fn work(table: &mut [Node], asked: Asked) -> Report
     let order = order_of(asked, s, table.len());
     let told = carry_out(table, order);
     reporting(order, told)
+}
+
+fn set_up_asked(n: u32, k: u32) -> Asked
+    ensures { λ r. ⌜ r ≡ Asked.SetUp n k ⌝ }
+{
+    Asked::SetUp(n, k)
+}
+
+fn off_asked(a: u32) -> Asked
+    ensures { λ r. ⌜ r ≡ Asked.Off a ⌝ }
+{
+    Asked::Off(a)
+}
+
+fn restart_asked(a: u32) -> Asked
+    ensures { λ r. ⌜ r ≡ Asked.Restart a ⌝ }
+{
+    Asked::Restart(a)
+}
+
+fn slot_asked(lost: bool, missed: u32, room: usize) -> Asked
+    ensures { λ r. ⌜ r ≡ Asked.Slot lost missed room ⌝ }
+{
+    Asked::Slot(lost, missed, room)
+}
+
+fn answer_of(report: Report) -> Answer
+    ensures { λ r. ⌜ r ≡ report .answer ⌝ }
+{
+    let answer = report.answer;
+    answer
+}
+
+// Sets the table up: all nodes are members, the sets full, all marks on. Refuses by 1, 2 and 4.
+pub fn set_up(n: u32, k: u32, table: &mut [Node]) -> Answer
+    ensures { λ r. ⌜ record { table = now (table .exit); answer = r } ≡ setUpOf n k (now (table .entry)) ⌝ }
+{
+    let report = work(table, set_up_asked(n, k));
+    answer_of(report)
+}
+
+// Switches node a off. Refuses by 4 and 3.
+pub fn off(table: &mut [Node], a: u32) -> Answer
+    ensures { λ r. ⌜ record { table = now (table .exit); answer = r } ≡ offOf a (now (table .entry)) ⌝ }
+{
+    let report = work(table, off_asked(a));
+    answer_of(report)
+}
+
+// Restarts node a, which is out: it listens. Refuses by 4, 3 and 11.
+pub fn restart(table: &mut [Node], a: u32) -> Answer
+    ensures { λ r. ⌜ record { table = now (table .exit); answer = r } ≡ restartOf a (now (table .entry)) ⌝ }
+{
+    let report = work(table, restart_asked(a));
+    answer_of(report)
 }
