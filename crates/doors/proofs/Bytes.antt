@@ -13,7 +13,7 @@ use base.Logic.{ent, sep, ex}
 use base.Fml.{Lft, GName, fsep, fat, fdead, flent}
 use prog.Wp.{Heap}
 use ghost.Atoms.{Atoms, sem}
-use types.Kit.{Given, ‵, raw, some, later, _⊛_, _$_, _∵_, !, qed, by, move, keep, drop, use1, use3, split, pick, rewrite, fsplit, fjoin, fpick, fpack, feqL, feqI, show, await, updating, now as at-once, done}
+use types.Kit.{Given, ‵, later, _$_, _∵_, !, qed, by, move, keep, drop, use1, use3, rewrite, fsplit, fjoin, fpick, fpack, feqI, await, updating, now as at-once}
 use types.Share.{arr-parts}
 use types.SemTy.{cells, Arr}
 use denote.RattleType.{RattleType}
