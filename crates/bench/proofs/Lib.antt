@@ -3,3 +3,4 @@ pub mod Partly
 pub mod Shared
 pub mod Surveys
 pub mod Works
+pub mod Readings

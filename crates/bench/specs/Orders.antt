@@ -140,3 +140,17 @@ reported o p = record { answer = answerTo o; told = p }
 
 unfoldable pub reportOf : Order → Table → Report
 reportOf o t = reported o (notedFrom o noPairs 0 t)
+
+-- ---- what is read from a survey of a table of so many records
+
+abbrev pub listedBy : Survey → ℕ → Listed
+listedBy s size = cond (fineTable s size) (s .list) (listed.Refused Unsound)
+
+abbrev pub apartBy : Members → ℕ → Apart
+apartBy m size = cond (fineTable (m .survey) size) (apart.Nodes (m .greatest)) (apart.Refused Unsound)
+
+abbrev pub fateBy : Bool → Node → Fate
+fateBy lost v = cond (sends v) (cond lost fate.Lost (cond (isMember (v .state)) fate.Sent fate.Knock)) fate.Silent
+
+abbrev pub nextBy : Bool → Survey → ℕ → Next
+nextBy lost s size = cond (fineTable s size) (next.Slot (s .sender) (fateBy lost (s .speaker))) (next.Refused Unsound)

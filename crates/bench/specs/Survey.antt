@@ -3,7 +3,7 @@ use Prim.Native.Nat.{ℕ, zero, suc, _+_, max}
 use mathlib.Core.Bool.{Bool, true, false, cond, _&&_}
 use mathlib.Core.List.{List, [], _∷_}
 use lib.Dec.{eqb, ltb}
-use lib.ListN.{length, take, set, replicate}
+use lib.ListN.{length, getD, set, replicate}
 use Rattle.nodeset.specs.Sets.{distance}
 use Rattle.ring.specs.Answers.{senderOf}
 use Rattle.ring.specs.declared.Speaker.{Speaker}
@@ -84,23 +84,23 @@ fineTable s size = s .fine && eqb (s .n) size
 
 -- ---- the sets of the members, and the greatest distance of two of them
 
--- The greatest distance of a set from those of a list.
-unfoldable pub farFrom : ℕ → ℕ → List ℕ → ℕ
-farFrom n set [] = 0
-farFrom n set (x ∷ xs) = max (farFrom n set xs) (distance n x set)
+-- The greatest distance of a set from the first j of a list.
+unfoldable pub farFrom : ℕ → ℕ → List ℕ → ℕ → ℕ
+farFrom n set sets zero = 0
+farFrom n set sets (suc j) = max (farFrom n set sets j) (distance n (getD sets j 0) set)
 
-abbrev pub memberSeen : ℕ → Survey → Members → Node → Members
-memberSeen n s m v = record {
+abbrev pub memberSeen : Survey → Members → ℕ → Members
+memberSeen s m y = record {
   survey = s;
   count = m .count + 1;
-  sets = set (m .sets) (m .count) (v .set);
-  greatest = max (m .greatest) (farFrom n (v .set) (take (m .count) (m .sets)));
+  sets = set (m .sets) (m .count) y;
+  greatest = max (m .greatest) (farFrom (s .n) y (m .sets) (m .count));
 }
 
 unfoldable pub gathered : Members → ℕ → Node → Members
 gathered m i v =
     cond (isMember (v .state) && ltb (m .count) 32)
-    (memberSeen (surveyed (m .survey) i v .n) (surveyed (m .survey) i v) m v)
+    (memberSeen (surveyed (m .survey) i v) m (v .set))
     (record { survey = surveyed (m .survey) i v; count = m .count; sets = m .sets; greatest = m .greatest })
 
 abbrev pub gatheredFrom : Members → ℕ → Table → Members

@@ -10,14 +10,14 @@ use refusal::Refusal;
 use ring::Speaker;
 ghost use mathlib.Core.Path.{_≡_};
 ghost use mathlib.Core.Bool.{cond};
-ghost use Prim.Native.Nat.{_+_, _<_};
+ghost use Prim.Native.Nat.{_+_, _<_, _≤_, max};
 ghost use lib.Dec.{eqb};
 ghost use lib.ListN.{length, take};
 ghost use Rattle.bench.specs.Table.{inPlace};
-ghost use Rattle.bench.specs.Calls.{setUpOf, offOf, restartOf};
+ghost use Rattle.bench.specs.Calls.{setUpOf, offOf, restartOf, listedOf, distanceOf, nextOf};
 ghost use Rattle.bench.specs.Pairs.{sameState, kindFrom};
-ghost use Rattle.bench.specs.Survey.{senderAfter, begun, listWith, seen, surveyed, unseen, surveyOf, fineTable, farFrom, gathered, noMembers, membersOf};
-ghost use Rattle.bench.specs.Orders.{askedNode, setUpOrder, offOrder, restartOrder, saidBy, slotOrder, orderOf, placeOf, offAt, restartAt, stepAt, carried, carriedFrom, pushed, noted, noPairs, notedFrom, answerTo, reported, reportOf, orderFor};
+ghost use Rattle.bench.specs.Survey.{senderAfter, begun, listWith, seen, surveyed, unseen, surveyOf, fineTable, farFrom, memberSeen, gathered, noMembers, membersOf};
+ghost use Rattle.bench.specs.Orders.{askedNode, setUpOrder, offOrder, restartOrder, saidBy, slotOrder, orderOf, placeOf, offAt, restartAt, stepAt, carried, carriedFrom, pushed, noted, noPairs, notedFrom, answerTo, reported, reportOf, orderFor, listedBy, apartBy, fateBy, nextBy};
 
 // What came of a slot: how many pairs tell its changes.
 pub enum Changed {
@@ -500,6 +500,126 @@ fn answer_to(order: Order) -> Answer
     }
 }
 
+// The greater number.
+fn larger(a: u32, b: u32) -> u32
+    ensures { λ r. ⌜ r ≡ max a b ⌝ }
+{
+    if a < b { b } else { a }
+}
+
+// The greatest distance of a set from the first so many of the sets. Requires that there are so many.
+fn far_from(n: u32, set: u32, sets: [u32; 32], count: u32) -> u32
+    requires { ⌜ count ≤ 32 ⌝ }
+    ensures { λ r. ⌜ r ≡ farFrom n set sets count ⌝ }
+{
+    let mut far = 0;
+    let mut j: u32 = 0;
+    while j < count {
+        far = larger(far, nodeset::distance(n, sets[j as usize], set));
+        j += 1;
+    }
+    far
+}
+
+// What is gathered with a member's set, which stands after the others. Requires room for it.
+fn member_seen(s: Survey, m: Members, set: u32) -> Members
+    requires { ⌜ m .count < 32 ⌝ }
+    ensures { λ r. ⌜ r ≡ memberSeen s m set ⌝ }
+{
+    let mut sets = m.sets;
+    let far = far_from(s.n, set, sets, m.count);
+    let greatest = larger(m.greatest, far);
+    sets[m.count as usize] = set;
+    Members {
+        survey: s,
+        count: m.count + 1,
+        sets,
+        greatest,
+    }
+}
+
+// What is gathered with the record at index i.
+fn gathered(m: Members, i: usize, v: Node) -> Members
+    ensures { λ r. ⌜ r ≡ gathered m i v ⌝ }
+{
+    let before = m.survey;
+    let state = v.state;
+    let survey = surveyed(before, i, v);
+    if record::is_member(state) & (m.count < 32) {
+        return member_seen(survey, m, v.set);
+    }
+    let sets = m.sets;
+    Members {
+        survey,
+        count: m.count,
+        sets,
+        greatest: m.greatest,
+    }
+}
+
+fn no_members() -> Members
+    ensures { λ r. ⌜ r ≡ noMembers ⌝ }
+{
+    let survey = unseen(0);
+    Members {
+        survey,
+        count: 0,
+        sets: [0; 32],
+        greatest: 0,
+    }
+}
+
+// The list of a table of so many records.
+fn list_of(s: Survey, size: usize) -> Listed
+    ensures { λ r. ⌜ r ≡ listedBy s size ⌝ }
+{
+    let list = s.list;
+    if !is_fine(s, size) {
+        return Listed::Refused(Refusal::Unsound);
+    }
+    list
+}
+
+// The greatest distance in a table of so many records.
+fn distance_of(m: Members, size: usize) -> Apart
+    ensures { λ r. ⌜ r ≡ apartBy m size ⌝ }
+{
+    let survey = m.survey;
+    if !is_fine(survey, size) {
+        return Apart::Refused(Refusal::Unsound);
+    }
+    Apart::Nodes(m.greatest)
+}
+
+// What comes of the speaker's message.
+fn fate_of(lost: bool, v: Node) -> Fate
+    ensures { λ r. ⌜ r ≡ fateBy lost v ⌝ }
+{
+    let state = v.state;
+    if !sending::sends(v) {
+        return Fate::Silent;
+    }
+    if lost {
+        return Fate::Lost;
+    }
+    if record::is_member(state) {
+        return Fate::Sent;
+    }
+    Fate::Knock
+}
+
+// The next slot of a table of so many records.
+fn next_of(lost: bool, s: Survey, size: usize) -> Next
+    ensures { λ r. ⌜ r ≡ nextBy lost s size ⌝ }
+{
+    let speaker = s.speaker;
+    if !is_fine(s, size) {
+        return Next::Refused(Refusal::Unsound);
+    }
+    let fate = fate_of(lost, speaker);
+    Next::Slot(s.sender, fate)
+}
+
 // What came of an order.
 fn reporting(order: Order, told: Told) -> Report
     ensures { λ r. ⌜ r ≡ reported order told ⌝ }
@@ -522,6 +642,19 @@ fn look_over(table: &[Node], asked: u32) -> Survey
         i += 1;
     }
     s
+}
+
+// Looks over the table, and gathers the members' sets.
+fn look_through(table: &[Node]) -> Members
+    ensures { λ r. ⌜ r ≡ membersOf (now (table .entry)) ⌝ }
+{
+    let mut m = no_members();
+    let mut i = 0;
+    while i < table.len() {
+        m = gathered(m, i, table[i]);
+        i += 1;
+    }
+    m
 }
 
 // Has each record do what is ordered, and tells whose state changed.
@@ -604,4 +737,28 @@ pub fn restart(table: &mut [Node], a: u32) -> Answer
 {
     let report = work(table, restart_asked(a));
     answer_of(report)
+}
+
+// The list: the set of the lowest-numbered member. Refuses by 4.
+pub fn list(table: &[Node]) -> Listed
+    ensures { λ r. ⌜ r ≡ listedOf (now (table .entry)) ⌝ }
+{
+    let s = look_over(table, 0);
+    list_of(s, table.len())
+}
+
+// The greatest distance between sets of two members. Refuses by 4.
+pub fn distance(table: &[Node]) -> Apart
+    ensures { λ r. ⌜ r ≡ distanceOf (now (table .entry)) ⌝ }
+{
+    let m = look_through(table);
+    distance_of(m, table.len())
+}
+
+// The sender of the next slot and what comes of its message, lost or not. Refuses by 4.
+pub fn next_slot(table: &[Node], lost: bool) -> Next
+    ensures { λ r. ⌜ r ≡ nextOf lost (now (table .entry)) ⌝ }
+{
+    let s = look_over(table, 0);
+    next_of(lost, s, table.len())
 }

@@ -1,0 +1,20 @@
+-- `bench::no_members` meets its contract. Assumes nothing.
+use borrow.Author.Needs.{needs}
+use Prim.Native.Nat.{ℕ}
+use mathlib.Core.Path.{_≡_, refl, sym, ap, ap₂, _∙_}
+use lib.ListN.{replicate}
+use Rattle.bench.specs.declared.Survey.{Survey}
+use Rattle.bench.specs.declared.Members.{Members}
+use Rattle.bench.specs.Survey.{noMembers}
+use Rattle.bench.proofs.no_members.Statement.{statement}
+use Rattle.bench.proofs.no_members.Tie as tie
+
+unseen-requires : tie.Need-unseen-requires
+unseen-requires c κs = search needs
+
+returns : tie.Need-returns
+unfolding noMembers
+returns c = ap {B = Members} (λ (s : Survey). record { survey = s; count = 0; sets = replicate 32 0; greatest = 0 }) (c .unseen .ensures)
+
+pub no-members-spec : {M : Type 1} → statement M
+no-members-spec = tie.close (tie.spec unseen-requires returns)
