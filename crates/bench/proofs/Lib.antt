@@ -4,3 +4,4 @@ pub mod Shared
 pub mod Surveys
 pub mod Works
 pub mod Readings
+pub mod Reports

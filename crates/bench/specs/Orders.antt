@@ -1,9 +1,9 @@
 -- Inner: what a call has each record of a table do, and the pairs of a walk. The laws in proofs/ tie it to the definitions of Calls and Pairs.
 use Prim.Native.Nat.{ℕ, zero, suc, _+_, _*_}
 use mathlib.Core.Bool.{Bool, true, false, cond, not, _&&_, _||_}
-use mathlib.Core.List.{List, [], _∷_, _++_}
+use mathlib.Core.List.{List}
 use lib.Dec.{eqb, leb, ltb}
-use lib.ListN.{length, set, replicate, take, drop}
+use lib.ListN.{length, getD, set, replicate}
 use Rattle.refusal.specs.declared.Refusal.{Refusal}
 use Rattle.refusal.specs.declared.Refusal.the-variants.{RingSize, SponsorCount, NodeNumber, Unsound, SlotLimit, OutputShort, NotOut}
 use Rattle.nodeset.specs.Sets.{has, within}
@@ -154,3 +154,27 @@ fateBy lost v = cond (sends v) (cond lost fate.Lost (cond (isMember (v .state)) 
 
 abbrev pub nextBy : Bool → Survey → ℕ → Next
 nextBy lost s size = cond (fineTable s size) (next.Slot (s .sender) (fateBy lost (s .speaker))) (next.Refused Unsound)
+
+-- ---- what is told of a slot
+
+abbrev pub bytesTold : Report → ℕ → ℕ
+bytesTold report room = go (report .answer)
+  where
+    go : Answer → ℕ
+    go answer.Done = cond (leb (report .told .count) 32 && leb 64 room) (report .told .count * 2) 0
+    go (answer.Refused cause) = 0
+
+abbrev pub changedBy : Report → Changed
+changedBy report = go (report .answer)
+  where
+    go : Answer → Changed
+    go answer.Done = changed.Pairs (report .told .count)
+    go (answer.Refused cause) = changed.Refused cause
+
+-- The first so many of the bytes, stored.
+unfoldable pub puts : List ℕ → ℕ → List ℕ → List ℕ
+puts bytes zero out = out
+puts bytes (suc j) out = set (puts bytes j out) j (getD bytes j 0)
+
+abbrev pub writtenBy : Report → List ℕ → List ℕ
+writtenBy report out = puts (report .told .bytes) (bytesTold report (length out)) out

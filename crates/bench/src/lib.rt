@@ -12,12 +12,12 @@ ghost use mathlib.Core.Path.{_≡_};
 ghost use mathlib.Core.Bool.{cond};
 ghost use Prim.Native.Nat.{_+_, _<_, _≤_, max};
 ghost use lib.Dec.{eqb};
-ghost use lib.ListN.{length, take};
+ghost use lib.ListN.{length};
 ghost use Rattle.bench.specs.Table.{inPlace};
-ghost use Rattle.bench.specs.Calls.{setUpOf, offOf, restartOf, listedOf, distanceOf, nextOf};
-ghost use Rattle.bench.specs.Pairs.{sameState, kindFrom};
+ghost use Rattle.bench.specs.Calls.{setUpOf, offOf, restartOf, slotOf, listedOf, distanceOf, nextOf};
+ghost use Rattle.bench.specs.Pairs.{sameState, kindFrom, changedOf, BytesAfter};
 ghost use Rattle.bench.specs.Survey.{senderAfter, begun, listWith, seen, surveyed, unseen, surveyOf, fineTable, farFrom, memberSeen, gathered, noMembers, membersOf};
-ghost use Rattle.bench.specs.Orders.{askedNode, setUpOrder, offOrder, restartOrder, saidBy, slotOrder, orderOf, placeOf, offAt, restartAt, stepAt, carried, carriedFrom, pushed, noted, noPairs, notedFrom, answerTo, reported, reportOf, orderFor, listedBy, apartBy, fateBy, nextBy};
+ghost use Rattle.bench.specs.Orders.{askedNode, setUpOrder, offOrder, restartOrder, saidBy, slotOrder, orderOf, placeOf, offAt, restartAt, stepAt, carried, carriedFrom, pushed, noted, noPairs, notedFrom, answerTo, reported, reportOf, orderFor, listedBy, apartBy, fateBy, nextBy, bytesTold, changedBy, puts, writtenBy};
 
 // What came of a slot: how many pairs tell its changes.
 pub enum Changed {
@@ -631,6 +631,58 @@ fn reporting(order: Order, told: Told) -> Report
     }
 }
 
+// How many bytes of pairs go to a buffer of this length: none where the call is refused.
+fn bytes_told(report: Report, room: usize) -> usize
+    ensures { λ r. ⌜ r ≡ bytesTold report room ⌝ }
+{
+    let answer = report.answer;
+    let told = report.told;
+    match answer {
+        Answer::Done => {
+            if (told.count <= 32) & (64 <= room) {
+                told.count as usize * 2
+            } else {
+                0
+            }
+        }
+        Answer::Refused(_) => 0,
+    }
+}
+
+// Writes the first bytes to the buffer. Requires that it has room for them.
+fn put_bytes(bytes: [u8; 64], end: usize, pairs: &mut [u8])
+    requires { ⌜ (end ≤ 64) × (end ≤ length (now pairs)) ⌝ }
+    ensures { λ _. ⌜ now (pairs .exit) ≡ puts bytes end (now (pairs .entry)) ⌝ }
+{
+    let mut i = 0;
+    while i < end {
+        pairs[i] = bytes[i];
+        i += 1;
+    }
+}
+
+fn changed_by(report: Report) -> Changed
+    ensures { λ r. ⌜ r ≡ changedBy report ⌝ }
+{
+    let answer = report.answer;
+    let told = report.told;
+    match answer {
+        Answer::Done => Changed::Pairs(told.count),
+        Answer::Refused(cause) => Changed::Refused(cause),
+    }
+}
+
+// Writes the pairs to the buffer, and says how many there are.
+fn tell(report: Report, pairs: &mut [u8]) -> Changed
+    ensures { λ r. ⌜ (r ≡ changedBy report) × (now (pairs .exit) ≡ writtenBy report (now (pairs .entry))) ⌝ }
+{
+    let told = report.told;
+    let bytes = told.bytes;
+    let end = bytes_told(report, pairs.len());
+    put_bytes(bytes, end, pairs);
+    changed_by(report)
+}
+
 // Looks over the table.
 fn look_over(table: &[Node], asked: u32) -> Survey
     ensures { λ r. ⌜ r ≡ surveyOf asked (now (table .entry)) ⌝ }
@@ -761,4 +813,19 @@ pub fn next_slot(table: &[Node], lost: bool) -> Next
 {
     let s = look_over(table, 0);
     next_of(lost, s, table.len())
+}
+
+// One slot, whose message is lost to all or not, and which these nodes miss. The nodes whose state
+// changed stand in `pairs`, each with the kind of its change. Refuses by 4, 3, 5 and 9.
+pub fn slot(table: &mut [Node], lost: bool, missed: u32, pairs: &mut [u8]) -> Changed
+    ensures {
+        λ r. ⌜ (let called = slotOf lost missed (length (now (pairs .entry))) (now (table .entry)) in
+            (now (table .exit) ≡ called .table)
+            × ((r ≡ changedOf (now (table .entry)) called)
+            × BytesAfter (now (table .entry)) called (now (pairs .entry)) (now (pairs .exit)))) ⌝
+    }
+{
+    let asked = slot_asked(lost, missed, pairs.len());
+    let report = work(table, asked);
+    tell(report, pairs)
 }
