@@ -9,7 +9,7 @@ use record::Node;
 ghost use mathlib.Core.Path.{_≡_};
 ghost use Prim.Native.Nat.{min};
 ghost use lib.ListN.{replicate};
-ghost use Rattle.doors.specs.Doors.{setUpOf, offOf, restartOf};
+ghost use Rattle.doors.specs.Doors.{setUpOf, offOf, restartOf, slotOf};
 
 // The rows after a call, and what the call answers.
 pub struct Switched {
@@ -82,4 +82,17 @@ pub fn restart(mut rows: [Node; 32], n: u32, a: u32) -> Switched
     let size = size(n);
     let answer = bench::restart(&mut rows[..size], a);
     answered(rows, answer)
+}
+
+// The next slot, a slot, and the list and the distance after it. Refuses by 4, 3 and 5.
+pub fn slot(mut rows: [Node; 32], n: u32, lost: bool, missed: u32) -> Slotted
+    ensures { λ r. ⌜ r ≡ slotOf n lost missed rows ⌝ }
+{
+    let size = size(n);
+    let next = bench::next_slot(&rows[..size], lost);
+    let mut pairs = no_bytes();
+    let changed = bench::slot(&mut rows[..size], lost, missed, &mut pairs);
+    let list = bench::list(&rows[..size]);
+    let apart = bench::distance(&rows[..size]);
+    told(rows, next, changed, list, apart)
 }
