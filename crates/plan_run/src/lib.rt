@@ -78,7 +78,8 @@ fn slot_ran(n: u32, rows: [Node; 32], lost: bool, missed: u32) -> Ran
     ensures { λ r. ⌜ r ≡ slotRan n rows lost missed ⌝ }
 {
     let slotted = doors::slot(rows, n, lost, missed);
-    let first = slotted.rows[0];
+    let all = slotted.rows;
+    let first = all[0];
     let changed = slotted.changed;
     let next = slotted.next;
     let list = slotted.list;
@@ -86,7 +87,7 @@ fn slot_ran(n: u32, rows: [Node; 32], lost: bool, missed: u32) -> Ran
     let report = slot_report(first.slots, changed, next, shown(list), nodes_apart(apart));
     Ran {
         n,
-        rows: slotted.rows,
+        rows: all,
         report,
     }
 }
@@ -95,11 +96,12 @@ fn off_ran(n: u32, rows: [Node; 32], a: u32) -> Ran
     ensures { λ r. ⌜ r ≡ offRan n rows a ⌝ }
 {
     let switched = doors::off(rows, n, a);
+    let all = switched.rows;
     let answer = switched.answer;
     let report = answer_report(answer);
     Ran {
         n,
-        rows: switched.rows,
+        rows: all,
         report,
     }
 }
@@ -108,11 +110,12 @@ fn restart_ran(n: u32, rows: [Node; 32], a: u32) -> Ran
     ensures { λ r. ⌜ r ≡ restartRan n rows a ⌝ }
 {
     let switched = doors::restart(rows, n, a);
+    let all = switched.rows;
     let answer = switched.answer;
     let report = answer_report(answer);
     Ran {
         n,
-        rows: switched.rows,
+        rows: all,
         report,
     }
 }
@@ -156,19 +159,23 @@ fn opened_by(opening: Opening) -> Ran
     match opening {
         Opening::Ring(n, k) => {
             let switched = doors::set_up(no_rows(), n, k);
+            let all = switched.rows;
             let answer = switched.answer;
             let report = answer_report(answer);
             Ran {
                 n,
-                rows: switched.rows,
+                rows: all,
                 report,
             }
         }
-        Opening::Refused(cause) => Ran {
-            n: 0,
-            rows: no_rows(),
-            report: Report::Refused(cause),
-        },
+        Opening::Refused(cause) => {
+            let all = no_rows();
+            Ran {
+                n: 0,
+                rows: all,
+                report: Report::Refused(cause),
+            }
+        }
     }
 }
 
