@@ -68,7 +68,7 @@ fn next(buffer: &mut [u8; 4096], left: Unread) -> Taken {
 }
 
 // Takes a line into the start of `text`, and at most one byte more than it holds.
-pub fn line(buffer: &mut [u8; 4096], left: Unread, text: &mut [u8; 120]) -> Line {
+pub fn take_line(buffer: &mut [u8; 4096], left: Unread, text: &mut [u8; 120]) -> Line {
     let mut left = left;
     let mut length = 0;
     while length <= 120 {

@@ -35,21 +35,35 @@ fn run_line(number: u64, n: u32, rows: [Node; 32], line: &[u8]) -> Ran {
     plan_run::run(n, rows, line)
 }
 
-// Runs a line as it was taken. One without a line feed, or too long, is unreadable.
-fn run_taken(number: u64, n: u32, rows: [Node; 32], text: &[u8; 120], length: usize, ending: Ending) -> Ran {
-    match ending {
-        Ending::LineFeed => {
-            if length <= 120 {
-                return run_line(number, n, rows, &text[..length]);
-            }
-        }
-        Ending::Input => {}
-        Ending::TooLong => {}
-    }
+fn unreadable(n: u32, rows: [Node; 32]) -> Ran {
     Ran {
         n,
         rows,
         report: Report::Refused(Refusal::PlanLine),
+    }
+}
+
+// Runs the line that stands in the first bytes of `text`.
+fn run_text(number: u64, n: u32, rows: [Node; 32], text: &[u8], length: usize) -> Ran {
+    if length <= text.len() {
+        return run_line(number, n, rows, &text[0..length]);
+    }
+    unreadable(n, rows)
+}
+
+// Runs a line as it was taken. One without a line feed, or too long, is unreadable.
+fn run_taken(
+    number: u64,
+    n: u32,
+    rows: [Node; 32],
+    text: &[u8; 120],
+    length: usize,
+    ending: Ending,
+) -> Ran {
+    match ending {
+        Ending::LineFeed => run_text(number, n, rows, text, length),
+        Ending::Input => unreadable(n, rows),
+        Ending::TooLong => unreadable(n, rows),
     }
 }
 
@@ -63,7 +77,7 @@ fn run_plan(input: &mut [u8; 4096], output: &mut [u8; 4096]) -> usize {
     while number < u64::MAX {
         number += 1;
         let mut text = [0u8; 120];
-        let line = input::line(input, left, &mut text);
+        let line = input::take_line(input, left, &mut text);
         let length = line.length;
         let ending = line.ending;
         if is_end(number, length, ending) {

@@ -7,11 +7,16 @@ use plan_text::Written;
 // The bytes that every line fits into.
 const ROOM: usize = 80;
 
+fn write_part(buffer: &[u8], length: usize) {
+    if length <= buffer.len() {
+        let part = &buffer[0..length];
+        io::write_all(1, part);
+    }
+}
+
 // Writes what waits.
 pub fn flush(buffer: &[u8; 4096], held: usize) {
-    if held <= 4096 {
-        io::write_all(1, &buffer[..held]);
-    }
+    write_part(buffer, held)
 }
 
 // Makes room for a line.
@@ -28,10 +33,13 @@ fn held_after(held: usize, written: Written) -> usize {
     let Written::Bytes(count) = written else {
         return held;
     };
-    if held <= 4096 && count <= 4096 - held {
-        return held + count;
+    if 4096 < held {
+        return held;
     }
-    held
+    if ROOM < count {
+        return held;
+    }
+    held + count
 }
 
 fn print_slot(

@@ -4,7 +4,6 @@ use mathlib.Core.Path.{sym, ap, _∙_}
 use Rattle.doors.specs.Doors.{Rows, setUpOf}
 use Rattle.plan_run.specs.declared.Report.{Report}
 use Rattle.plan_run.specs.declared.Report.the-variants as report
-use Rattle.plan_run.specs.declared.Ran.{Ran}
 use Rattle.plan_run.specs.Run.{switched, openedBy}
 use Rattle.plan_run.proofs.opened_by.Statement.{statement}
 use Rattle.plan_run.proofs.opened_by.Tie as tie
@@ -28,7 +27,7 @@ no-rows-requires-2 : tie.Need-no-rows-requires-2
 no-rows-requires-2 c κs = search needs
 
 returns : tie.Need-returns
-returns c = 
+returns c =
     let e = c .before .before .before .before .before .opening .given in
     let r = c .before .before .set-up .result in
     ap (λ (x : Report). record { n = e .0 .0; rows = r .rows; report = x }) (c .answer-report .ensures)
@@ -36,7 +35,7 @@ returns c =
     ∙ sym (ap openedBy (e .1))
 
 returns-2 : tie.Need-returns-2
-returns-2 c = 
+returns-2 c =
     let e = c .before .before .opening2 .given in
     ap (λ (x : Rows). record { n = 0; rows = x; report = report.Refused (e .0 .0) }) (c .no-rows2 .ensures) ∙ sym (ap openedBy (e .1))
 

@@ -1,7 +1,6 @@
 -- `plan_run::ran_by` meets its contract, case by case. Assumes nothing.
 use borrow.Author.Needs.{needs}
 use mathlib.Core.Path.{sym, ap, _∙_}
-use Rattle.plan_line.specs.declared.Order.{Order}
 use Rattle.plan_run.specs.Run.{ranBy}
 use Rattle.plan_run.proofs.ran_by.Statement.{statement}
 use Rattle.plan_run.proofs.ran_by.Tie as tie
@@ -40,32 +39,32 @@ enum-known-order-4 : tie.Need-enum-known-order-4
 enum-known-order-4 c = search needs
 
 returns : tie.Need-returns
-returns c = 
+returns c =
     let a = c .before .before .before .args in
     c .slot-ran .ensures ∙ sym (ap (ranBy (a .n) (a .rows)) (c .before .enum-told .given .1))
 
 returns-2 : tie.Need-returns-2
-returns-2 c = 
+returns-2 c =
     let a = c .before .before .before .args in
     c .slot-ran2 .ensures ∙ sym (ap (ranBy (a .n) (a .rows)) (c .before .enum-told2 .given .1))
 
 returns-3 : tie.Need-returns-3
-returns-3 c = 
+returns-3 c =
     let a = c .before .before .before .before .args in
     c .slot-ran3 .ensures ∙ sym (ap (ranBy (a .n) (a .rows)) (c .before .before .order .given .1))
 
 returns-4 : tie.Need-returns-4
-returns-4 c = 
+returns-4 c =
     let a = c .before .before .before .before .args in
     c .off-ran .ensures ∙ sym (ap (ranBy (a .n) (a .rows)) (c .before .before .order2 .given .1))
 
 returns-5 : tie.Need-returns-5
-returns-5 c = 
+returns-5 c =
     let a = c .before .before .before .before .args in
     c .restart-ran .ensures ∙ sym (ap (ranBy (a .n) (a .rows)) (c .before .before .order3 .given .1))
 
 returns-6 : tie.Need-returns-6
-returns-6 c = 
+returns-6 c =
     let a = c .before .before .before .args in
     sym (ap (ranBy (a .n) (a .rows)) (c .before .order4 .given .1))
 

@@ -13,7 +13,7 @@ ran-by-requires c κs = search needs
 
 returns : tie.Need-returns
 unfolding ranOf
-returns c = 
+returns c =
     let a = c .before .before .before .args in
     c .ran-by .ensures ∙ ap (ranBy (a .n) (a .rows)) (c .before .order-of .ensures)
 

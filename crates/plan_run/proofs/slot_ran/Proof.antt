@@ -10,7 +10,6 @@ use Rattle.record.specs.declared.State.the-variants.{Member}
 use Rattle.node.specs.Calls.{noNode}
 use Rattle.plan_text.specs.declared.Shown.{Shown}
 use Rattle.plan_run.specs.declared.Report.{Report}
-use Rattle.plan_run.specs.declared.Ran.{Ran}
 use Rattle.plan_run.specs.Run.{shownOf, slotReport, slotted, slotRan}
 use Rattle.plan_run.proofs.slot_ran.Statement.{statement}
 use Rattle.plan_run.proofs.slot_ran.Tie as tie
@@ -40,7 +39,7 @@ slot-report-requires c κs = search needs
 
 returns : tie.Need-returns
 unfolding slotRan
-returns c = 
+returns c =
     let a = c .before .before .before .before .before .before .args in
     let r = c .before .before .before .before .before .slot .result in
     let slots : ℕ = getD (r .rows) 0 noNode .slots in

@@ -20,18 +20,18 @@ enum-known-next-2 : tie.Need-enum-known-next-2
 enum-known-next-2 c = search needs
 
 returns : tie.Need-returns
-returns c = 
+returns c =
     let a = c .before .before .before .args in
     sym (ap (λ (x : Changed). slotReport (a .slots) x (a .next) (a .shown) (a .apart)) (c .before .changed .given .1))
 
 returns-2 : tie.Need-returns-2
-returns-2 c = 
+returns-2 c =
     let a = c .before .before .before .before .before .args in
     sym (ap (λ (x : Changed). slotReport (a .slots) x (a .next) (a .shown) (a .apart)) (c .before .before .before .enum-told .given .1)
     ∙ ap (λ (x : Next). sentReport (a .slots) x (a .shown) (a .apart)) (c .before .next .given .1))
 
 returns-3 : tie.Need-returns-3
-returns-3 c = 
+returns-3 c =
     let a = c .before .before .before .before .before .args in
     sym (ap (λ (x : Changed). slotReport (a .slots) x (a .next) (a .shown) (a .apart)) (c .before .before .before .enum-told .given .1)
     ∙ ap (λ (x : Next). sentReport (a .slots) x (a .shown) (a .apart)) (c .before .next2 .given .1))
