@@ -14,7 +14,6 @@ use Rattle.ring.specs.declared.Found.{Found}
 use Rattle.ring.specs.declared.Found.the-variants as found
 use Rattle.message.specs.declared.Reading.{Reading}
 use Rattle.record.specs.declared.Node.{Node}
-use Rattle.record.specs.declared.Window.{Window}
 use Rattle.record.specs.declared.Cause.{Cause}
 use Rattle.record.specs.declared.Cause.the-variants.{Unconfirmed, NothingHeard, MissedReturn}
 use Rattle.record.specs.declared.State.{State}
