@@ -139,13 +139,13 @@ module _ {X : Type 0} (g : Node → X) (n k slots : ℕ) where
       let p = placed n k slots i v t h in
       by-cases (eqb i x)
       (λ q. let is : i ≡ x = eqb-true i x q in
-          ap (λ (c : X). found g x c t) (chosen (g v) d (eq-eqb (v .own) x (omega (arith, is, p .own))))
-          ∙ not-found (suc i) x (g v) t (p .rest) (omega (arith, is))
-          ∙ ap (λ (j : ℕ). g (getD (v ∷ t) j e)) (let z : 0 ≡ x - i = omega (arith, is) in z))
+      ap (λ (c : X). found g x c t) (chosen (g v) d (eq-eqb (v .own) x (omega (arith, is, p .own))))
+      ∙ not-found (suc i) x (g v) t (p .rest) (omega (arith, is))
+      ∙ ap (λ (j : ℕ). g (getD (v ∷ t) j e)) (let z : 0 ≡ x - i = omega (arith, is) in z))
       (λ q. let not : i ≡ x → ⊥ = eqb-false i x q in
-          ap (λ (c : X). found g x c t) (otherwise (g v) d (ne-eqb (v .own) x (λ f. not (omega (arith, f, p .own)))))
-          ∙ found-at (suc i) x d e t (p .rest) (omega (arith, l, not)) (omega (arith, m))
-          ∙ ap (λ (j : ℕ). g (getD (v ∷ t) j e)) (let z : suc (x - suc i) ≡ x - i = omega (arith, l, not) in z))
+      ap (λ (c : X). found g x c t) (otherwise (g v) d (ne-eqb (v .own) x (λ f. not (omega (arith, f, p .own)))))
+      ∙ found-at (suc i) x d e t (p .rest) (omega (arith, l, not)) (omega (arith, m))
+      ∙ ap (λ (j : ℕ). g (getD (v ∷ t) j e)) (let z : suc (x - suc i) ≡ x - i = omega (arith, l, not) in z))
 
 -- ---- a table and its survey
 

@@ -132,7 +132,7 @@ slot-called lost missed room t =
     tables s =
         by-own (length t) (recordOf t 1 .k) (slotsOf t) (carried (order.Slot (saidBy lost (surveyOf 0 t .speaker)) missed)) (λ i v. node.stepOf (heardBy lost missed t i) v .node)
         (λ j v own. ap (λ (i : ℕ). node.stepOf (cond (has missed i) unheard (saidBy lost (surveyOf 0 t .speaker))) v .node) own
-            ∙ ap (λ (h : Reading). node.stepOf h v .node) (hears lost missed t (suc j) (surveyOf 0 t .speaker) (s .spoken))) 0 t (s .rows)
+        ∙ ap (λ (h : Reading). node.stepOf h v .node) (hears lost missed t (suc j) (surveyOf 0 t .speaker) (s .spoken))) 0 t (s .rows)
 
 -- the answer of a report
 pub answered : (o : Order) (t : Table) → reportOf o t .answer ≡ answerTo o

@@ -49,9 +49,13 @@ loop-less c = omega (arith, c .before .before .before .loop .inv .0, c .before .
 loop-again : tie.Need-loop-again Inv-loop μ-loop
 loop-again c =
     let a = c .before .before .before .before .args in
-    let l = c .before .before .before .loop in
-    (omega (arith, l .inv .0, c .before .before .loop-test .taken), (l .inv .1 .0,
-    c .larger .ensures ∙ ap (max (l .far)) (c .before .distance .ensures) ∙ one-more (a .n) (a .set) (a .t3) (l .j) (l .far) (l .inv .1 .1)))
+    let l = c .before .before .before .loop in (
+      omega (arith, l .inv .0, c .before .before .loop-test .taken),
+      (
+        l .inv .1 .0,
+        c .larger .ensures ∙ ap (max (l .far)) (c .before .distance .ensures) ∙ one-more (a .n) (a .set) (a .t3) (l .j) (l .far) (l .inv .1 .1),
+      ),
+    )
 
 returns : tie.Need-returns Inv-loop μ-loop
 returns c =
