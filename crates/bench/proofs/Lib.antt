@@ -6,3 +6,4 @@ pub mod Works
 pub mod Readings
 pub mod agreement
 pub mod Reports
+pub mod SlotKinds

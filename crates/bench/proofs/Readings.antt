@@ -15,7 +15,6 @@ use Rattle.nodeset.proofs.Tests.{by-cases, both, otherwise}
 use Rattle.ring.proofs.Ranges.{ring-size}
 use Rattle.record.specs.declared.Node.{Node}
 use Rattle.record.specs.States.{isMember}
-use Rattle.bench.specs.declared.Listed.the-variants as listed
 use Rattle.bench.specs.declared.Apart.the-variants as apart
 use Rattle.bench.specs.declared.Next.the-variants as next
 use Rattle.bench.specs.declared.Survey.{Survey}

@@ -1,5 +1,6 @@
-// The bench (document 01, "The bench"): calls over a lent table of node records. The public calls and the walks over the table (look_over,
-// look_through, carry_out, work) have no branches; what they decide and do to a record stands in the functions by value.
+// The bench (document 01, "The bench"): calls over a lent table of node records. The public calls
+// and the walks over the table (look_over, look_through, carry_out, work) have no branches; what
+// they decide and do to a record stands in the functions by value.
 use message::Reading;
 use node::Answer;
 use record::Cause;
@@ -709,7 +710,8 @@ fn look_through(table: &[Node]) -> Members
 
 // Has each record do what is ordered, and tells whose state changed.
 fn carry_out(table: &mut [Node], order: Order) -> Told
-    ensures { λ r. ⌜ (now (table .exit) ≡ carriedFrom order 0 (now (table .entry))) × (r ≡ notedFrom order noPairs 0 (now (table .entry))) ⌝ }
+    ensures { λ r. ⌜ (now (table .exit) ≡ carriedFrom order 0 (now (table .entry)))
+        × (r ≡ notedFrom order noPairs 0 (now (table .entry))) ⌝ }
 {
     let mut told = no_pairs();
     let mut i = 0;
@@ -725,7 +727,8 @@ fn carry_out(table: &mut [Node], order: Order) -> Told
 
 // A call that changes the table: a look over it, an order, and the order carried out.
 fn work(table: &mut [Node], asked: Asked) -> Report
-    ensures { λ r. ⌜ (now (table .exit) ≡ carriedFrom (orderFor asked (now (table .entry))) 0 (now (table .entry))) × (r ≡ reportOf (orderFor asked (now (table .entry))) (now (table .entry))) ⌝ }
+    ensures { λ r. ⌜ (now (table .exit) ≡ carriedFrom (orderFor asked (now (table .entry))) 0 (now (table .entry)))
+        × (r ≡ reportOf (orderFor asked (now (table .entry))) (now (table .entry))) ⌝ }
 {
     let about = asked_node(asked);
     let s = look_over(table, about);

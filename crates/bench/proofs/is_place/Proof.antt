@@ -1,7 +1,6 @@
 -- `bench::is_place` meets its contract: own is one more than the index. Assumes nothing.
 use borrow.Author.Needs.{needs}
 use mathlib.Core.Path.{sym}
-use Prim.Native.Nat.{_-_}
 use Rattle.bench.proofs.Numbers.{not-one-more, one-more}
 use Rattle.bench.proofs.is_place.Statement.{statement}
 use Rattle.bench.proofs.is_place.Tie as tie

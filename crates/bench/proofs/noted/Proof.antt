@@ -1,7 +1,7 @@
 -- `bench::noted` meets its contract: its tests are those of the definition, and a pushed pair is the definition's. Assumes nothing.
 use borrow.Author.Needs.{needs}
 use mathlib.Core.Path.{sym, ap, _∙_}
-use Prim.Native.Nat.{ℕ, _-_}
+use Prim.Native.Nat.{ℕ}
 use Rattle.nodeset.proofs.Tests.{told, chosen, otherwise}
 use borrow.Author.Tests.{ltb-true, leb-true}
 use native.Mathlib.Omega.{arith}

@@ -2,7 +2,6 @@
 use borrow.Author.Needs.{needs}
 use mathlib.Core.Path.{ap}
 use mathlib.Core.Bool.{Bool, _&&_}
-use Prim.Native.Nat.{_-_}
 use Rattle.bench.proofs.Numbers.{same-survey}
 use Rattle.bench.proofs.seen.Statement.{statement}
 use Rattle.bench.proofs.seen.Tie as tie
