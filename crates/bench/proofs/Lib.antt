@@ -5,3 +5,4 @@ pub mod Surveys
 pub mod Works
 pub mod Readings
 pub mod Reports
+pub mod SlotKinds

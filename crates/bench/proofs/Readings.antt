@@ -11,22 +11,19 @@ use lib.ListN.{length, getD, set, replicate, length-set, length-replicate}
 use borrow.Author.Tests.{eqb-true, ne-eqb, lt-ltb}
 use Rattle.refusal.specs.declared.Refusal.the-variants.{Unsound}
 use Rattle.nodeset.specs.Sets.{distance}
-use Rattle.nodeset.proofs.Tests.{by-cases, both, all, chosen, otherwise}
+use Rattle.nodeset.proofs.Tests.{by-cases, both, otherwise}
 use Rattle.ring.proofs.Ranges.{ring-size}
 use Rattle.record.specs.declared.Node.{Node}
 use Rattle.record.specs.States.{isMember}
-use Rattle.bench.specs.declared.Listed.the-variants as listed
-use Rattle.bench.specs.declared.Apart.{Apart}
 use Rattle.bench.specs.declared.Apart.the-variants as apart
-use Rattle.bench.specs.declared.Next.{Next}
 use Rattle.bench.specs.declared.Next.the-variants as next
 use Rattle.bench.specs.declared.Survey.{Survey}
 use Rattle.bench.specs.declared.Members.{Members}
 use Rattle.bench.specs.Table.{Table, recordOf, tableSound, speaker}
 use Rattle.bench.specs.Calls.{listedOf, distanceOf, nextOf, fateOf, transmits, farthest, greatest}
-use Rattle.bench.specs.Survey.{foldFrom, begun, seen, surveyed, unseen, surveyOf, fineTable, farFrom, memberSeen, gathered, noMembers, membersOf}
+use Rattle.bench.specs.Survey.{foldFrom, begun, surveyed, unseen, surveyOf, fineTable, farFrom, memberSeen, gathered, noMembers, membersOf}
 use Rattle.bench.specs.Orders.{listedBy, apartBy, fateBy, nextBy}
-use Rattle.bench.proofs.Surveys.{fine-table, Said, said}
+use Rattle.bench.proofs.Surveys.{fine-table, said}
 
 decides : {X : Type 0} {b b′ : Bool} (x x′ y : X) → b ≡ b′ → (b′ ≡ true → x ≡ x′) → cond b x y ≡ cond b′ x′ y
 decides {X} {b} {b′} x x′ y e h = ap (λ (d : Bool). cond d x y) e ∙ go b′ h

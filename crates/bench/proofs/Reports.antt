@@ -7,14 +7,14 @@ use mathlib.Core.List.{List, [], _∷_, _++_, append-assoc, append-nil}
 use native.Mathlib.Omega.{arith}
 use native.Mathlib.Numerals.{add-one}
 use lib.Dec.{eqb, leb, ltb}
-use lib.ListN.{length, getD, set, take, drop, replicate, length-set, length-replicate}
-use borrow.Author.Tests.{eqb-true, eqb-false, eq-eqb, ne-eqb, leb-true, leb-false, le-leb, lt-leb, lt-ltb}
+use lib.ListN.{length, getD, set, take, drop, length-set, length-replicate}
+use borrow.Author.Tests.{eqb-true, eqb-false, eq-eqb, ne-eqb, leb-true, leb-false, le-leb, lt-ltb}
 use Rattle.refusal.specs.declared.Refusal.{Refusal}
 use Rattle.refusal.specs.declared.Refusal.the-variants.{NodeNumber, Unsound, SlotLimit, OutputShort}
 use Rattle.nodeset.specs.Sets.{within}
 use Rattle.nodeset.specs.Sums.{sum, num}
 use Rattle.nodeset.proofs.Sums.{sum-none, sum-first, sum-same}
-use Rattle.nodeset.proofs.Tests.{by-cases, all, chosen, otherwise}
+use Rattle.nodeset.proofs.Tests.{by-cases, all, chosen}
 use Rattle.ring.specs.Ring.{nodeNumber}
 use Rattle.ring.proofs.Ranges.{ring-size, node-number}
 use Rattle.record.specs.declared.Node.{Node}
@@ -201,17 +201,17 @@ module _ (n k slots : ℕ) (o : Order) where
       let p = placed n k slots (suc i) v t e in
       by-cases (eqb (v .own) x)
       (λ b. let own : v .own ≡ x = eqb-true (v .own) x b in
-          let at = first-there x i v t (omega (arith, own, p .own)) in
-          times-first x c o i v t
-          ∙ ap₂ _+_ (ap (λ (a : Bool). num (not (same o i v) && (a && eqb (kind o i v) c))) b) (low x c (suc i) t (p .rest) (omega (arith, own, p .own)))
-          ∙ plus-none (num (not (same o i v) && eqb (kind o i v) c))
-          ∙ ap (λ (a : Bool). num (not (same o i v) && a)) (same-tests (kind o i v) c)
-          ∙ ap₂ (λ (a b : State). num (tells-of a b c)) (sym (at .0)) (sym (at .1)))
+      let at = first-there x i v t (omega (arith, own, p .own)) in
+      times-first x c o i v t
+      ∙ ap₂ _+_ (ap (λ (a : Bool). num (not (same o i v) && (a && eqb (kind o i v) c))) b) (low x c (suc i) t (p .rest) (omega (arith, own, p .own)))
+      ∙ plus-none (num (not (same o i v) && eqb (kind o i v) c))
+      ∙ ap (λ (a : Bool). num (not (same o i v) && a)) (same-tests (kind o i v) c)
+      ∙ ap₂ (λ (a b : State). num (tells-of a b c)) (sym (at .0)) (sym (at .1)))
       (λ b. let other : v .own ≡ x → ⊥ = eqb-false (v .own) x b in
-          let above : suc i < x = omega (arith, l, other, p .own) in
-          let at = later-there x i v t above in
-          not-first x c o i v t other ∙ mid x c (suc i) t (p .rest) above (omega (arith, m))
-          ∙ ap₂ (λ (a b : State). num (tells-of a b c)) (sym (at .0)) (sym (at .1)))
+      let above : suc i < x = omega (arith, l, other, p .own) in
+      let at = later-there x i v t above in
+      not-first x c o i v t other ∙ mid x c (suc i) t (p .rest) above (omega (arith, m))
+      ∙ ap₂ (λ (a b : State). num (tells-of a b c)) (sym (at .0)) (sym (at .1)))
     where
       plus-none : (m : ℕ) → m + 0 ≡ m
       plus-none m = omega arith
@@ -244,11 +244,11 @@ unfolding isChanged kindOf recordOf
 told-once n k slots o t e x c =
     by-cases (nodeNumber (length t) x)
     (λ b. let r = node-number (length t) x b in
-        mid n k slots o x c 0 t e (r .0) (omega (arith, r .1))
-        ∙ sym (ap (λ (a : Bool). num ((a && not (sameState (was n k slots o x 0 t) (is n k slots o x 0 t))) && eqb c (kindFrom (was n k slots o x 0 t) (is n k slots o x 0 t)))) b))
+    mid n k slots o x c 0 t e (r .0) (omega (arith, r .1))
+    ∙ sym (ap (λ (a : Bool). num ((a && not (sameState (was n k slots o x 0 t) (is n k slots o x 0 t))) && eqb c (kindFrom (was n k slots o x 0 t) (is n k slots o x 0 t)))) b))
     (λ b. by-cases (leb 1 x)
-        (λ one. high n k slots o x c 0 t e (above one b)) (λ none. low n k slots o x c 0 t e (let z = leb-false 1 x none in omega (arith, z)))
-        ∙ sym (ap (λ (a : Bool). num ((a && not (sameState (was n k slots o x 0 t) (is n k slots o x 0 t))) && eqb c (kindFrom (was n k slots o x 0 t) (is n k slots o x 0 t)))) b))
+    (λ one. high n k slots o x c 0 t e (above one b)) (λ none. low n k slots o x c 0 t e (let z = leb-false 1 x none in omega (arith, z)))
+    ∙ sym (ap (λ (a : Bool). num ((a && not (sameState (was n k slots o x 0 t) (is n k slots o x 0 t))) && eqb c (kindFrom (was n k slots o x 0 t) (is n k slots o x 0 t)))) b))
   where
     above : leb 1 x ≡ true → nodeNumber (length t) x ≡ false → 0 + length t < x
     above one b = let z = leb-false x (length t) (sym (ap (λ (a : Bool). a && leb x (length t)) one) ∙ b) in omega (arith, z)
@@ -296,13 +296,15 @@ done-told o t out (sound, room) =
     let at-most : r .count ≤ 32 = let h = few o 0 t in omega (arith, h, most, count-is) in
     let test : (leb (r .count) 32 && leb 64 (length out)) ≡ true = all (le-leb (r .count) 32 at-most) (le-leb 64 (length out) room) in
     let end-is : cond (leb (r .count) 32 && leb 64 (length out)) (r .count * 2) 0 ≡ r .count * 2 = chosen (r .count * 2) 0 test in
-    let twice : r .count * 2 ≡ 2 * length ps = omega (arith, count-is) in
-    (count-is ∙ told-count n k slots o t, record {
-      pairs = ps;
-      tells = told-once n k slots o t (s .rows);
-      bytes = ap (λ (j : ℕ). puts (r .bytes) j out) end-is ∙ all-put (r .bytes) out (r .count * 2) (omega (arith, at-most, all-noted .size)) (omega (arith, at-most, room))
-          ∙ ap₂ _++_ (all-noted .bytes ∙ ap (λ (j : ℕ). take (j * 2) (noPairs .bytes) ++ bytesOf ps) no-pairs-count) (ap (λ (j : ℕ). drop j out) twice);
-    })
+    let twice : r .count * 2 ≡ 2 * length ps = omega (arith, count-is) in (
+      count-is ∙ told-count n k slots o t,
+      record {
+        pairs = ps;
+        tells = told-once n k slots o t (s .rows);
+        bytes = ap (λ (j : ℕ). puts (r .bytes) j out) end-is ∙ all-put (r .bytes) out (r .count * 2) (omega (arith, at-most, all-noted .size)) (omega (arith, at-most, room))
+            ∙ ap₂ _++_ (all-noted .bytes ∙ ap (λ (j : ℕ). take (j * 2) (noPairs .bytes) ++ bytesOf ps) no-pairs-count) (ap (λ (j : ℕ). drop j out) twice);
+      },
+    )
   where
     zero-plus : (m : ℕ) → 0 + m ≡ m
     zero-plus m = omega arith
@@ -339,6 +341,7 @@ slot-run lost missed t out c zs p r ws is-c (tables, reports) (answer, bytes) =
     let is-o : orderFor c t ≡ o = ap (λ (a : Asked). orderFor a t) is-c in
     let is-p : p ≡ reportOf o t = reports ∙ ap (λ (w : Order). reportOf w t) is-o in
     let d = slot-told o t out (slot-ready lost missed (length out) t) in
-    subst (λ (called : Called). (zs ≡ called .table) × ((r ≡ changedOf t called) × BytesAfter t called out ws)) (slot-called lost missed (length out) t)
-    (tables ∙ ap (λ (w : Order). carriedFrom w 0 t) is-o,
-    (answer ∙ ap changedBy is-p ∙ d .0, subst (BytesAfter t (calledBy o t) out) (sym (bytes ∙ ap (λ (m : Report). writtenBy m out) is-p)) (d .1)))
+    subst (λ (called : Called). (zs ≡ called .table) × ((r ≡ changedOf t called) × BytesAfter t called out ws)) (slot-called lost missed (length out) t) (
+      tables ∙ ap (λ (w : Order). carriedFrom w 0 t) is-o,
+      (answer ∙ ap changedBy is-p ∙ d .0, subst (BytesAfter t (calledBy o t) out) (sym (bytes ∙ ap (λ (m : Report). writtenBy m out) is-p)) (d .1)),
+    )

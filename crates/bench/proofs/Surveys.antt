@@ -1,20 +1,19 @@
 -- What the survey of a table (specs/Survey) says of it in the words of specs/Table and specs/Calls: whether it is sound, and of a sound table n, slots,
 -- the next sender and its record, the state of the node asked about, and the list. Each part of the survey is its own fold. Assumes nothing.
-use Prim.Native.Nat.{ℕ, zero, suc, _+_, _-_, _<_, _≤_}
+use Prim.Native.Nat.{ℕ, suc, _+_, _-_, _<_, _≤_}
 use mathlib.Core.Path.{_≡_, refl, sym, ap, ap₂, subst, _∙_}
 use mathlib.Core.Bool.{Bool, true, false, cond, _&&_, and-assoc, and-comm, true≢false}
-use mathlib.Core.List.{List, [], _∷_}
+use mathlib.Core.List.{[], _∷_}
 use native.Mathlib.Numerals.{add-one}
 use native.Mathlib.Omega.{arith}
 use lib.Dec.{eqb}
 use lib.ListN.{length, getD}
-use borrow.Author.Tests.{eqb-true, eqb-false, eq-eqb, ne-eqb, leb-true}
-use Rattle.nodeset.proofs.Tests.{by-cases, both, all, chosen, otherwise}
+use borrow.Author.Tests.{eqb-true, eqb-false, eq-eqb, ne-eqb}
+use Rattle.nodeset.proofs.Tests.{by-cases, both, chosen, otherwise}
 use Rattle.ring.specs.Ring.{ringSize, nodeNumber, sender}
 use Rattle.ring.proofs.Ranges.{ring-size, node-number}
 use Rattle.ring.proofs.Senders.{sender-range}
 use Rattle.record.specs.declared.Node.{Node}
-use Rattle.record.specs.declared.State.{State}
 use Rattle.record.specs.States.{isMember}
 use Rattle.record.specs.Soundness.{sound}
 use Rattle.record.proofs.Facts.{clauses}
@@ -22,9 +21,9 @@ use Rattle.node.specs.Calls.{noNode}
 use Rattle.bench.specs.declared.Listed.{Listed}
 use Rattle.bench.specs.declared.Listed.the-variants as listed
 use Rattle.bench.specs.declared.Survey.{Survey}
-use Rattle.bench.specs.Table.{Table, recordOf, inPlace, placedFrom, tableSound, ringOf, slotsOf, speaker}
+use Rattle.bench.specs.Table.{Table, recordOf, inPlace, placedFrom, tableSound, slotsOf, speaker}
 use Rattle.bench.specs.Calls.{listIn}
-use Rattle.bench.specs.Survey.{foldFrom, numberOf, senderAfter, begun, listWith, seen, surveyed, surveyFrom, unseen, surveyOf, fineTable}
+use Rattle.bench.specs.Survey.{foldFrom, numberOf, senderAfter, begun, listWith, seen, surveyed, unseen, surveyOf, fineTable}
 
 -- ---- the first record begins the survey, and then each is only seen
 
@@ -140,13 +139,13 @@ module _ {X : Type 0} (g : Node → X) (n k slots : ℕ) where
       let p = placed n k slots i v t h in
       by-cases (eqb i x)
       (λ q. let is : i ≡ x = eqb-true i x q in
-          ap (λ (c : X). found g x c t) (chosen (g v) d (eq-eqb (v .own) x (omega (arith, is, p .own))))
-          ∙ not-found (suc i) x (g v) t (p .rest) (omega (arith, is))
-          ∙ ap (λ (j : ℕ). g (getD (v ∷ t) j e)) (let z : 0 ≡ x - i = omega (arith, is) in z))
+      ap (λ (c : X). found g x c t) (chosen (g v) d (eq-eqb (v .own) x (omega (arith, is, p .own))))
+      ∙ not-found (suc i) x (g v) t (p .rest) (omega (arith, is))
+      ∙ ap (λ (j : ℕ). g (getD (v ∷ t) j e)) (let z : 0 ≡ x - i = omega (arith, is) in z))
       (λ q. let not : i ≡ x → ⊥ = eqb-false i x q in
-          ap (λ (c : X). found g x c t) (otherwise (g v) d (ne-eqb (v .own) x (λ f. not (omega (arith, f, p .own)))))
-          ∙ found-at (suc i) x d e t (p .rest) (omega (arith, l, not)) (omega (arith, m))
-          ∙ ap (λ (j : ℕ). g (getD (v ∷ t) j e)) (let z : suc (x - suc i) ≡ x - i = omega (arith, l, not) in z))
+      ap (λ (c : X). found g x c t) (otherwise (g v) d (ne-eqb (v .own) x (λ f. not (omega (arith, f, p .own)))))
+      ∙ found-at (suc i) x d e t (p .rest) (omega (arith, l, not)) (omega (arith, m))
+      ∙ ap (λ (j : ℕ). g (getD (v ∷ t) j e)) (let z : suc (x - suc i) ≡ x - i = omega (arith, l, not) in z))
 
 -- ---- a table and its survey
 

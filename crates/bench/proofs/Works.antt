@@ -1,7 +1,7 @@
 -- An order carried out (specs/Orders) is the call that asked for it (specs/Calls): off, restart, set-up and slot. The survey decides as the table does
 -- (`Surveys.antt`), and in a sound table a record's own number is its place. Assumes nothing.
 use Prim.Native.Nat.{ℕ, suc, _+_, _<_, _≤_}
-use mathlib.Core.Path.{_≡_, refl, sym, ap, ap₂, subst, _∙_}
+use mathlib.Core.Path.{_≡_, refl, ap, ap₂, _∙_}
 use mathlib.Core.Bool.{Bool, true, false, cond, _||_}
 use mathlib.Core.List.{List, [], _∷_}
 use native.Mathlib.Omega.{arith}
@@ -17,20 +17,18 @@ use Rattle.ring.specs.Ring.{ringSize, sponsorCount, nodeNumber}
 use Rattle.ring.proofs.Ranges.{ring-size}
 use Rattle.message.specs.declared.Reading.{Reading}
 use Rattle.record.specs.declared.Node.{Node}
-use Rattle.record.specs.declared.State.{State}
 use Rattle.record.specs.States.{isOut}
 use Rattle.record.specs.Soundness.{limit}
 use Rattle.changes.specs.Changes.{starting}
 use Rattle.node.specs.Calls as node
-use Rattle.bench.specs.declared.Asked.{Asked}
 use Rattle.bench.specs.declared.Asked.the-variants as asked
 use Rattle.bench.specs.declared.Order.{Order}
 use Rattle.bench.specs.declared.Order.the-variants as order
-use Rattle.bench.specs.Table.{Table, eachFrom, each, placedFrom, tableSound, slotsOf, recordOf, speaker}
+use Rattle.bench.specs.Table.{Table, eachFrom, each, placedFrom, slotsOf, recordOf, speaker}
 use Rattle.bench.specs.Calls.{Called, done, ifPassed, setUpOf, startTable, offOf, afterOff, restartOf, afterRestart, slotOf, afterSlot, heardBy, spoken, transmits, unheard}
 use Rattle.bench.specs.Survey.{surveyOf}
-use Rattle.bench.specs.Orders.{ifGood, saidBy, orderFor, carried, placeOf, answerTo, reported, reportOf}
-use Rattle.bench.proofs.Surveys.{Placed, placed, fine-table, Said, said}
+use Rattle.bench.specs.Orders.{ifGood, saidBy, orderFor, carried, answerTo, reported, reportOf}
+use Rattle.bench.proofs.Surveys.{placed, fine-table, Said, said}
 
 -- ---- each record
 
@@ -134,7 +132,7 @@ slot-called lost missed room t =
     tables s =
         by-own (length t) (recordOf t 1 .k) (slotsOf t) (carried (order.Slot (saidBy lost (surveyOf 0 t .speaker)) missed)) (λ i v. node.stepOf (heardBy lost missed t i) v .node)
         (λ j v own. ap (λ (i : ℕ). node.stepOf (cond (has missed i) unheard (saidBy lost (surveyOf 0 t .speaker))) v .node) own
-            ∙ ap (λ (h : Reading). node.stepOf h v .node) (hears lost missed t (suc j) (surveyOf 0 t .speaker) (s .spoken))) 0 t (s .rows)
+        ∙ ap (λ (h : Reading). node.stepOf h v .node) (hears lost missed t (suc j) (surveyOf 0 t .speaker) (s .spoken))) 0 t (s .rows)
 
 -- the answer of a report
 pub answered : (o : Order) (t : Table) → reportOf o t .answer ≡ answerTo o

@@ -1,6 +1,6 @@
 -- Inner: what a call has each record of a table do, and the pairs of a walk. The laws in proofs/ tie it to the definitions of Calls and Pairs.
 use Prim.Native.Nat.{ℕ, zero, suc, _+_, _*_}
-use mathlib.Core.Bool.{Bool, true, false, cond, not, _&&_, _||_}
+use mathlib.Core.Bool.{Bool, cond, _&&_}
 use mathlib.Core.List.{List}
 use lib.Dec.{eqb, leb, ltb}
 use lib.ListN.{length, getD, set, replicate}

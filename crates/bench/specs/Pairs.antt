@@ -27,7 +27,7 @@ sameState a b =
     || (isOut a && isOut b))))
 
 -- "1 left, 2 listening to following, 3 knocked, 4 joined, 5 knocking to following, 6 to listening from following or knocking". No slot makes another change
--- (proofs/Kinds).
+-- (proofs/SlotKinds).
 abbrev pub kindFrom : State → State → ℕ
 kindFrom a b =
     cond (isMember a && isOut b) 1

@@ -175,7 +175,8 @@ fn is_place(own: u32, i: usize) -> bool
 fn stands(s: Survey, i: usize, v: Node) -> bool
     ensures { λ r. ⌜ r ≡ inPlace (s .n) (s .k) (s .slots) (i + 1) v ⌝ }
 {
-    record::is_sound(v) & ((v.n == s.n) & ((v.k == s.k) & ((v.slots == s.slots) & is_place(v.own, i))))
+    record::is_sound(v)
+        & ((v.n == s.n) & ((v.k == s.k) & ((v.slots == s.slots) & is_place(v.own, i))))
 }
 
 // The list, with one record more.
@@ -625,10 +626,7 @@ fn reporting(order: Order, told: Told) -> Report
     ensures { λ r. ⌜ r ≡ reported order told ⌝ }
 {
     let answer = answer_to(order);
-    Report {
-        answer,
-        told,
-    }
+    Report { answer, told }
 }
 
 // How many bytes of pairs go to a buffer of this length: none where the call is refused.
@@ -818,12 +816,10 @@ pub fn next_slot(table: &[Node], lost: bool) -> Next
 // One slot, whose message is lost to all or not, and which these nodes miss. The nodes whose state
 // changed stand in `pairs`, each with the kind of its change. Refuses by 4, 3, 5 and 9.
 pub fn slot(table: &mut [Node], lost: bool, missed: u32, pairs: &mut [u8]) -> Changed
-    ensures {
-        λ r. ⌜ (let called = slotOf lost missed (length (now (pairs .entry))) (now (table .entry)) in
-            (now (table .exit) ≡ called .table)
-            × ((r ≡ changedOf (now (table .entry)) called)
-            × BytesAfter (now (table .entry)) called (now (pairs .entry)) (now (pairs .exit)))) ⌝
-    }
+    ensures { λ r. ⌜ (let called = slotOf lost missed (length (now (pairs .entry))) (now (table .entry)) in
+        (now (table .exit) ≡ called .table)
+        × ((r ≡ changedOf (now (table .entry)) called)
+        × BytesAfter (now (table .entry)) called (now (pairs .entry)) (now (pairs .exit)))) ⌝ }
 {
     let asked = slot_asked(lost, missed, pairs.len());
     let report = work(table, asked);

@@ -1,7 +1,6 @@
 -- `bench::answer_to` meets its contract, order by order. Assumes nothing.
 use borrow.Author.Needs.{needs}
-use mathlib.Core.Path.{_≡_, refl, sym, ap, ap₂, _∙_}
-use Rattle.bench.specs.declared.Order.{Order}
+use mathlib.Core.Path.{sym, ap}
 use Rattle.bench.specs.Orders.{answerTo}
 use Rattle.bench.proofs.answer_to.Statement.{statement}
 use Rattle.bench.proofs.answer_to.Tie as tie

@@ -1,7 +1,7 @@
 -- `bench::begun` meets its contract: the sender is that of the definition. Assumes nothing.
 use borrow.Author.Needs.{needs}
-use mathlib.Core.Path.{_≡_, refl, sym, ap, ap₂, _∙_}
-use Prim.Native.Nat.{ℕ, _+_, _-_}
+use mathlib.Core.Path.{ap}
+use Prim.Native.Nat.{ℕ}
 use Rattle.bench.specs.declared.Survey.{Survey}
 use Rattle.bench.specs.declared.Listed.the-variants as listed
 use Rattle.bench.proofs.begun.Statement.{statement}

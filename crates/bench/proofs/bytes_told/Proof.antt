@@ -1,11 +1,9 @@
 -- `bench::bytes_told` meets its contract: its tests are those of the definition. Assumes nothing.
 use borrow.Author.Needs.{needs}
-use Prim.Native.Nat.{ℕ}
-use mathlib.Core.Path.{_≡_, refl, sym, ap, ap₂, _∙_}
+use mathlib.Core.Path.{sym, ap, _∙_}
 use Rattle.nodeset.proofs.Tests.{chosen, otherwise}
 use Rattle.node.specs.declared.Answer.{Answer}
-use Rattle.bench.specs.declared.Report.{Report}
-use Rattle.bench.specs.Orders.{bytesTold, changedBy}
+use Rattle.bench.specs.Orders.{bytesTold}
 use Rattle.bench.proofs.bytes_told.Statement.{statement}
 use Rattle.bench.proofs.bytes_told.Tie as tie
 

@@ -1,7 +1,6 @@
 -- `bench::carried` meets its contract, order by order. Assumes nothing.
 use borrow.Author.Needs.{needs}
-use mathlib.Core.Path.{_≡_, refl, sym, ap, ap₂, _∙_}
-use Prim.Native.Nat.{ℕ, _+_, _-_}
+use mathlib.Core.Path.{sym, ap, _∙_}
 use Rattle.bench.specs.declared.Order.{Order}
 use Rattle.changes.specs.Changes.{starting}
 use Rattle.bench.specs.Orders.{carried}

@@ -351,8 +351,8 @@ module _ {M : Type 1} (𝓤 : URA M) (H : Heap 𝓤) (A : Atoms 𝓤) (W : Given
     -- from the first statement to the loop: the borrow is opened once, before it
     begins : Sq W (‵ (froom tyPtr l₁₁ 0) ∷ ‵ (fdies tyPtr l₁₁) ∷ ‵ (froom T′.mir l₁₀ 0) ∷ ‵ (fdies T′.mir l₁₀) ∷ ‵ (froom tyPtr l₉ 0) ∷ ‵ (fdies tyPtr l₉) ∷ ‵ (froom tyBool l₈ 0) ∷ ‵ (fdies tyBool l₈) ∷ ‵ (froom word l₇ 0) ∷ ‵ (fdies word l₇) ∷ ‵ (froom T′.mir l₆ 0) ∷ ‵ (fdies T′.mir l₆) ∷ ‵ (froom T′.mir l₅ 0) ∷ ‵ (fdies T′.mir l₅) ∷ ‵ (froom word l₄ 0) ∷ ‵ (fdies word l₄) ∷ ‵ (froom P′.mir l₃ 0) ∷ ‵ (fdies P′.mir l₃) ∷ ‵ (fat fullShare O′.mir l₂ 0 as-order) ∷ ‵ (fdies O′.mir l₂) ∷ ‵ (fat fullShare slice l₁ 0 s) ∷ ‵ (fdies slice l₁) ∷ ‵ (froom P′.mir l₀ 0) ∷ ‵ (fdies P′.mir l₀) ∷ (‵ (flft κ q) ⊛ ‵ ftrue) ∷ ‵ (owns (MutSlice (named 0) κ T.the-row ∷ O.the-row ∷ []) (x xs, (order, tt)) (s ∷ [], (as-order ∷ [], tt))) ∷ []) (runs C Λ E mir.t-1 (atRet E Post))
     begins =
-        nothing ! $ use1 W (raw (To-no-pairs 𝓤 H A mem run .pre (to-no-pairs 𝓤 H A mem run ))) (goes-no-pairs 𝓤 H A mem run W ) $
-        calls-at ! (fmOf 𝓤 H (W .laws) 𝓣) (To-no-pairs 𝓤 H A mem run) known-no-pairs (to-no-pairs 𝓤 H A mem run ) (no-more !) (λ v-z.
+        nothing ! $ use1 W (raw (To-no-pairs 𝓤 H A mem run .pre (to-no-pairs 𝓤 H A mem run))) (goes-no-pairs 𝓤 H A mem run W) $
+        calls-at ! (fmOf 𝓤 H (W .laws) 𝓣) (To-no-pairs 𝓤 H A mem run) known-no-pairs (to-no-pairs 𝓤 H A mem run) (no-more !) (λ v-z.
         use1 W (later (some (λ (r : Told). (‵ ftrue ⊛ ‵ (P.the-row .own r (v-z ∷ []))) ⊛ raw (ensured 𝓤 H A no-pairs.ended (no-pairs.clauses 𝓤 H A mem run) tt tt tt r)))) (id⊢ 𝓤 _) $ await ! tt $ pick ! (λ z.
         split ! $ move ! (1 ∷ []) $ use1 W (raw (fact 𝓤 (z ≡ noPairs))) (said-no-pairs 𝓤 H A mem run z) $ heard ! (z ≡ noPairs) (λ is-z. split ! $ drop ! $
         peeks ! P.the-row (Is P.the-row) (shows 𝓤 H A P.the-row) z (v-z ∷ []) (λ g-z. drop ! $

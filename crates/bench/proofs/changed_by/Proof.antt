@@ -1,9 +1,8 @@
 -- `bench::changed_by` meets its contract, answer by answer. Assumes nothing.
 use borrow.Author.Needs.{needs}
-use mathlib.Core.Path.{_≡_, refl, sym, ap, ap₂, _∙_}
+use mathlib.Core.Path.{sym, ap}
 use Rattle.node.specs.declared.Answer.{Answer}
-use Rattle.bench.specs.declared.Report.{Report}
-use Rattle.bench.specs.Orders.{bytesTold, changedBy}
+use Rattle.bench.specs.Orders.{changedBy}
 use Rattle.bench.proofs.changed_by.Statement.{statement}
 use Rattle.bench.proofs.changed_by.Tie as tie
 

@@ -1,7 +1,7 @@
 -- `bench::far_from` meets its contract. The invariant: after j turns it is the greatest distance from the first j sets. Assumes nothing.
 use borrow.Author.Needs.{needs}
-use Prim.Native.Nat.{ℕ, suc, _+_, _-_, _≤_, _<_, max}
-use mathlib.Core.Path.{_≡_, refl, sym, ap, ap₂, _∙_}
+use Prim.Native.Nat.{ℕ, _+_, _-_, _≤_, max}
+use mathlib.Core.Path.{_≡_, refl, sym, ap, _∙_}
 use mathlib.Core.List.{List}
 use native.Mathlib.Omega.{arith}
 use native.Mathlib.Numerals.{add-one}
@@ -49,9 +49,13 @@ loop-less c = omega (arith, c .before .before .before .loop .inv .0, c .before .
 loop-again : tie.Need-loop-again Inv-loop μ-loop
 loop-again c =
     let a = c .before .before .before .before .args in
-    let l = c .before .before .before .loop in
-    (omega (arith, l .inv .0, c .before .before .loop-test .taken), (l .inv .1 .0,
-    c .larger .ensures ∙ ap (max (l .far)) (c .before .distance .ensures) ∙ one-more (a .n) (a .set) (a .t3) (l .j) (l .far) (l .inv .1 .1)))
+    let l = c .before .before .before .loop in (
+      omega (arith, l .inv .0, c .before .before .loop-test .taken),
+      (
+        l .inv .1 .0,
+        c .larger .ensures ∙ ap (max (l .far)) (c .before .distance .ensures) ∙ one-more (a .n) (a .set) (a .t3) (l .j) (l .far) (l .inv .1 .1),
+      ),
+    )
 
 returns : tie.Need-returns Inv-loop μ-loop
 returns c =

@@ -1,6 +1,6 @@
 -- `bench::fate_of` meets its contract: its tests are those of the definition. Assumes nothing.
 use borrow.Author.Needs.{needs}
-use mathlib.Core.Path.{_≡_, refl, sym, ap, ap₂, _∙_}
+use mathlib.Core.Path.{sym, _∙_}
 use Rattle.nodeset.proofs.Tests.{failed, passed, told, chosen, otherwise}
 use Rattle.bench.proofs.fate_of.Statement.{statement}
 use Rattle.bench.proofs.fate_of.Tie as tie

@@ -1,14 +1,12 @@
 -- `bench::gathered` meets its contract: its test is that of the definition, and the survey goes on. Assumes nothing.
 use borrow.Author.Needs.{needs}
-use Prim.Native.Nat.{ℕ}
-use mathlib.Core.Path.{_≡_, refl, sym, ap, ap₂, _∙_}
-use Rattle.nodeset.proofs.Tests.{failed, passed, told, both, chosen, otherwise}
+use mathlib.Core.Path.{sym, ap, _∙_}
+use Rattle.nodeset.proofs.Tests.{told, both, chosen, otherwise}
 use mathlib.Core.Bool.{Bool, _&&_}
 use lib.Dec.{ltb}
 use borrow.Author.Tests.{ltb-true}
 use Rattle.bench.specs.declared.Survey.{Survey}
 use Rattle.bench.specs.declared.Members.{Members}
-use Rattle.record.specs.States.{isMember}
 use Rattle.bench.specs.Survey.{memberSeen, gathered}
 use Rattle.bench.proofs.gathered.Statement.{statement}
 use Rattle.bench.proofs.gathered.Tie as tie

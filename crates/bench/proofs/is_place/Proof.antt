@@ -1,9 +1,6 @@
 -- `bench::is_place` meets its contract: own is one more than the index. Assumes nothing.
 use borrow.Author.Needs.{needs}
-use mathlib.Core.Path.{_≡_, refl, sym, ap, ap₂, _∙_}
-use Prim.Native.Nat.{ℕ, _+_, _-_}
-use native.Mathlib.Omega.{arith}
-use borrow.Author.Tests.{eq-eqb, ne-eqb, le-leb, lt-leb, lt-ltb, le-ltb}
+use mathlib.Core.Path.{sym}
 use Rattle.bench.proofs.Numbers.{not-one-more, one-more}
 use Rattle.bench.proofs.is_place.Statement.{statement}
 use Rattle.bench.proofs.is_place.Tie as tie

@@ -1,8 +1,8 @@
 -- `bench::kind_from` meets its contract: its tests are those of the definition. Assumes nothing.
 use borrow.Author.Needs.{needs}
-use mathlib.Core.Path.{_≡_, refl, sym, ap, ap₂, _∙_}
-use mathlib.Core.Bool.{Bool, true, false, cond, not, _&&_, _||_}
-use Rattle.nodeset.proofs.Tests.{failed, passed, told, chosen, otherwise}
+use mathlib.Core.Path.{sym, ap₂, _∙_}
+use mathlib.Core.Bool.{_&&_, _||_}
+use Rattle.nodeset.proofs.Tests.{told, chosen, otherwise}
 use Rattle.bench.proofs.kind_from.Statement.{statement}
 use Rattle.bench.proofs.kind_from.Tie as tie
 

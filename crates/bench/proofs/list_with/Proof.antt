@@ -1,7 +1,7 @@
 -- `bench::list_with` meets its contract, case by case. Assumes nothing.
 use borrow.Author.Needs.{needs}
-use mathlib.Core.Path.{_≡_, refl, sym, ap, ap₂, _∙_}
-use Rattle.nodeset.proofs.Tests.{failed, passed, told, chosen, otherwise}
+use mathlib.Core.Path.{sym, ap, _∙_}
+use Rattle.nodeset.proofs.Tests.{told, chosen, otherwise}
 use Rattle.bench.specs.Survey.{listWith}
 use Rattle.bench.specs.declared.Listed.{Listed}
 use Rattle.bench.proofs.list_with.Statement.{statement}

@@ -273,8 +273,8 @@ module _ {M : Type 1} (𝓤 : URA M) (H : Heap 𝓤) (A : Atoms 𝓤) (W : Given
     -- from the first statement to the loop: the slice is looked into once, before it
     begins : Sq W (‵ (froom T′.mir l₇ 0) ∷ ‵ (fdies T′.mir l₇) ∷ ‵ (froom tyPtr l₆ 0) ∷ ‵ (fdies tyPtr l₆) ∷ ‵ (froom tyBool l₅ 0) ∷ ‵ (fdies tyBool l₅) ∷ ‵ (froom word l₄ 0) ∷ ‵ (fdies word l₄) ∷ ‵ (froom word l₃ 0) ∷ ‵ (fdies word l₃) ∷ ‵ (froom Ms′.mir l₂ 0) ∷ ‵ (fdies Ms′.mir l₂) ∷ ‵ (fat fullShare slice l₁ 0 s) ∷ ‵ (fdies slice l₁) ∷ ‵ (froom Ms′.mir l₀ 0) ∷ ‵ (fdies Ms′.mir l₀) ∷ (‵ (flft κ q) ⊛ ‵ ftrue) ∷ ‵ (owns (ShrSlice (named 0) κ T.the-row ∷ []) (x, tt) (s ∷ [], tt)) ∷ []) (runs C Λ E mir.t-1 (atRet E Post))
     begins =
-        nothing ! $ use1 W (raw (To-no-members 𝓤 H A mem run .pre (to-no-members 𝓤 H A mem run ))) (goes-no-members 𝓤 H A mem run W ) $
-        calls-at ! (fmOf 𝓤 H (W .laws) 𝓣) (To-no-members 𝓤 H A mem run) known-no-members (to-no-members 𝓤 H A mem run ) (no-more !) (λ v-z.
+        nothing ! $ use1 W (raw (To-no-members 𝓤 H A mem run .pre (to-no-members 𝓤 H A mem run))) (goes-no-members 𝓤 H A mem run W) $
+        calls-at ! (fmOf 𝓤 H (W .laws) 𝓣) (To-no-members 𝓤 H A mem run) known-no-members (to-no-members 𝓤 H A mem run) (no-more !) (λ v-z.
         use1 W (later (some (λ (r : Members). (‵ ftrue ⊛ ‵ (Ms.the-row .own r (v-z ∷ []))) ⊛ raw (ensured 𝓤 H A no-members.ended (no-members.clauses 𝓤 H A mem run) tt tt tt r)))) (id⊢ 𝓤 _) $ await ! tt $ pick ! (λ z.
         split ! $ move ! (1 ∷ []) $ use1 W (raw (fact 𝓤 (z ≡ noMembers))) (said-no-members 𝓤 H A mem run z) $ heard ! (z ≡ noMembers) (λ is-z. split ! $ drop ! $
         peeks ! Ms.the-row (Is Ms.the-row) (shows 𝓤 H A Ms.the-row) z (v-z ∷ []) (λ g-z. drop ! $

@@ -1,10 +1,9 @@
 -- `bench::member_seen` meets its contract: its parts are those of the definition. Assumes nothing.
 use borrow.Author.Needs.{needs}
 use Prim.Native.Nat.{ℕ, _+_, max}
-use mathlib.Core.Path.{_≡_, refl, sym, ap, ap₂, _∙_}
+use mathlib.Core.Path.{ap, _∙_}
 use lib.ListN.{set}
 use Rattle.bench.specs.declared.Members.{Members}
-use Rattle.bench.specs.Survey.{farFrom, memberSeen}
 use Rattle.bench.proofs.member_seen.Statement.{statement}
 use Rattle.bench.proofs.member_seen.Tie as tie
 

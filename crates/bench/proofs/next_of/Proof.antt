@@ -1,7 +1,7 @@
 -- `bench::next_of` meets its contract: its tests are those of the definition. Assumes nothing.
 use borrow.Author.Needs.{needs}
-use mathlib.Core.Path.{_≡_, refl, sym, ap, ap₂, _∙_}
-use Rattle.nodeset.proofs.Tests.{failed, passed, told, chosen, otherwise}
+use mathlib.Core.Path.{sym, ap, _∙_}
+use Rattle.nodeset.proofs.Tests.{failed, passed, chosen, otherwise}
 use Rattle.bench.specs.declared.Fate.{Fate}
 use Rattle.bench.specs.declared.Next.{Next}
 use Rattle.bench.specs.declared.Next.the-variants as next

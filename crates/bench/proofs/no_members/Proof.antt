@@ -1,7 +1,6 @@
 -- `bench::no_members` meets its contract. Assumes nothing.
 use borrow.Author.Needs.{needs}
-use Prim.Native.Nat.{ℕ}
-use mathlib.Core.Path.{_≡_, refl, sym, ap, ap₂, _∙_}
+use mathlib.Core.Path.{ap}
 use lib.ListN.{replicate}
 use Rattle.bench.specs.declared.Survey.{Survey}
 use Rattle.bench.specs.declared.Members.{Members}

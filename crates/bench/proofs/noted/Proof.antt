@@ -1,14 +1,12 @@
 -- `bench::noted` meets its contract: its tests are those of the definition, and a pushed pair is the definition's. Assumes nothing.
 use borrow.Author.Needs.{needs}
-use mathlib.Core.Path.{_≡_, refl, sym, ap, ap₂, _∙_}
-use Prim.Native.Nat.{ℕ, _+_, _-_}
-use mathlib.Core.Bool.{Bool, true, false, cond, not, _&&_, _||_}
-use Rattle.nodeset.proofs.Tests.{failed, passed, told, chosen, otherwise}
-use borrow.Author.Tests.{eq-eqb, ne-eqb, le-leb, lt-leb, lt-ltb, le-ltb, ltb-true, leb-true}
+use mathlib.Core.Path.{sym, ap, _∙_}
+use Prim.Native.Nat.{ℕ}
+use Rattle.nodeset.proofs.Tests.{told, chosen, otherwise}
+use borrow.Author.Tests.{ltb-true, leb-true}
 use native.Mathlib.Omega.{arith}
 use Rattle.nodeset.proofs.Tests.{both}
 use lib.Dec.{ltb, leb}
-use Rattle.bench.specs.declared.Told.{Told}
 use Rattle.bench.specs.Orders.{pushed, noted}
 use Rattle.bench.proofs.noted.Statement.{statement}
 use Rattle.bench.proofs.noted.Tie as tie

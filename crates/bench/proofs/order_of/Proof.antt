@@ -1,6 +1,6 @@
 -- `bench::order_of` meets its contract, call by call. Assumes nothing.
 use borrow.Author.Needs.{needs}
-use mathlib.Core.Path.{_≡_, refl, sym, ap, ap₂, _∙_}
+use mathlib.Core.Path.{sym, ap, _∙_}
 use Rattle.bench.specs.declared.Asked.{Asked}
 use Rattle.bench.specs.Orders.{orderOf}
 use Rattle.bench.proofs.order_of.Statement.{statement}

@@ -1,8 +1,8 @@
 -- `bench::place_of` meets its contract: its test is that of the definition. Assumes nothing.
 use borrow.Author.Needs.{needs}
-use mathlib.Core.Path.{_≡_, refl, sym, ap, ap₂, _∙_}
-use Rattle.nodeset.proofs.Tests.{failed, passed, told, chosen, otherwise}
-use borrow.Author.Tests.{eq-eqb, ne-eqb, le-leb, lt-leb, lt-ltb, le-ltb}
+use mathlib.Core.Path.{sym}
+use Rattle.nodeset.proofs.Tests.{chosen, otherwise}
+use borrow.Author.Tests.{lt-ltb, le-ltb}
 use Rattle.bench.proofs.place_of.Statement.{statement}
 use Rattle.bench.proofs.place_of.Tie as tie
 

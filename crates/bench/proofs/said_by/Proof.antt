@@ -1,8 +1,7 @@
 -- `bench::said_by` meets its contract: its tests are those of the definition. Assumes nothing.
 use borrow.Author.Needs.{needs}
-use mathlib.Core.Path.{_≡_, refl, sym, ap, ap₂, _∙_}
-use Rattle.nodeset.proofs.Tests.{failed, passed, told, chosen, otherwise}
-use Rattle.message.specs.declared.Reading.{Reading}
+use mathlib.Core.Path.{sym, ap₂, _∙_}
+use Rattle.nodeset.proofs.Tests.{failed, passed, chosen, otherwise}
 use Rattle.message.specs.declared.Reading.the-variants.{Heard}
 use Rattle.bench.proofs.said_by.Statement.{statement}
 use Rattle.bench.proofs.said_by.Tie as tie

@@ -1,7 +1,7 @@
 -- `bench::same_state` meets its contract: its tests are those of the definition. Assumes nothing.
 use borrow.Author.Needs.{needs}
-use mathlib.Core.Path.{_≡_, refl, sym, ap, ap₂, _∙_}
-use mathlib.Core.Bool.{Bool, true, false, cond, not, _&&_, _||_}
+use mathlib.Core.Path.{ap₂}
+use mathlib.Core.Bool.{_&&_, _||_}
 use Rattle.bench.proofs.same_state.Statement.{statement}
 use Rattle.bench.proofs.same_state.Tie as tie
 

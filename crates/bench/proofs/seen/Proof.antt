@@ -1,8 +1,7 @@
 -- `bench::seen` meets its contract: each part is that of the definition. Assumes nothing.
 use borrow.Author.Needs.{needs}
-use mathlib.Core.Path.{_≡_, refl, sym, ap, ap₂, _∙_}
-use mathlib.Core.Bool.{Bool, true, false, cond, not, _&&_, _||_}
-use Prim.Native.Nat.{ℕ, _+_, _-_}
+use mathlib.Core.Path.{ap}
+use mathlib.Core.Bool.{Bool, _&&_}
 use Rattle.bench.proofs.Numbers.{same-survey}
 use Rattle.bench.proofs.seen.Statement.{statement}
 use Rattle.bench.proofs.seen.Tie as tie

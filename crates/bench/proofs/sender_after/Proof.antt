@@ -1,7 +1,6 @@
 -- `bench::sender_after` meets its contract: it takes the number out of the answer. Assumes nothing.
 use borrow.Author.Needs.{needs}
-use mathlib.Core.Path.{_≡_, refl, sym, ap, ap₂, _∙_}
-use Rattle.ring.specs.declared.Speaker.{Speaker}
+use mathlib.Core.Path.{sym, ap, _∙_}
 use Rattle.bench.specs.Survey.{numberOf, senderAfter}
 use Rattle.bench.proofs.sender_after.Statement.{statement}
 use Rattle.bench.proofs.sender_after.Tie as tie

@@ -1,8 +1,8 @@
 -- `bench::stands` meets its contract: its tests are those of the definition. Assumes nothing.
 use borrow.Author.Needs.{needs}
-use mathlib.Core.Path.{_≡_, refl, sym, ap, ap₂, _∙_}
+use mathlib.Core.Path.{ap, ap₂}
 use lib.Dec.{eqb}
-use mathlib.Core.Bool.{Bool, true, false, cond, not, _&&_, _||_}
+use mathlib.Core.Bool.{Bool, _&&_}
 use Rattle.bench.proofs.stands.Statement.{statement}
 use Rattle.bench.proofs.stands.Tie as tie
 

@@ -1,7 +1,7 @@
 -- `bench::step_at` meets its contract: its tests are those of the definition. Assumes nothing.
 use borrow.Author.Needs.{needs}
-use mathlib.Core.Path.{_≡_, refl, sym, ap, ap₂, _∙_}
-use Rattle.nodeset.proofs.Tests.{failed, passed, told, chosen, otherwise}
+use mathlib.Core.Path.{sym, ap, _∙_}
+use Rattle.nodeset.proofs.Tests.{told, chosen, otherwise}
 use Rattle.message.specs.declared.Reading.{Reading}
 use Rattle.node.specs.declared.Stepped.{Stepped}
 use Rattle.node.specs.Calls.{stepOf}

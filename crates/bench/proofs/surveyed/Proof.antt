@@ -1,8 +1,8 @@
 -- `bench::surveyed` meets its contract: the first record begins the survey. Assumes nothing.
 use borrow.Author.Needs.{needs}
-use mathlib.Core.Path.{_≡_, refl, sym, ap, ap₂, _∙_}
-use Rattle.nodeset.proofs.Tests.{failed, passed, told, chosen, otherwise}
-use borrow.Author.Tests.{eq-eqb, ne-eqb, le-leb, lt-leb, lt-ltb, le-ltb}
+use mathlib.Core.Path.{sym, ap, _∙_}
+use Rattle.nodeset.proofs.Tests.{chosen, otherwise}
+use borrow.Author.Tests.{eq-eqb, ne-eqb}
 use Rattle.bench.specs.declared.Survey.{Survey}
 use Rattle.bench.specs.Survey.{seen, surveyed}
 use Rattle.bench.proofs.surveyed.Statement.{statement}
