@@ -25,6 +25,8 @@ enum Mood {
     Cut,
     /// These nodes hear nothing.
     Deaf(Set),
+    /// Nodes that are not members hear only these two, for long enough to follow them.
+    Narrow(Set),
     /// Members are switched off until this many remain.
     FewMembers(u32),
     /// Nodes are switched off and on at random.
@@ -52,7 +54,7 @@ impl Adversary {
     /// The next call on this table; it is never refused.
     pub fn next(&mut self, nodes: &[Node]) -> Call {
         if self.lasts == 0 {
-            self.change_mood(nodes[0].n);
+            self.change_mood(nodes);
         }
         self.meet_knock(nodes);
         self.lasts -= 1;
@@ -60,11 +62,12 @@ impl Adversary {
     }
 
     /// A calm time follows each trouble, sometimes one in which a node can return.
-    fn change_mood(&mut self, n: u32) {
-        let n = u64::from(n);
+    fn change_mood(&mut self, nodes: &[Node]) {
+        let n = u64::from(nodes[0].n);
         if let Mood::Calm = self.mood {
-            self.mood = self.trouble(n);
-            self.lasts = self.random.within(1, n + 2);
+            self.mood = self.trouble(nodes);
+            let longest = if let Mood::Narrow(_) = self.mood { 5 * n } else { n + 2 };
+            self.lasts = self.random.within(1, longest);
         } else {
             self.mood = Mood::Calm;
             let longest = if self.random.bit() { n } else { 5 * n };
@@ -81,8 +84,8 @@ impl Adversary {
         }
     }
 
-    fn trouble(&mut self, n: u64) -> Mood {
-        match self.random.below(12) {
+    fn trouble(&mut self, nodes: &[Node]) -> Mood {
+        match self.random.below(13) {
             0 => Mood::Losses,
             1 => Mood::Storm,
             2 | 3 => Mood::Sponsors,
@@ -90,16 +93,28 @@ impl Adversary {
             7 => Mood::Returning,
             8 => Mood::Cut,
             9 => {
-                let nodes = self.some_of(Set::full(n as u32));
-                Mood::Deaf(self.some_of(nodes))
+                let deaf = self.some_of(Set::full(nodes[0].n));
+                Mood::Deaf(self.some_of(deaf))
             }
-            10 => Mood::FewMembers(self.random.within(1, 3) as u32),
+            10 => Mood::Narrow(self.pair(bench::list(nodes).unwrap_or(Set::EMPTY))),
+            11 => Mood::FewMembers(self.random.within(1, 3) as u32),
             _ => Mood::Switching,
         }
     }
 
+    /// Two of the nodes; fewer if there are not so many.
+    fn pair(&mut self, set: Set) -> Set {
+        let one = self.one_of(set).map_or(Set::EMPTY, |x| Set::EMPTY.with(x));
+        self.one_of(Set(set.0 & !one.0)).map_or(one, |x| one.with(x))
+    }
+
     /// A call that switches a node off or on, if this is the moment for one.
     fn switch(&mut self, nodes: &[Node]) -> Option<Call> {
+        // Where a node follows two members, one of them is a good choice.
+        let follows_two = nodes.iter().find(|node| returns(node) && node.set.count() == 2);
+        if follows_two.is_some() && self.random.below(6) == 0 {
+            return follows_two.and_then(|node| self.one_of(node.set)).map(Call::Off);
+        }
         let out = those(nodes, |node| matches!(node.state, State::Out(_)));
         if self.random.below(6) == 0 {
             return self.one_of(out).map(Call::Restart);
@@ -144,6 +159,8 @@ impl Adversary {
                 missed_by(self.some_of(others))
             }
             Mood::Cut => missed_by(those(nodes, returns)),
+            Mood::Narrow(pair) if pair.has(bench::next_sender(nodes)) => missed_by(Set::EMPTY),
+            Mood::Narrow(_) => missed_by(those(nodes, |node| node.state != State::Member)),
             Mood::Deaf(nodes) => missed_by(nodes),
         }
     }
