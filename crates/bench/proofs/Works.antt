@@ -24,7 +24,7 @@ use Rattle.node.specs.Calls as node
 use Rattle.bench.specs.declared.Asked.the-variants as asked
 use Rattle.bench.specs.declared.Order.{Order}
 use Rattle.bench.specs.declared.Order.the-variants as order
-use Rattle.bench.specs.Table.{Table, eachFrom, each, placedFrom, slotsOf, recordOf, speaker}
+use Rattle.bench.specs.Table.{Table, eachFrom, placedFrom, slotsOf, recordOf, speaker}
 use Rattle.bench.specs.Calls.{Called, done, ifPassed, setUpOf, startTable, offOf, afterOff, restartOf, afterRestart, slotOf, afterSlot, heardBy, spoken, transmits, unheard}
 use Rattle.bench.specs.Survey.{surveyOf}
 use Rattle.bench.specs.Orders.{ifGood, saidBy, orderFor, carried, answerTo, reported, reportOf}
