@@ -1,9 +1,2 @@
-pub mod Numbers
-pub mod Partly
-pub mod Shared
-pub mod Surveys
-pub mod Works
-pub mod Readings
 pub mod agreement
-pub mod Reports
 pub mod SlotKinds

@@ -4,5 +4,3 @@ pub mod Pairs
 pub mod Runs
 pub mod Demand
 pub mod Computed
-pub mod Survey
-pub mod Orders

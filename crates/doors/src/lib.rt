@@ -62,7 +62,7 @@ pub fn set_up(mut rows: [Node; 32], n: u32, k: u32) -> Switched
     ensures { λ r. ⌜ r ≡ setUpOf n k rows ⌝ }
 {
     let size = size(n);
-    let answer = bench::set_up(n, k, &mut rows[..size]);
+    let answer = bench_calls::set_up(n, k, &mut rows[..size]);
     answered(rows, answer)
 }
 
@@ -71,7 +71,7 @@ pub fn off(mut rows: [Node; 32], n: u32, a: u32) -> Switched
     ensures { λ r. ⌜ r ≡ offOf n a rows ⌝ }
 {
     let size = size(n);
-    let answer = bench::off(&mut rows[..size], a);
+    let answer = bench_calls::off(&mut rows[..size], a);
     answered(rows, answer)
 }
 
@@ -80,7 +80,7 @@ pub fn restart(mut rows: [Node; 32], n: u32, a: u32) -> Switched
     ensures { λ r. ⌜ r ≡ restartOf n a rows ⌝ }
 {
     let size = size(n);
-    let answer = bench::restart(&mut rows[..size], a);
+    let answer = bench_calls::restart(&mut rows[..size], a);
     answered(rows, answer)
 }
 
@@ -89,10 +89,10 @@ pub fn slot(mut rows: [Node; 32], n: u32, lost: bool, missed: u32) -> Slotted
     ensures { λ r. ⌜ r ≡ slotOf n lost missed rows ⌝ }
 {
     let size = size(n);
-    let next = bench::next_slot(&rows[..size], lost);
+    let next = bench_calls::next_slot(&rows[..size], lost);
     let mut pairs = no_bytes();
-    let changed = bench::slot(&mut rows[..size], lost, missed, &mut pairs);
-    let list = bench::list(&rows[..size]);
-    let apart = bench::distance(&rows[..size]);
+    let changed = bench_calls::slot(&mut rows[..size], lost, missed, &mut pairs);
+    let list = bench_calls::list(&rows[..size]);
+    let apart = bench_calls::distance(&rows[..size]);
     told(rows, next, changed, list, apart)
 }

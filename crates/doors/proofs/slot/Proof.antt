@@ -77,26 +77,26 @@ use Rattle.doors.proofs.size as size
 use Rattle.doors.proofs.size.Symbol as size-def
 use Rattle.doors.proofs.size.Symbol.{name as #doors·size}
 use Rattle.doors.proofs.size.Met as size-thm
-use Rattle.bench.proofs.next_slot as next-slot
-use Rattle.bench.proofs.next_slot.Symbol as next-slot-def
-use Rattle.bench.proofs.next_slot.Symbol.{name as #bench·next-slot}
-use Rattle.bench.proofs.next_slot.Met as next-slot-thm
+use Rattle.bench_calls.proofs.next_slot as next-slot
+use Rattle.bench_calls.proofs.next_slot.Symbol as next-slot-def
+use Rattle.bench_calls.proofs.next_slot.Symbol.{name as #bench-calls·next-slot}
+use Rattle.bench_calls.proofs.next_slot.Met as next-slot-thm
 use Rattle.doors.proofs.no_bytes as no-bytes
 use Rattle.doors.proofs.no_bytes.Symbol as no-bytes-def
 use Rattle.doors.proofs.no_bytes.Symbol.{name as #doors·no-bytes}
 use Rattle.doors.proofs.no_bytes.Met as no-bytes-thm
-use Rattle.bench.proofs.slot as slot
-use Rattle.bench.proofs.slot.Symbol as slot-def
-use Rattle.bench.proofs.slot.Symbol.{name as #bench·slot}
-use Rattle.bench.proofs.slot.Met as slot-thm
-use Rattle.bench.proofs.list as list
-use Rattle.bench.proofs.list.Symbol as list-def
-use Rattle.bench.proofs.list.Symbol.{name as #bench·list}
-use Rattle.bench.proofs.list.Met as list-thm
-use Rattle.bench.proofs.distance as distance
-use Rattle.bench.proofs.distance.Symbol as distance-def
-use Rattle.bench.proofs.distance.Symbol.{name as #bench·distance}
-use Rattle.bench.proofs.distance.Met as distance-thm
+use Rattle.bench_calls.proofs.slot as slot
+use Rattle.bench_calls.proofs.slot.Symbol as slot-def
+use Rattle.bench_calls.proofs.slot.Symbol.{name as #bench-calls·slot}
+use Rattle.bench_calls.proofs.slot.Met as slot-thm
+use Rattle.bench_calls.proofs.list as list
+use Rattle.bench_calls.proofs.list.Symbol as list-def
+use Rattle.bench_calls.proofs.list.Symbol.{name as #bench-calls·list}
+use Rattle.bench_calls.proofs.list.Met as list-thm
+use Rattle.bench_calls.proofs.distance as distance
+use Rattle.bench_calls.proofs.distance.Symbol as distance-def
+use Rattle.bench_calls.proofs.distance.Symbol.{name as #bench-calls·distance}
+use Rattle.bench_calls.proofs.distance.Met as distance-thm
 use Rattle.doors.proofs.told as told
 use Rattle.doors.proofs.told.Symbol as told-def
 use Rattle.doors.proofs.told.Symbol.{name as #doors·told}
@@ -247,7 +247,7 @@ module _ {M : Type 1} (𝓤 : URA M) (H : Heap 𝓤) (A : Atoms 𝓤) (W : Given
       at-64 : zs ≡ bench.slotOf lost missed 64 t .table
       at-64 = is-zs ∙ ap (λ (j : ℕ). bench.slotOf lost missed j t .table) h
 
-  goes-through : (𝓣 : Tables 𝓤 H) → Triple 𝓤 (𝓣 .C #doors·size) (To-size 𝓤 H A mem run) → Triple 𝓤 (𝓣 .C #bench·next-slot) (To-next-slot 𝓤 H A mem run) → Triple 𝓤 (𝓣 .C #doors·no-bytes) (To-no-bytes 𝓤 H A mem run) → Triple 𝓤 (𝓣 .C #bench·slot) (To-slot 𝓤 H A mem run) → Triple 𝓤 (𝓣 .C #bench·list) (To-list 𝓤 H A mem run) → Triple 𝓤 (𝓣 .C #bench·distance) (To-distance 𝓤 H A mem run) → Triple 𝓤 (𝓣 .C #doors·told) (To-told 𝓤 H A mem run)
+  goes-through : (𝓣 : Tables 𝓤 H) → Triple 𝓤 (𝓣 .C #doors·size) (To-size 𝓤 H A mem run) → Triple 𝓤 (𝓣 .C #bench-calls·next-slot) (To-next-slot 𝓤 H A mem run) → Triple 𝓤 (𝓣 .C #doors·no-bytes) (To-no-bytes 𝓤 H A mem run) → Triple 𝓤 (𝓣 .C #bench-calls·slot) (To-slot 𝓤 H A mem run) → Triple 𝓤 (𝓣 .C #bench-calls·list) (To-list 𝓤 H A mem run) → Triple 𝓤 (𝓣 .C #bench-calls·distance) (To-distance 𝓤 H A mem run) → Triple 𝓤 (𝓣 .C #doors·told) (To-told 𝓤 H A mem run)
       → ent 𝓤 (onEntry 𝓤 H A this.signature tt tt (ys, (n, (lost, (missed, tt)))) (val ys ∷ [], (vint w32 n ∷ [], (vbool lost ∷ [], (vint w32 missed ∷ [], tt))))) (WpFn 𝓤 H (𝓣 .C) (𝓣 .Λ) code.function (val ys ∷ vint w32 n ∷ vbool lost ∷ vint w32 missed ∷ []) Post)
   goes-through 𝓣 known-size known-next-slot known-no-bytes known-slot known-list known-distance known-told =
       qed W (‵ ftrue ∷ ‵ (owns (R ∷ u32 ∷ bool ∷ u32 ∷ []) (ys, (n, (lost, (missed, tt)))) (val ys ∷ [], (vint w32 n ∷ [], (vbool lost ∷ [], (vint w32 missed ∷ [], tt))))) ∷ []) ∵ enter ! (𝓣 .C) (𝓣 .Λ) code.function (val ys ∷ vint w32 n ∷ vbool lost ∷ vint w32 missed ∷ []) _ $
@@ -353,14 +353,14 @@ module _ {M : Type 1} (𝓤 : URA M) (H : Heap 𝓤) (A : Atoms 𝓤) (W : Given
       by ! (exits s v-s (is-s ∙ is-so (length bs) (zs .0) x c ls d (g-bs .1 .0 .1) is-x (is-c .0) (is-c .1 .0) is-ls is-d))))))))))))))))))))))))))))))))))))))))))))))))))))))))))))))))))))
 
 module _ {M : Type 1} (𝓤 : URA M) (H : Heap 𝓤) (A : Atoms 𝓤) (W : Given 𝓤 H A) (mem : Memory → SProp 𝓤) (run : Routine → Fun 𝓤) where
-  slot-walks : (𝓣 : Tables 𝓤 H) → Triple 𝓤 (𝓣 .C #doors·size) (To-size 𝓤 H A mem run) → Triple 𝓤 (𝓣 .C #bench·next-slot) (To-next-slot 𝓤 H A mem run) → Triple 𝓤 (𝓣 .C #doors·no-bytes) (To-no-bytes 𝓤 H A mem run) → Triple 𝓤 (𝓣 .C #bench·slot) (To-slot 𝓤 H A mem run) → Triple 𝓤 (𝓣 .C #bench·list) (To-list 𝓤 H A mem run) → Triple 𝓤 (𝓣 .C #bench·distance) (To-distance 𝓤 H A mem run) → Triple 𝓤 (𝓣 .C #doors·told) (To-told 𝓤 H A mem run)
+  slot-walks : (𝓣 : Tables 𝓤 H) → Triple 𝓤 (𝓣 .C #doors·size) (To-size 𝓤 H A mem run) → Triple 𝓤 (𝓣 .C #bench-calls·next-slot) (To-next-slot 𝓤 H A mem run) → Triple 𝓤 (𝓣 .C #doors·no-bytes) (To-no-bytes 𝓤 H A mem run) → Triple 𝓤 (𝓣 .C #bench-calls·slot) (To-slot 𝓤 H A mem run) → Triple 𝓤 (𝓣 .C #bench-calls·list) (To-list 𝓤 H A mem run) → Triple 𝓤 (𝓣 .C #bench-calls·distance) (To-distance 𝓤 H A mem run) → Triple 𝓤 (𝓣 .C #doors·told) (To-told 𝓤 H A mem run)
       → Walks 𝓤 H A this.ended stayed (WpFn 𝓤 H (𝓣 .C) (𝓣 .Λ) code.function) (this.clauses 𝓤 H A mem run)
   slot-walks 𝓣 known-size known-next-slot known-no-bytes known-slot known-list known-distance known-told = walked 𝓤 H A this.ended stayed (this.clauses 𝓤 H A mem run) (WpFn 𝓤 H (𝓣 .C) (𝓣 .Λ) code.function)
       (λ κs. (vals, (uint-vals w32, (bool-vals, (uint-vals w32, tt))))) (λ κs. (rows-tells, (uint-tells w32, (bool-tells, (uint-tells w32, tt)))))
       (λ κs qs bounds a _ are. via 𝓤 _ (fst∗ 𝓤 _ (emp 𝓤))
       (goes-through 𝓤 H A W mem run (a .0) (are .0) (a .1 .0) (are .1 .0) (a .1 .1 .0) (are .1 .1 .0) (a .1 .1 .1 .0) (are .1 .1 .1 .0) 𝓣 known-size known-next-slot known-no-bytes known-slot known-list known-distance known-told))
 
-slot-meets : {M : Type 1} (𝓤 : URA M) (H : Heap 𝓤) (A : Atoms 𝓤) → Given 𝓤 H A → (mem : Memory → SProp 𝓤) (run : Routine → Fun 𝓤) (𝓣 : Tables 𝓤 H) → Triple 𝓤 (𝓣 .C #doors·size) (To-size 𝓤 H A mem run) → Triple 𝓤 (𝓣 .C #bench·next-slot) (To-next-slot 𝓤 H A mem run) → Triple 𝓤 (𝓣 .C #doors·no-bytes) (To-no-bytes 𝓤 H A mem run) → Triple 𝓤 (𝓣 .C #bench·slot) (To-slot 𝓤 H A mem run) → Triple 𝓤 (𝓣 .C #bench·list) (To-list 𝓤 H A mem run) → Triple 𝓤 (𝓣 .C #bench·distance) (To-distance 𝓤 H A mem run) → Triple 𝓤 (𝓣 .C #doors·told) (To-told 𝓤 H A mem run)
+slot-meets : {M : Type 1} (𝓤 : URA M) (H : Heap 𝓤) (A : Atoms 𝓤) → Given 𝓤 H A → (mem : Memory → SProp 𝓤) (run : Routine → Fun 𝓤) (𝓣 : Tables 𝓤 H) → Triple 𝓤 (𝓣 .C #doors·size) (To-size 𝓤 H A mem run) → Triple 𝓤 (𝓣 .C #bench-calls·next-slot) (To-next-slot 𝓤 H A mem run) → Triple 𝓤 (𝓣 .C #doors·no-bytes) (To-no-bytes 𝓤 H A mem run) → Triple 𝓤 (𝓣 .C #bench-calls·slot) (To-slot 𝓤 H A mem run) → Triple 𝓤 (𝓣 .C #bench-calls·list) (To-list 𝓤 H A mem run) → Triple 𝓤 (𝓣 .C #bench-calls·distance) (To-distance 𝓤 H A mem run) → Triple 𝓤 (𝓣 .C #doors·told) (To-told 𝓤 H A mem run)
     → Meets 𝓤 H A this.signature (WpFn 𝓤 H (𝓣 .C) (𝓣 .Λ) code.function) (this.spec 𝓤 H A mem run)
 slot-meets 𝓤 H A W mem run 𝓣 known-size known-next-slot known-no-bytes known-slot known-list known-distance known-told =
     walk-meets 𝓤 H A this.ended stayed W (goes-dropped 𝓤 H A W 0 (plain (λ _. R)) yes (λ κs x f. refl), (goes-dropped 𝓤 H A W 0 (plain (λ _. u32)) yes (λ κs x f. refl), (goes-dropped 𝓤 H A W 0 (plain (λ _. bool)) yes (λ κs x f. refl), (goes-dropped 𝓤 H A W 0 (plain (λ _. u32)) yes (λ κs x f. refl), tt)))) (this.clauses 𝓤 H A mem run)
@@ -373,9 +373,9 @@ slot-spec 𝓤 H 𝓜 𝓖 𝓡 =
     (tables 𝓤 H 𝓜 𝓡 code.env .C) (tables 𝓤 H 𝓜 𝓡 code.env .Λ) #doors·slot code.function (code.unfolded 𝓤 H 𝓜 𝓡)
     (slot-meets 𝓤 H (𝓖 .A) (givenOf 𝓤 H 𝓜 𝓖) (𝓜 .mem) (𝓡 .run) (tablesOf 𝓤 H 𝓜 (tables 𝓤 H 𝓜 𝓡 code.env))
     (cited 𝓤 H (To-size 𝓤 H (𝓖 .A) (𝓜 .mem) (𝓡 .run)) 𝓜 𝓡 code.env #doors·size size-def.routine code.calls-doors·size (size-thm.met 𝓤 H 𝓜 𝓖 𝓡))
-    (cited 𝓤 H (To-next-slot 𝓤 H (𝓖 .A) (𝓜 .mem) (𝓡 .run)) 𝓜 𝓡 code.env #bench·next-slot next-slot-def.routine code.calls-bench·next-slot (next-slot-thm.met 𝓤 H 𝓜 𝓖 𝓡))
+    (cited 𝓤 H (To-next-slot 𝓤 H (𝓖 .A) (𝓜 .mem) (𝓡 .run)) 𝓜 𝓡 code.env #bench-calls·next-slot next-slot-def.routine code.calls-bench-calls·next-slot (next-slot-thm.met 𝓤 H 𝓜 𝓖 𝓡))
     (cited 𝓤 H (To-no-bytes 𝓤 H (𝓖 .A) (𝓜 .mem) (𝓡 .run)) 𝓜 𝓡 code.env #doors·no-bytes no-bytes-def.routine code.calls-doors·no-bytes (no-bytes-thm.met 𝓤 H 𝓜 𝓖 𝓡))
-    (cited 𝓤 H (To-slot 𝓤 H (𝓖 .A) (𝓜 .mem) (𝓡 .run)) 𝓜 𝓡 code.env #bench·slot slot-def.routine code.calls-bench·slot (slot-thm.met 𝓤 H 𝓜 𝓖 𝓡))
-    (cited 𝓤 H (To-list 𝓤 H (𝓖 .A) (𝓜 .mem) (𝓡 .run)) 𝓜 𝓡 code.env #bench·list list-def.routine code.calls-bench·list (list-thm.met 𝓤 H 𝓜 𝓖 𝓡))
-    (cited 𝓤 H (To-distance 𝓤 H (𝓖 .A) (𝓜 .mem) (𝓡 .run)) 𝓜 𝓡 code.env #bench·distance distance-def.routine code.calls-bench·distance (distance-thm.met 𝓤 H 𝓜 𝓖 𝓡))
+    (cited 𝓤 H (To-slot 𝓤 H (𝓖 .A) (𝓜 .mem) (𝓡 .run)) 𝓜 𝓡 code.env #bench-calls·slot slot-def.routine code.calls-bench-calls·slot (slot-thm.met 𝓤 H 𝓜 𝓖 𝓡))
+    (cited 𝓤 H (To-list 𝓤 H (𝓖 .A) (𝓜 .mem) (𝓡 .run)) 𝓜 𝓡 code.env #bench-calls·list list-def.routine code.calls-bench-calls·list (list-thm.met 𝓤 H 𝓜 𝓖 𝓡))
+    (cited 𝓤 H (To-distance 𝓤 H (𝓖 .A) (𝓜 .mem) (𝓡 .run)) 𝓜 𝓡 code.env #bench-calls·distance distance-def.routine code.calls-bench-calls·distance (distance-thm.met 𝓤 H 𝓜 𝓖 𝓡))
     (cited 𝓤 H (To-told 𝓤 H (𝓖 .A) (𝓜 .mem) (𝓡 .run)) 𝓜 𝓡 code.env #doors·told told-def.routine code.calls-doors·told (told-thm.met 𝓤 H 𝓜 𝓖 𝓡)))

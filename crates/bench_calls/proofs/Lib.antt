@@ -1,0 +1,4 @@
+pub mod Surveys
+pub mod Works
+pub mod Readings
+pub mod Reports

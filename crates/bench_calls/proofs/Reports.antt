@@ -1,0 +1,347 @@
+-- What `carry_out` notes (bench_walks' specs/Orders) is what bench's specs/Pairs asks of a slot: each node whose state changed stands once among the pairs, with its kind, the
+-- number of pairs is that of the changes, and the bytes after them are as they were. For every order that is carried out on a sound table. Assumes nothing.
+use Prim.Native.Nat.{ℕ, zero, suc, _+_, _-_, _*_, _<_, _≤_}
+use mathlib.Core.Path.{_≡_, refl, sym, ap, ap₂, subst, _∙_}
+use mathlib.Core.Bool.{Bool, true, false, cond, not, _&&_}
+use mathlib.Core.List.{List, [], _∷_, _++_, append-assoc, append-nil}
+use native.Mathlib.Omega.{arith}
+use native.Mathlib.Numerals.{add-one}
+use lib.Dec.{eqb, leb, ltb}
+use lib.ListN.{length, getD, set, take, drop, length-set, length-replicate}
+use borrow.Author.Tests.{eqb-true, eqb-false, eq-eqb, ne-eqb, leb-true, leb-false, le-leb, lt-ltb}
+use Rattle.refusal.specs.declared.Refusal.{Refusal}
+use Rattle.refusal.specs.declared.Refusal.the-variants.{NodeNumber, Unsound, SlotLimit, OutputShort}
+use Rattle.nodeset.specs.Sets.{within}
+use Rattle.nodeset.specs.Sums.{sum, num}
+use Rattle.nodeset.proofs.Sums.{sum-none, sum-first, sum-same}
+use Rattle.nodeset.proofs.Tests.{by-cases, all, chosen}
+use Rattle.ring.specs.Ring.{nodeNumber}
+use Rattle.ring.proofs.Ranges.{ring-size, node-number}
+use Rattle.record.specs.declared.Node.{Node}
+use Rattle.record.specs.declared.State.{State}
+use Rattle.record.specs.Soundness.{limit}
+use Rattle.node.specs.Calls.{noNode}
+use Rattle.bench_walks.specs.declared.Asked.{Asked}
+use Rattle.bench_walks.specs.declared.Asked.the-variants as asked
+use Rattle.bench_walks.specs.declared.Report.{Report}
+use Rattle.bench.specs.declared.Changed.{Changed}
+use Rattle.bench_walks.specs.declared.Order.{Order}
+use Rattle.bench_walks.specs.declared.Order.the-variants as order
+use Rattle.bench_walks.specs.declared.Told.{Told}
+use Rattle.bench.specs.declared.Changed.the-variants as changed
+use Rattle.bench.specs.Table.{Table, recordOf, eachFrom, placedFrom, tableSound, slotsOf}
+use Rattle.bench.specs.Calls.{Called, slotOf}
+use Rattle.bench.specs.Pairs.{sameState, kindFrom, isChanged, kindOf, changeCount, Pair, bytesOf, times, Tells, Reported, changedOf, BytesAfter}
+use Rattle.bench_walks.specs.Survey.{foldFrom, surveyOf, fineTable}
+use Rattle.bench_walks.specs.Orders.{ifGood, saidBy, orderFor, carried, carriedFrom, pushed, noted, noPairs, notedFrom, reported, reportOf, changedBy, puts, writtenBy}
+use Rattle.bench_calls.proofs.Surveys.{placed, fine-table, said}
+use Rattle.bench_calls.proofs.Works.{calledBy, slot-called}
+
+-- ---- bytes
+
+stored : (l : List ℕ) (j a b : ℕ) → suc j < length l → take (suc (suc j)) (set (set l j a) (suc j) b) ≡ take j l ++ (a ∷ b ∷ [])
+stored [] j a b h = absurd (let q : ⊥ = omega (arith, h) in q)
+stored (x ∷ []) zero a b h = absurd (let q : ⊥ = omega (arith, h) in q)
+stored (x ∷ y ∷ l) zero a b h = refl
+stored (x ∷ l) (suc j) a b h = ap {B = List ℕ} (λ r. x ∷ r) (stored l j a b (omega (arith, h)))
+
+one-put : (j : ℕ) (b out : List ℕ) → j < length b → j < length out → set (take j b ++ drop j out) j (getD b j 0) ≡ take (suc j) b ++ drop (suc j) out
+one-put j [] out h k = absurd (let q : ⊥ = omega (arith, h) in q)
+one-put j (x ∷ b) [] h k = absurd (let q : ⊥ = omega (arith, k) in q)
+one-put zero (x ∷ b) (y ∷ out) h k = refl
+one-put (suc j) (x ∷ b) (y ∷ out) h k = ap {B = List ℕ} (λ r. x ∷ r) (one-put j b out (omega (arith, h)) (omega (arith, k)))
+
+all-put : (b out : List ℕ) (j : ℕ) → j ≤ length b → j ≤ length out → puts b j out ≡ take j b ++ drop j out
+unfolding puts
+all-put b out zero h k = refl
+all-put b out (suc j) h k = ap (λ (l : List ℕ). set l j (getD b j 0)) (all-put b out j (omega (arith, h)) (omega (arith, k))) ∙ one-put j b out h k
+
+-- ---- the pairs of an order, in rising order of nodes
+
+abbrev same : Order → ℕ → Node → Bool
+same o i v = sameState (v .state) (carried o i v .state)
+
+abbrev kind : Order → ℕ → Node → ℕ
+kind o i v = kindFrom (v .state) (carried o i v .state)
+
+abbrev pairsOf : Order → ℕ → Table → List Pair
+pairsOf o i [] = []
+pairsOf o i (v ∷ t) = cond (same o i v) (pairsOf o (suc i) t) ((v .own, kind o i v) ∷ pairsOf o (suc i) t)
+
+few : (o : Order) (i : ℕ) (t : Table) → length (pairsOf o i t) ≤ length t
+few o i [] = omega arith
+few o i (v ∷ t) = go (few o (suc i) t) (same o i v)
+  where
+    go : length (pairsOf o (suc i) t) ≤ length t → (b : Bool) → length (cond b (pairsOf o (suc i) t) ((v .own, kind o i v) ∷ pairsOf o (suc i) t)) ≤ suc (length t)
+    go h true = omega (arith, h)
+    go h false = omega (arith, h)
+
+-- what is noted of the records from index i on
+pub record Notes (p r : Told) (ps : List Pair) : Type 0 where
+  pub count : r .count ≡ p .count + length ps
+  pub size : length (r .bytes) ≡ 64
+  pub bytes : take (r .count * 2) (r .bytes) ≡ take (p .count * 2) (p .bytes) ++ bytesOf ps
+
+double : (c : ℕ) → (c + 1) * 2 ≡ suc (suc (c * 2))
+double c = omega arith
+
+push-bytes : (p : Told) (x k : ℕ) → p .count < 32 → length (p .bytes) ≡ 64 → take (pushed p x k .count * 2) (pushed p x k .bytes) ≡ take (p .count * 2) (p .bytes) ++ (x ∷ k ∷ [])
+push-bytes p x k l h =
+    ap₂ (λ (m j : ℕ). take m (set (set (p .bytes) (p .count * 2) x) j k)) (double (p .count)) (add-one (p .count * 2))
+    ∙ stored (p .bytes) (p .count * 2) x k (omega (arith, l, h))
+
+push-size : (p : Told) (x k : ℕ) → length (p .bytes) ≡ 64 → length (pushed p x k .bytes) ≡ 64
+push-size p x k h = length-set (set (p .bytes) (p .count * 2) x) (p .count * 2 + 1) k ∙ length-set (p .bytes) (p .count * 2) x ∙ h
+
+notes : (n k slots : ℕ) (o : Order) (p : Told) (i : ℕ) (t : Table) → placedFrom n k slots (suc i) t ≡ true → p .count ≤ i → i + length t ≤ 32 → length (p .bytes) ≡ 64
+    → Notes p (notedFrom o p i t) (pairsOf o i t)
+unfolding foldFrom noted bytesOf
+notes n k slots o p i [] e l m h = record { count = omega arith; size = h; bytes = sym (append-nil (take (p .count * 2) (p .bytes))) }
+notes n k slots o p i (v ∷ t) e l m h =
+    let rest = placed n k slots (suc i) v t e .rest in
+    let ih : After = λ p′ l′ h′. notes n k slots o p′ (suc i) t rest l′ (omega (arith, m)) h′ in
+    by-cases (same o i v) (λ b. subst Goal (sym b) (ih p (omega (arith, l)) h)) (λ b. subst Goal (sym b) (changes ih))
+  where
+    q : Told
+    q = pushed p (v .own) (kind o i v)
+
+    Goal : Bool → Type 0
+    Goal b = Notes p (notedFrom o (cond b p (cond (ltb (p .count) 32 && leb (v .own) 32) q p)) (suc i) t) (cond b (pairsOf o (suc i) t) ((v .own, kind o i v) ∷ pairsOf o (suc i) t))
+
+    own-is : v .own ≡ suc i
+    own-is = placed n k slots (suc i) v t e .own
+
+    After : Type 0
+    After = (p′ : Told) → p′ .count ≤ suc i → length (p′ .bytes) ≡ 64 → Notes p′ (notedFrom o p′ (suc i) t) (pairsOf o (suc i) t)
+
+    test : (ltb (p .count) 32 && leb (v .own) 32) ≡ true
+    test = all (lt-ltb (p .count) 32 (omega (arith, l, m))) (le-leb (v .own) 32 (omega (arith, own-is, m)))
+
+    with-it : Notes q (notedFrom o q (suc i) t) (pairsOf o (suc i) t) → Notes p (notedFrom o q (suc i) t) ((v .own, kind o i v) ∷ pairsOf o (suc i) t)
+    with-it later = record {
+      count = let c = later .count in omega (arith, c);
+      size = later .size;
+      bytes = later .bytes ∙ ap (λ (x : List ℕ). x ++ bytesOf (pairsOf o (suc i) t)) (push-bytes p (v .own) (kind o i v) (omega (arith, l, m)) h)
+          ∙ append-assoc (take (p .count * 2) (p .bytes)) (v .own ∷ kind o i v ∷ []) (bytesOf (pairsOf o (suc i) t));
+    }
+
+    changes : After → Goal false
+    changes ih = subst (λ (b : Bool). Notes p (notedFrom o (cond b q p) (suc i) t) ((v .own, kind o i v) ∷ pairsOf o (suc i) t)) (sym test) (with-it (ih q (omega (arith, l)) (push-size p (v .own) (kind o i v) h)))
+
+-- ---- how often a pair stands there
+
+same-tests : (a b : ℕ) → eqb a b ≡ eqb b a
+same-tests a b =
+    by-cases (eqb a b) (λ e. e ∙ sym (eq-eqb b a (sym (eqb-true a b e)))) (λ e. e ∙ sym (ne-eqb b a (λ f. eqb-false a b e (sym f))))
+
+abbrev tells-of : State → State → ℕ → Bool
+tells-of a b k = not (sameState a b) && eqb k (kindFrom a b)
+
+-- the first record adds its own pair
+times-first : (x k : ℕ) (o : Order) (i : ℕ) (v : Node) (t : Table)
+    → times (x, k) (pairsOf o i (v ∷ t)) ≡ num (not (same o i v) && (eqb (v .own) x && eqb (kind o i v) k)) + times (x, k) (pairsOf o (suc i) t)
+unfolding times
+times-first x k o i v t = go (same o i v)
+  where
+    go : (b : Bool) → times (x, k) (cond b (pairsOf o (suc i) t) ((v .own, kind o i v) ∷ pairsOf o (suc i) t))
+        ≡ num (not b && (eqb (v .own) x && eqb (kind o i v) k)) + times (x, k) (pairsOf o (suc i) t)
+    go true = omega arith
+    go false = refl
+
+no-pair : (b c d : Bool) → c ≡ false → num (b && (c && d)) ≡ 0
+no-pair true c d e = ap (λ (a : Bool). num (a && d)) e
+no-pair false c d e = refl
+
+-- a pair of another node
+not-first : (x k : ℕ) (o : Order) (i : ℕ) (v : Node) (t : Table) → (v .own ≡ x → ⊥) → times (x, k) (pairsOf o i (v ∷ t)) ≡ times (x, k) (pairsOf o (suc i) t)
+not-first x k o i v t h =
+    times-first x k o i v t ∙ ap (λ (m : ℕ). m + times (x, k) (pairsOf o (suc i) t)) (no-pair (not (same o i v)) (eqb (v .own) x) (eqb (kind o i v) k) (ne-eqb (v .own) x h))
+    ∙ none (times (x, k) (pairsOf o (suc i) t))
+  where
+    none : (m : ℕ) → 0 + m ≡ m
+    none m = omega arith
+
+module _ (n k slots : ℕ) (o : Order) where
+  low : (x c i : ℕ) (t : Table) → placedFrom n k slots (suc i) t ≡ true → x ≤ i → times (x, c) (pairsOf o i t) ≡ 0
+  unfolding times
+  low x c i [] e l = refl
+  low x c i (v ∷ t) e l =
+      let p = placed n k slots (suc i) v t e in
+      not-first x c o i v t (λ h. omega (arith, h, l, p .own)) ∙ low x c (suc i) t (p .rest) (omega (arith, l))
+
+  high : (x c i : ℕ) (t : Table) → placedFrom n k slots (suc i) t ≡ true → i + length t < x → times (x, c) (pairsOf o i t) ≡ 0
+  unfolding times
+  high x c i [] e l = refl
+  high x c i (v ∷ t) e l =
+      let p = placed n k slots (suc i) v t e in
+      not-first x c o i v t (λ h. omega (arith, h, l, p .own)) ∙ high x c (suc i) t (p .rest) (omega (arith, l))
+
+  -- the record of node x before and after
+  abbrev was : ℕ → ℕ → Table → State
+  was x i t = getD t (x - suc i) noNode .state
+
+  abbrev is : ℕ → ℕ → Table → State
+  is x i t = getD (eachFrom (carried o) i t) (x - suc i) noNode .state
+
+  first-there : (x i : ℕ) (v : Node) (t : Table) → x ≡ suc i → (was x i (v ∷ t) ≡ v .state) × (is x i (v ∷ t) ≡ carried o i v .state)
+  unfolding eachFrom
+  first-there x i v t e =
+      let z : x - suc i ≡ 0 = omega (arith, e) in
+      (ap (λ (j : ℕ). getD (v ∷ t) j noNode .state) z, ap (λ (j : ℕ). getD (carried o i v ∷ eachFrom (carried o) (suc i) t) j noNode .state) z)
+
+  later-there : (x i : ℕ) (v : Node) (t : Table) → suc i < x → (was x i (v ∷ t) ≡ was x (suc i) t) × (is x i (v ∷ t) ≡ is x (suc i) t)
+  unfolding eachFrom
+  later-there x i v t e =
+      let z : x - suc i ≡ suc (x - suc (suc i)) = omega (arith, e) in
+      (ap (λ (j : ℕ). getD (v ∷ t) j noNode .state) z, ap (λ (j : ℕ). getD (carried o i v ∷ eachFrom (carried o) (suc i) t) j noNode .state) z)
+
+  mid : (x c i : ℕ) (t : Table) → placedFrom n k slots (suc i) t ≡ true → suc i ≤ x → x ≤ i + length t → times (x, c) (pairsOf o i t) ≡ num (tells-of (was x i t) (is x i t) c)
+  mid x c i [] e l m = absurd (let q : ⊥ = omega (arith, l, m) in q)
+  mid x c i (v ∷ t) e l m =
+      let p = placed n k slots (suc i) v t e in
+      by-cases (eqb (v .own) x)
+      (λ b. let own : v .own ≡ x = eqb-true (v .own) x b in
+      let at = first-there x i v t (omega (arith, own, p .own)) in
+      times-first x c o i v t
+      ∙ ap₂ _+_ (ap (λ (a : Bool). num (not (same o i v) && (a && eqb (kind o i v) c))) b) (low x c (suc i) t (p .rest) (omega (arith, own, p .own)))
+      ∙ plus-none (num (not (same o i v) && eqb (kind o i v) c))
+      ∙ ap (λ (a : Bool). num (not (same o i v) && a)) (same-tests (kind o i v) c)
+      ∙ ap₂ (λ (a b : State). num (tells-of a b c)) (sym (at .0)) (sym (at .1)))
+      (λ b. let other : v .own ≡ x → ⊥ = eqb-false (v .own) x b in
+      let above : suc i < x = omega (arith, l, other, p .own) in
+      let at = later-there x i v t above in
+      not-first x c o i v t other ∙ mid x c (suc i) t (p .rest) above (omega (arith, m))
+      ∙ ap₂ (λ (a b : State). num (tells-of a b c)) (sym (at .0)) (sym (at .1)))
+    where
+      plus-none : (m : ℕ) → m + 0 ≡ m
+      plus-none m = omega arith
+
+  abbrev differ : ℕ → Table → ℕ → ℕ
+  differ i t x = num (not (sameState (was x i t) (is x i t)))
+
+  counted : (i : ℕ) (t : Table) → length (pairsOf o i t) ≡ sum (differ i t) (suc i) (length t)
+  counted i [] = sym (sum-none (differ i []) (suc i))
+  counted i (v ∷ t) =
+      length-first (same o i v) ∙ ap₂ _+_ (ap₂ (λ (a b : State). num (not (sameState a b))) (sym (at .0)) (sym (at .1)))
+      (counted (suc i) t ∙ sum-same (differ (suc i) t) (differ i (v ∷ t)) (suc (suc i)) (length t) (λ u l m.
+      let there = later-there u i v t l in ap₂ (λ (a b : State). num (not (sameState a b))) (sym (there .0)) (sym (there .1))))
+      ∙ sym (sum-first (differ i (v ∷ t)) (suc i) (length t))
+    where
+      at : (was (suc i) i (v ∷ t) ≡ v .state) × (is (suc i) i (v ∷ t) ≡ carried o i v .state)
+      at = first-there (suc i) i v t refl
+
+      length-first : (b : Bool) → length (cond b (pairsOf o (suc i) t) ((v .own, kind o i v) ∷ pairsOf o (suc i) t)) ≡ num (not b) + length (pairsOf o (suc i) t)
+      length-first true = omega arith
+      length-first false = omega arith
+
+-- ---- the whole table
+
+abbrev after : Order → Table → Table
+after o t = eachFrom (carried o) 0 t
+
+told-once : (n k slots : ℕ) (o : Order) (t : Table) → placedFrom n k slots 1 t ≡ true → Tells t (after o t) (pairsOf o 0 t)
+unfolding isChanged kindOf recordOf
+told-once n k slots o t e x c =
+    by-cases (nodeNumber (length t) x)
+    (λ b. let r = node-number (length t) x b in
+    mid n k slots o x c 0 t e (r .0) (omega (arith, r .1))
+    ∙ sym (ap (λ (a : Bool). num ((a && not (sameState (was n k slots o x 0 t) (is n k slots o x 0 t))) && eqb c (kindFrom (was n k slots o x 0 t) (is n k slots o x 0 t)))) b))
+    (λ b. by-cases (leb 1 x)
+    (λ one. high n k slots o x c 0 t e (above one b)) (λ none. low n k slots o x c 0 t e (let z = leb-false 1 x none in omega (arith, z)))
+    ∙ sym (ap (λ (a : Bool). num ((a && not (sameState (was n k slots o x 0 t) (is n k slots o x 0 t))) && eqb c (kindFrom (was n k slots o x 0 t) (is n k slots o x 0 t)))) b))
+  where
+    above : leb 1 x ≡ true → nodeNumber (length t) x ≡ false → 0 + length t < x
+    above one b = let z = leb-false x (length t) (sym (ap (λ (a : Bool). a && leb x (length t)) one) ∙ b) in omega (arith, z)
+
+told-count : (n k slots : ℕ) (o : Order) (t : Table) → length (pairsOf o 0 t) ≡ changeCount t (after o t)
+unfolding changeCount isChanged recordOf
+told-count n k slots o t =
+    counted n k slots o 0 t
+    ∙ sum-same (differ n k slots o 0 t) (λ x. num (nodeNumber (length t) x && not (sameState (was n k slots o x 0 t) (is n k slots o x 0 t)))) 1 (length t) (λ u l m.
+    sym (ap (λ (a : Bool). num (a && not (sameState (was n k slots o u 0 t) (is n k slots o u 0 t)))) (all (le-leb 1 u l) (le-leb u (length t) (omega (arith, m))))))
+
+-- an order that is carried out on a sound table, with room for its pairs
+abbrev pub Ready : Order → Table → ℕ → Type 0
+Ready (order.Refuse cause) t room = Unit {0}
+Ready (order.Start n k) t room = (tableSound t ≡ true) × (64 ≤ room)
+Ready (order.Off a) t room = (tableSound t ≡ true) × (64 ≤ room)
+Ready (order.Restart a) t room = (tableSound t ≡ true) × (64 ≤ room)
+Ready (order.Slot heard missed) t room = (tableSound t ≡ true) × (64 ≤ room)
+
+abbrev noted-of : Order → Table → Told
+noted-of o t = notedFrom o noPairs 0 t
+
+abbrev written : Told → List ℕ → List ℕ
+written p out = puts (p .bytes) (cond (leb (p .count) 32 && leb 64 (length out)) (p .count * 2) 0) out
+
+no-pairs-size : length (noPairs .bytes) ≡ 64
+unfolding noPairs
+no-pairs-size = length-replicate {A = ℕ} 64 0
+
+no-pairs-count : noPairs .count ≡ 0
+unfolding noPairs
+no-pairs-count = refl
+
+done-told : (o : Order) (t : Table) (out : List ℕ) → (tableSound t ≡ true) × (64 ≤ length out) → (noted-of o t .count ≡ changeCount t (after o t)) × Reported t (after o t) out (written (noted-of o t) out)
+done-told o t out (sound, room) =
+    let s = said 0 t sound in
+    let n = length t in
+    let k = recordOf t 1 .k in
+    let slots = slotsOf t in
+    let most = ring-size n (s .ring) .1 in
+    let all-noted = notes n k slots o noPairs 0 t (s .rows) (omega (arith, no-pairs-count)) (omega (arith, most)) no-pairs-size in
+    let ps = pairsOf o 0 t in
+    let r = noted-of o t in
+    let count-is : r .count ≡ length ps = all-noted .count ∙ ap (λ (m : ℕ). m + length ps) no-pairs-count ∙ zero-plus (length ps) in
+    let at-most : r .count ≤ 32 = let h = few o 0 t in omega (arith, h, most, count-is) in
+    let test : (leb (r .count) 32 && leb 64 (length out)) ≡ true = all (le-leb (r .count) 32 at-most) (le-leb 64 (length out) room) in
+    let end-is : cond (leb (r .count) 32 && leb 64 (length out)) (r .count * 2) 0 ≡ r .count * 2 = chosen (r .count * 2) 0 test in
+    let twice : r .count * 2 ≡ 2 * length ps = omega (arith, count-is) in (
+      count-is ∙ told-count n k slots o t,
+      record {
+        pairs = ps;
+        tells = told-once n k slots o t (s .rows);
+        bytes = ap (λ (j : ℕ). puts (r .bytes) j out) end-is ∙ all-put (r .bytes) out (r .count * 2) (omega (arith, at-most, all-noted .size)) (omega (arith, at-most, room))
+            ∙ ap₂ _++_ (all-noted .bytes ∙ ap (λ (j : ℕ). take (j * 2) (noPairs .bytes) ++ bytesOf ps) no-pairs-count) (ap (λ (j : ℕ). drop j out) twice);
+      },
+    )
+  where
+    zero-plus : (m : ℕ) → 0 + m ≡ m
+    zero-plus m = omega arith
+
+pub slot-told : (o : Order) (t : Table) (out : List ℕ) → Ready o t (length out)
+    → (changedBy (reportOf o t) ≡ changedOf t (calledBy o t)) × BytesAfter t (calledBy o t) out (writtenBy (reportOf o t) out)
+unfolding reportOf reported puts
+slot-told (order.Refuse cause) t out h = (refl, refl)
+slot-told (order.Start n k) t out h = let d = done-told (order.Start n k) t out h in (ap changed.Pairs (d .0), d .1)
+slot-told (order.Off a) t out h = let d = done-told (order.Off a) t out h in (ap changed.Pairs (d .0), d .1)
+slot-told (order.Restart a) t out h = let d = done-told (order.Restart a) t out h in (ap changed.Pairs (d .0), d .1)
+slot-told (order.Slot heard missed) t out h = let d = done-told (order.Slot heard missed) t out h in (ap changed.Pairs (d .0), d .1)
+
+-- the order of a slot is one of these
+ready-if : (b : Bool) (cause : Refusal) (o : Order) (t : Table) (room : ℕ) → (b ≡ true → Ready o t room) → Ready (ifGood b cause o) t room
+ready-if true cause o t room h = h refl
+ready-if false cause o t room h = tt
+
+slot-ready : (lost : Bool) (missed room : ℕ) (t : Table) → Ready (orderFor (asked.Slot lost missed room) t) t room
+unfolding orderFor
+slot-ready lost missed room t =
+    ready-if (fineTable (surveyOf 0 t) (length t)) Unsound _ t room (λ ok.
+    ready-if (within (surveyOf 0 t .n) missed) NodeNumber _ t room (λ h.
+    ready-if (ltb (surveyOf 0 t .slots) limit) SlotLimit _ t room (λ l.
+    ready-if (leb 64 room) OutputShort (order.Slot (saidBy lost (surveyOf 0 t .speaker)) missed) t room (λ r.
+    (sym (fine-table 0 t) ∙ ok, leb-true 64 room r)))))
+
+-- a slot, from the table that `work` leaves and its report
+pub slot-run : (lost : Bool) (missed : ℕ) (t : Table) (out : List ℕ) (c : Asked) (zs : Table) (p : Report) (r : Changed) (ws : List ℕ)
+    → c ≡ asked.Slot lost missed (length out) → (zs ≡ carriedFrom (orderFor c t) 0 t) × (p ≡ reportOf (orderFor c t) t) → (r ≡ changedBy p) × (ws ≡ writtenBy p out)
+    → (zs ≡ slotOf lost missed (length out) t .table) × ((r ≡ changedOf t (slotOf lost missed (length out) t)) × BytesAfter t (slotOf lost missed (length out) t) out ws)
+slot-run lost missed t out c zs p r ws is-c (tables, reports) (answer, bytes) =
+    let o = orderFor (asked.Slot lost missed (length out)) t in
+    let is-o : orderFor c t ≡ o = ap (λ (a : Asked). orderFor a t) is-c in
+    let is-p : p ≡ reportOf o t = reports ∙ ap (λ (w : Order). reportOf w t) is-o in
+    let d = slot-told o t out (slot-ready lost missed (length out) t) in
+    subst (λ (called : Called). (zs ≡ called .table) × ((r ≡ changedOf t called) × BytesAfter t called out ws)) (slot-called lost missed (length out) t) (
+      tables ∙ ap (λ (w : Order). carriedFrom w 0 t) is-o,
+      (answer ∙ ap changedBy is-p ∙ d .0, subst (BytesAfter t (calledBy o t) out) (sym (bytes ∙ ap (λ (m : Report). writtenBy m out) is-p)) (d .1)),
+    )

@@ -1,0 +1,208 @@
+-- What the survey of a table (bench_walks' specs/Survey) says of it in the words of bench's specs/Table and specs/Calls: whether it is sound, and of a sound table n, slots,
+-- the next sender and its record, the state of the node asked about, and the list. Each part of the survey is its own fold. Assumes nothing.
+use Prim.Native.Nat.{ℕ, suc, _+_, _-_, _<_, _≤_}
+use mathlib.Core.Path.{_≡_, refl, sym, ap, ap₂, subst, _∙_}
+use mathlib.Core.Bool.{Bool, true, false, cond, _&&_, and-assoc, and-comm, true≢false}
+use mathlib.Core.List.{[], _∷_}
+use native.Mathlib.Numerals.{add-one}
+use native.Mathlib.Omega.{arith}
+use lib.Dec.{eqb}
+use lib.ListN.{length, getD}
+use borrow.Author.Tests.{eqb-true, eqb-false, eq-eqb, ne-eqb}
+use Rattle.nodeset.proofs.Tests.{by-cases, both, chosen, otherwise}
+use Rattle.ring.specs.Ring.{ringSize, nodeNumber, sender}
+use Rattle.ring.proofs.Ranges.{ring-size, node-number}
+use Rattle.ring.proofs.Senders.{sender-range}
+use Rattle.record.specs.declared.Node.{Node}
+use Rattle.record.specs.States.{isMember}
+use Rattle.record.specs.Soundness.{sound}
+use Rattle.record.proofs.Facts.{clauses}
+use Rattle.node.specs.Calls.{noNode}
+use Rattle.bench.specs.declared.Listed.{Listed}
+use Rattle.bench.specs.declared.Listed.the-variants as listed
+use Rattle.bench_walks.specs.declared.Survey.{Survey}
+use Rattle.bench.specs.Table.{Table, recordOf, inPlace, placedFrom, tableSound, slotsOf, speaker}
+use Rattle.bench.specs.Calls.{listIn}
+use Rattle.bench_walks.specs.Survey.{foldFrom, numberOf, senderAfter, begun, listWith, seen, surveyed, unseen, surveyOf, fineTable}
+
+-- ---- the first record begins the survey, and then each is only seen
+
+no-zero : (i : ℕ) → eqb (suc i) 0 ≡ false
+no-zero i = ne-eqb (suc i) 0 (λ e. omega (arith, e))
+
+seen-later : (s : Survey) (i : ℕ) (t : Table) → foldFrom surveyed s (suc i) t ≡ foldFrom seen s (suc i) t
+unfolding foldFrom surveyed
+seen-later s i [] = refl
+seen-later s i (v ∷ t) =
+    ap (λ (c : Survey). foldFrom surveyed (seen c (suc i) v) (suc (suc i)) t) (otherwise (begun true (s .asked) v) s (no-zero i))
+    ∙ seen-later (seen s (suc i) v) (suc i) t
+
+abbrev looked : ℕ → Node → Table → Survey
+looked a v t = foldFrom seen (begun true a v) 0 (v ∷ t)
+
+survey-is : (a : ℕ) (v : Node) (t : Table) → surveyOf a (v ∷ t) ≡ looked a v t
+unfolding foldFrom surveyed surveyOf unseen
+survey-is a v t = seen-later (seen (begun true a v) 0 v) 0 t
+
+-- ---- the parts of the survey
+
+fine-is : (s : Survey) (i : ℕ) (t : Table) → foldFrom seen s i t .fine ≡ (s .fine && placedFrom (s .n) (s .k) (s .slots) (suc i) t)
+unfolding foldFrom placedFrom
+fine-is s i [] = sym (and-comm (s .fine) true)
+fine-is s i (v ∷ t) =
+    fine-is (seen s i v) (suc i) t
+    ∙ ap (λ (j : ℕ). (s .fine && inPlace (s .n) (s .k) (s .slots) j v) && placedFrom (s .n) (s .k) (s .slots) (suc (suc i)) t) (add-one i)
+    ∙ and-assoc (s .fine) (inPlace (s .n) (s .k) (s .slots) (suc i) v) (placedFrom (s .n) (s .k) (s .slots) (suc (suc i)) t)
+
+n-is : (s : Survey) (i : ℕ) (t : Table) → foldFrom seen s i t .n ≡ s .n
+unfolding foldFrom
+n-is s i [] = refl
+n-is s i (v ∷ t) = n-is (seen s i v) (suc i) t
+
+slots-is : (s : Survey) (i : ℕ) (t : Table) → foldFrom seen s i t .slots ≡ s .slots
+unfolding foldFrom
+slots-is s i [] = refl
+slots-is s i (v ∷ t) = slots-is (seen s i v) (suc i) t
+
+sender-is : (s : Survey) (i : ℕ) (t : Table) → foldFrom seen s i t .sender ≡ s .sender
+unfolding foldFrom
+sender-is s i [] = refl
+sender-is s i (v ∷ t) = sender-is (seen s i v) (suc i) t
+
+-- what the last record of node x gives
+module _ {X : Type 0} (g : Node → X) where
+  abbrev found : ℕ → X → Table → X
+  found x d [] = d
+  found x d (v ∷ t) = found x (cond (eqb (v .own) x) (g v) d) t
+
+speaker-is : (s : Survey) (i : ℕ) (t : Table) → foldFrom seen s i t .speaker ≡ found (λ v. v) (s .sender) (s .speaker) t
+unfolding foldFrom
+speaker-is s i [] = refl
+speaker-is s i (v ∷ t) = speaker-is (seen s i v) (suc i) t
+
+state-is : (s : Survey) (i : ℕ) (t : Table) → foldFrom seen s i t .state ≡ found (λ v. v .state) (s .asked) (s .state) t
+unfolding foldFrom
+state-is s i [] = refl
+state-is s i (v ∷ t) = state-is (seen s i v) (suc i) t
+
+abbrev list-after : Listed → Table → Listed
+list-after l [] = l
+list-after l (v ∷ t) = list-after (listWith l v) t
+
+list-is : (s : Survey) (i : ℕ) (t : Table) → foldFrom seen s i t .list ≡ list-after (s .list) t
+unfolding foldFrom
+list-is s i [] = refl
+list-is s i (v ∷ t) = list-is (seen s i v) (suc i) t
+
+list-stays : (set : ℕ) (t : Table) → list-after (listed.Set set) t ≡ listed.Set set
+list-stays set [] = refl
+list-stays set (v ∷ t) = list-stays set t
+
+list-found : (t : Table) → list-after listed.Nobody t ≡ listIn t
+unfolding listIn
+list-found [] = refl
+list-found (v ∷ t) =
+    by-cases (isMember (v .state))
+    (λ e. ap (λ (l : Listed). list-after l t) (chosen (listed.Set (v .set)) listed.Nobody e) ∙ list-stays (v .set) t ∙ sym (chosen (listed.Set (v .set)) (listIn t) e))
+    (λ e. ap (λ (l : Listed). list-after l t) (otherwise (listed.Set (v .set)) listed.Nobody e) ∙ list-found t ∙ sym (otherwise (listed.Set (v .set)) (listIn t) e))
+
+-- ---- records in their places
+
+pub record Placed (n k slots i : ℕ) (v : Node) (t : Table) : Type 0 where
+  pub good : sound v ≡ true
+  pub ring : v .n ≡ n
+  pub slot : v .slots ≡ slots
+  pub own : v .own ≡ i
+  pub rest : placedFrom n k slots (suc i) t ≡ true
+
+pub placed : (n k slots i : ℕ) (v : Node) (t : Table) → placedFrom n k slots i (v ∷ t) ≡ true → Placed n k slots i v t
+unfolding placedFrom
+placed n k slots i v t e =
+    let a = both (inPlace n k slots i v) (placedFrom n k slots (suc i) t) e in
+    let b = both (sound v) (eqb (v .n) n && (eqb (v .k) k && (eqb (v .slots) slots && eqb (v .own) i))) (a .0) in
+    let c = both (eqb (v .n) n) (eqb (v .k) k && (eqb (v .slots) slots && eqb (v .own) i)) (b .1) in
+    let d = both (eqb (v .k) k) (eqb (v .slots) slots && eqb (v .own) i) (c .1) in
+    let f = both (eqb (v .slots) slots) (eqb (v .own) i) (d .1) in
+    record { good = b .0; ring = eqb-true (v .n) n (c .0); slot = eqb-true (v .slots) slots (f .0); own = eqb-true (v .own) i (f .1); rest = a .1 }
+
+module _ {X : Type 0} (g : Node → X) (n k slots : ℕ) where
+  not-found : (i x : ℕ) (d : X) (t : Table) → placedFrom n k slots i t ≡ true → x < i → found g x d t ≡ d
+  not-found i x d [] e l = refl
+  not-found i x d (v ∷ t) e l =
+      let p = placed n k slots i v t e in
+      ap (λ (c : X). found g x c t) (otherwise (g v) d (ne-eqb (v .own) x (λ h. omega (arith, h, l, p .own))))
+      ∙ not-found (suc i) x d t (p .rest) (omega (arith, l))
+
+  found-at : (i x : ℕ) (d : X) (e : Node) (t : Table) → placedFrom n k slots i t ≡ true → i ≤ x → x < i + length t → found g x d t ≡ g (getD t (x - i) e)
+  found-at i x d e [] h l m = absurd (let q : ⊥ = omega (arith, l, m) in q)
+  found-at i x d e (v ∷ t) h l m =
+      let p = placed n k slots i v t h in
+      by-cases (eqb i x)
+      (λ q. let is : i ≡ x = eqb-true i x q in
+      ap (λ (c : X). found g x c t) (chosen (g v) d (eq-eqb (v .own) x (omega (arith, is, p .own))))
+      ∙ not-found (suc i) x (g v) t (p .rest) (omega (arith, is))
+      ∙ ap (λ (j : ℕ). g (getD (v ∷ t) j e)) (let z : 0 ≡ x - i = omega (arith, is) in z))
+      (λ q. let not : i ≡ x → ⊥ = eqb-false i x q in
+      ap (λ (c : X). found g x c t) (otherwise (g v) d (ne-eqb (v .own) x (λ f. not (omega (arith, f, p .own)))))
+      ∙ found-at (suc i) x d e t (p .rest) (omega (arith, l, not)) (omega (arith, m))
+      ∙ ap (λ (j : ℕ). g (getD (v ∷ t) j e)) (let z : suc (x - suc i) ≡ x - i = omega (arith, l, not) in z))
+
+-- ---- a table and its survey
+
+pub fine-table : (a : ℕ) (t : Table) → fineTable (surveyOf a t) (length t) ≡ tableSound t
+unfolding tableSound surveyOf foldFrom unseen
+fine-table a [] = refl
+fine-table a (v ∷ t) =
+    ap (λ (s : Survey). fineTable s (suc (length t))) (survey-is a v t)
+    ∙ ap₂ (λ (f : Bool) (n : ℕ). f && eqb n (suc (length t))) (fine-is (begun true a v) 0 (v ∷ t)) (n-is (begun true a v) 0 (v ∷ t))
+    ∙ and-comm (placedFrom (v .n) (v .k) (v .slots) 1 (v ∷ t)) (eqb (v .n) (suc (length t)))
+
+-- what the survey of a sound table says
+pub record Said (a : ℕ) (t : Table) : Type 0 where
+  pub ring : ringSize (length t) ≡ true
+  pub rows : placedFrom (length t) (recordOf t 1 .k) (slotsOf t) 1 t ≡ true
+  pub n : surveyOf a t .n ≡ length t
+  pub slots : surveyOf a t .slots ≡ slotsOf t
+  pub sender : surveyOf a t .sender ≡ speaker t
+  pub spoken : surveyOf a t .speaker ≡ recordOf t (speaker t)
+  pub state : nodeNumber (length t) a ≡ true → surveyOf a t .state ≡ recordOf t a .state
+  pub list : surveyOf a t .list ≡ listIn t
+
+-- the sender of a record of a ring
+sender-after : (v : Node) → ringSize (v .n) ≡ true → senderAfter v ≡ sender (v .n) (v .slots + 1)
+unfolding senderAfter
+sender-after v e = ap numberOf (chosen _ _ e)
+
+-- a node of the table is found in its place
+there : {X : Type 0} (g : Node → X) (n k slots x : ℕ) (d : X) (t : Table) → placedFrom n k slots 1 t ≡ true → 1 ≤ x → x ≤ length t → found g x d t ≡ g (recordOf t x)
+unfolding recordOf
+there g n k slots x d t h l m = found-at g n k slots 1 x d noNode t h l (omega (arith, m))
+
+first-is : (v : Node) (t : Table) → recordOf (v ∷ t) 1 ≡ v
+unfolding recordOf
+first-is v t = refl
+
+pub said : (a : ℕ) (t : Table) → tableSound t ≡ true → Said a t
+unfolding tableSound slotsOf speaker
+said a [] e = absurd (true≢false (sym e))
+said a (v ∷ t) e =
+    let c = both (eqb (v .n) (suc (length t))) (placedFrom (v .n) (v .k) (v .slots) 1 (v ∷ t)) e in
+    let n-is′ : v .n ≡ suc (length t) = eqb-true (v .n) (suc (length t)) (c .0) in
+    let p = placed (v .n) (v .k) (v .slots) 1 v t (c .1) in
+    let ring-v : ringSize (v .n) ≡ true = clauses v (p .good) .ring in
+    let range = sender-range (v .n) (omega (arith, ring-size (v .n) ring-v .0)) (v .slots + 1) in
+    let first = first-is v t in
+    let speaks : sender (v .n) (v .slots + 1) ≡ sender (suc (length t)) (recordOf (v ∷ t) 1 .slots + 1) = ap₂ (λ (m s : ℕ). sender m (s + 1)) n-is′ (sym (ap (λ (w : Node). w .slots) first)) in
+    record {
+      ring = subst (λ (m : ℕ). ringSize m ≡ true) n-is′ ring-v;
+      rows = subst (λ (w : Node). placedFrom (suc (length t)) (w .k) (w .slots) 1 (v ∷ t) ≡ true) (sym first) (subst (λ (m : ℕ). placedFrom m (v .k) (v .slots) 1 (v ∷ t) ≡ true) n-is′ (c .1));
+      n = ap (λ (s : Survey). s .n) (survey-is a v t) ∙ n-is (begun true a v) 0 (v ∷ t) ∙ n-is′;
+      slots = ap (λ (s : Survey). s .slots) (survey-is a v t) ∙ slots-is (begun true a v) 0 (v ∷ t) ∙ sym (ap (λ (w : Node). w .slots) first);
+      sender = ap (λ (s : Survey). s .sender) (survey-is a v t) ∙ sender-is (begun true a v) 0 (v ∷ t) ∙ sender-after v ring-v ∙ speaks;
+      spoken = ap (λ (s : Survey). s .speaker) (survey-is a v t) ∙ speaker-is (begun true a v) 0 (v ∷ t)
+          ∙ there (λ w. w) (v .n) (v .k) (v .slots) (senderAfter v) v (v ∷ t) (c .1) (omega (arith, range .0, sender-after v ring-v)) (omega (arith, range .1, sender-after v ring-v, n-is′))
+          ∙ ap (recordOf (v ∷ t)) (sender-after v ring-v ∙ speaks);
+      state = λ h. ap (λ (s : Survey). s .state) (survey-is a v t) ∙ state-is (begun true a v) 0 (v ∷ t)
+          ∙ there (λ w. w .state) (v .n) (v .k) (v .slots) a (v .state) (v ∷ t) (c .1) (node-number _ a h .0) (node-number _ a h .1);
+      list = ap (λ (s : Survey). s .list) (survey-is a v t) ∙ list-is (begun true a v) 0 (v ∷ t) ∙ list-found (v ∷ t);
+    }

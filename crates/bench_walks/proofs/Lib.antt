@@ -1,0 +1,3 @@
+pub mod Partly
+pub mod Shared
+pub mod Numbers

@@ -1,0 +1,113 @@
+-- Inner: what one look over a table finds, record by record. The laws in bench_calls' proofs/ tie it to bench's specs/Table and specs/Calls.
+use Prim.Native.Nat.{ℕ, zero, suc, _+_, max}
+use mathlib.Core.Bool.{Bool, true, false, cond, _&&_}
+use mathlib.Core.List.{List, [], _∷_}
+use lib.Dec.{eqb, ltb}
+use lib.ListN.{getD, set, replicate}
+use Rattle.nodeset.specs.Sets.{distance}
+use Rattle.ring.specs.Answers.{senderOf}
+use Rattle.ring.specs.declared.Speaker.{Speaker}
+use Rattle.ring.specs.declared.Speaker.the-variants as speaker
+use Rattle.record.specs.declared.Node.{Node}
+use Rattle.record.specs.States.{isMember}
+use Rattle.node.specs.Calls.{noNode}
+use Rattle.bench.specs.declared.Listed.{Listed}
+use Rattle.bench.specs.declared.Listed.the-variants as listed
+use Rattle.bench_walks.specs.declared.Survey.{Survey}
+use Rattle.bench_walks.specs.declared.Members.{Members}
+use Rattle.bench.specs.Table.{Table, inPlace}
+
+-- What is gathered record by record; the first stands at index i.
+unfoldable pub foldFrom : {S : Type 0} → (S → ℕ → Node → S) → S → ℕ → Table → S
+foldFrom f s i [] = s
+foldFrom f s i (v ∷ t) = foldFrom f (f s i v) (suc i) t
+
+-- The sender of the slot that follows those of a record, and 0 where its n is no ring's.
+abbrev pub numberOf : Speaker → ℕ
+numberOf (speaker.Node x) = x
+numberOf (speaker.Refused cause) = 0
+
+unfoldable pub senderAfter : Node → ℕ
+senderAfter v = numberOf (senderOf (v .n) (v .slots + 1))
+
+-- Before any record is seen: n, k and slots are those of v.
+abbrev pub begun : Bool → ℕ → Node → Survey
+begun fine asked v = record {
+  fine = fine;
+  n = v .n;
+  k = v .k;
+  slots = v .slots;
+  sender = senderAfter v;
+  speaker = v;
+  asked = asked;
+  state = v .state;
+  list = listed.Nobody;
+}
+
+-- The list, with one record more.
+abbrev pub listWith : Listed → Node → Listed
+listWith listed.Nobody v = cond (isMember (v .state)) (listed.Set (v .set)) listed.Nobody
+listWith (listed.Set set) v = listed.Set set
+listWith (listed.Refused cause) v = listed.Refused cause
+
+-- With the record at index i.
+abbrev pub seen : Survey → ℕ → Node → Survey
+seen s i v = record {
+  fine = s .fine && inPlace (s .n) (s .k) (s .slots) (i + 1) v;
+  n = s .n;
+  k = s .k;
+  slots = s .slots;
+  sender = s .sender;
+  speaker = cond (eqb (v .own) (s .sender)) v (s .speaker);
+  asked = s .asked;
+  state = cond (eqb (v .own) (s .asked)) (v .state) (s .state);
+  list = listWith (s .list) v;
+}
+
+-- The first record gives n, k and slots.
+unfoldable pub surveyed : Survey → ℕ → Node → Survey
+surveyed s i v = seen (cond (eqb i 0) (begun true (s .asked) v) s) i v
+
+abbrev pub surveyFrom : Survey → ℕ → Table → Survey
+surveyFrom s i t = foldFrom surveyed s i t
+
+-- Of an empty table nothing is fine.
+unfoldable pub unseen : ℕ → Survey
+unseen asked = begun false asked noNode
+
+unfoldable pub surveyOf : ℕ → Table → Survey
+surveyOf asked t = surveyFrom (unseen asked) 0 t
+
+-- A table is sound by its survey and its length.
+abbrev pub fineTable : Survey → ℕ → Bool
+fineTable s size = s .fine && eqb (s .n) size
+
+-- ---- the sets of the members, and the greatest distance of two of them
+
+-- The greatest distance of a set from the first j of a list.
+unfoldable pub farFrom : ℕ → ℕ → List ℕ → ℕ → ℕ
+farFrom n set sets zero = 0
+farFrom n set sets (suc j) = max (farFrom n set sets j) (distance n (getD sets j 0) set)
+
+abbrev pub memberSeen : Survey → Members → ℕ → Members
+memberSeen s m y = record {
+  survey = s;
+  count = m .count + 1;
+  sets = set (m .sets) (m .count) y;
+  greatest = max (m .greatest) (farFrom (s .n) y (m .sets) (m .count));
+}
+
+unfoldable pub gathered : Members → ℕ → Node → Members
+gathered m i v =
+    cond (isMember (v .state) && ltb (m .count) 32)
+    (memberSeen (surveyed (m .survey) i v) m (v .set))
+    (record { survey = surveyed (m .survey) i v; count = m .count; sets = m .sets; greatest = m .greatest })
+
+abbrev pub gatheredFrom : Members → ℕ → Table → Members
+gatheredFrom m i t = foldFrom gathered m i t
+
+unfoldable pub noMembers : Members
+noMembers = record { survey = unseen 0; count = 0; sets = replicate 32 0; greatest = 0 }
+
+unfoldable pub membersOf : Table → Members
+membersOf t = gatheredFrom noMembers 0 t
