@@ -1,6 +1,6 @@
 -- Demand 3 (document 01, "The bench"): the lists agree, and a listed node whose slot was lost or silent leaves them at its deciding slot. What is said here of
 -- the table after every sequence of calls is said of the table after each call of every sequence: premises of a sequence hold of each beginning of it
--- (agreement's proofs/Throughout).
+-- (proofs/agreement/Throughout).
 use Prim.Native.Nat.{ℕ, zero, suc, _+_, _-_, _≤_}
 use mathlib.Core.Path.{_≡_}
 use mathlib.Core.Logic.{_≢_}
@@ -68,7 +68,7 @@ onwards (suc left) n set x j =
     let more = j - num (has set p) in
     cond (eqb more 0) (Member p) (onwards left n set p more)
 
--- "The k-th member after that node, round the ring"
+-- "The k-th member after that node, round the ring". (With k + 1 members it is another node.)
 abbrev pub memberAfter : ℕ → ℕ → ℕ → ℕ → Found
 memberAfter n set x k = onwards n n set x k
 
