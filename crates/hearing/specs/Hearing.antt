@@ -15,6 +15,10 @@ abbrev pub overheard : ℕ → Reading → Window → Window
 overheard s (reading.Heard bits returnBit) w = record { done = w .done + 1; heard = with (w .heard) s; shortest = min (w .shortest) (run bits); «return_seen» = w .«return_seen» || returnBit; last = w .last }
 overheard s (reading.Refused r) w = record { done = w .done + 1; heard = w .heard; shortest = w .shortest; «return_seen» = w .«return_seen»; last = w .last }
 
+-- The listening data with another count of slots done.
+abbrev pub withDone : ℕ → Window → Window
+withDone done w = record { done = done; heard = w .heard; shortest = w .shortest; «return_seen» = w .«return_seen»; last = w .last }
+
 -- "A window is clean if every message heard has return bit 0, and the run of ones from bit 1 in each is at least the smaller of k and
 -- (number of nodes heard) - 1"; "a window with fewer than two nodes heard is unclean".
 unfoldable pub clean : ℕ → ℕ → Window → Bool

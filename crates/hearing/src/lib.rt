@@ -1,16 +1,14 @@
-// One slot for a listening node. An inner layer: it takes records as they are, with a window whose
-// count of slots done can go up by one; the calls of `node` test records first.
+// One slot for a listening node. An inner layer: it takes every record as it is; the calls of
+// `node` test records first.
 use message::Reading;
 use record::Node;
 use record::Window;
 ghost use mathlib.Core.Path.{_≡_};
-ghost use Prim.Native.Nat.{_+_, _<_};
-ghost use Rattle.hearing.specs.Hearing.{overheard, clean, windowEnd, listeningSlot};
+ghost use Rattle.hearing.specs.Hearing.{overheard, withDone, clean, windowEnd, listeningSlot};
 
-// The window with one more slot done. Requires that the count of slots done can go up by one.
-fn overheard(s: u32, heard: Reading, w: Window) -> Window
-    requires { ⌜ w .done + 1 < 4294967296 ⌝ }
-    ensures { λ r. ⌜ r ≡ overheard s heard w ⌝ }
+// The window with one more slot of it, and this count of slots done.
+fn overheard(s: u32, heard: Reading, done: u32, w: Window) -> Window
+    ensures { λ r. ⌜ r ≡ withDone done (overheard s heard w) ⌝ }
 {
     let Reading::Heard {
         acknowledgements,
@@ -18,7 +16,7 @@ fn overheard(s: u32, heard: Reading, w: Window) -> Window
     } = heard
     else {
         return Window {
-            done: w.done + 1,
+            done,
             heard: w.heard,
             shortest: w.shortest,
             return_seen: w.return_seen,
@@ -28,7 +26,7 @@ fn overheard(s: u32, heard: Reading, w: Window) -> Window
     let run = nodeset::run(acknowledgements);
     let shortest = if run < w.shortest { run } else { w.shortest };
     Window {
-        done: w.done + 1,
+        done,
         heard: nodeset::with(w.heard, s),
         shortest,
         return_seen: w.return_seen | return_bit,
@@ -55,14 +53,18 @@ fn window_end(w: Window, v: Node) -> Node
     changes::listening_after(w.heard, v)
 }
 
-// One slot of a listening node. Requires what `overheard` does of the node's window.
+// One slot of a listening node. A window that has n slots done already ends, whatever its count.
 pub fn listening_slot(s: u32, heard: Reading, v: Node) -> Node
-    requires { ⌜ v .listening .done + 1 < 4294967296 ⌝ }
     ensures { λ r. ⌜ r ≡ listeningSlot s heard v ⌝ }
 {
     let before = v.listening;
-    let w = overheard(s, heard, before);
-    if w.done < v.n {
+    if v.n <= before.done {
+        let w = overheard(s, heard, 0, before);
+        return window_end(w, v);
+    }
+    let done = before.done + 1;
+    let w = overheard(s, heard, done, before);
+    if done < v.n {
         return changes::with_window(w, v);
     }
     window_end(w, v)

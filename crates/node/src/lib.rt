@@ -11,7 +11,6 @@ use refusal::Refusal;
 use ring::Speaker;
 ghost use mathlib.Core.Path.{_≡_};
 ghost use mathlib.Core.Bool.{true};
-ghost use Prim.Native.Nat.{_+_, _<_};
 ghost use Rattle.ring.specs.Ring.{ringSize};
 ghost use Rattle.node.specs.Slot.{heardFrom, afterSlot};
 ghost use Rattle.node.specs.Calls.{itsTurn, setUpOf, stepOf, slotOf, sendOf, offOf, restartOf};
@@ -130,9 +129,7 @@ fn heard_from(s: u32, heard: Reading, v: Node) -> Reading
 }
 
 // The record after a slot of which s is the sender; its slot count is the slot's number already.
-// An inner function: requires that the window's count of slots done can go up by one.
 fn after_slot(s: u32, heard: Reading, v: Node) -> Node
-    requires { ⌜ v .listening .done + 1 < 4294967296 ⌝ }
     ensures { λ r. ⌜ r ≡ afterSlot s heard v ⌝ }
 {
     let state = v.state;

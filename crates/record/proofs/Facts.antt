@@ -1,13 +1,9 @@
 -- What soundness (specs/Soundness) says, clause by clause: a record is sound exactly where every clause holds. Assumes nothing.
-use Prim.Native.Nat.{_<_}
 use mathlib.Core.Path.{_≡_, refl, sym, ap}
 use mathlib.Core.Bool.{Bool, true, false, _||_, true≢false}
-use native.Mathlib.Omega.{arith}
 use lib.Dec.{leb}
-use borrow.Author.Tests.{ltb-true, eqb-true}
-use Rattle.nodeset.proofs.Tests.{by-cases, both, all, or-else}
+use Rattle.nodeset.proofs.Tests.{both, all, or-else}
 use Rattle.ring.specs.Ring.{ringSize, sponsorCount, nodeNumber}
-use Rattle.ring.proofs.Ranges.{ring-size}
 use Rattle.record.specs.declared.Node.{Node}
 use Rattle.record.specs.States.{isListening}
 use Rattle.record.specs.Soundness.{limit, implies, exactly, setsSound, returningSound, ownSound, knockSound, emptySound, heardSound, windowInRange, windowEmpty, windowSound, enoughSound, sound}
@@ -89,10 +85,3 @@ window-listening v e l = implied (isListening (v .state)) (windowInRange (v .n) 
 
 pub window-other : (v : Node) → windowSound v ≡ true → isListening (v .state) ≡ false → windowEmpty (v .listening) ≡ true
 window-other v e l = or-else (isListening (v .state)) (windowEmpty (v .listening)) (both (implies (isListening (v .state)) (windowInRange (v .n) (v .k) (v .own) (v .listening))) (isListening (v .state) || windowEmpty (v .listening)) e .1) l
-
-pub few-done : (v : Node) → sound v ≡ true → v .listening .done < 32
-few-done v e =
-    let c = clauses v e in
-    by-cases (isListening (v .state))
-    (λ l. omega (arith, ltb-true (v .listening .done) (v .n) (both _ _ (window-listening v (c .window) l) .0), ring-size (v .n) (c .ring)))
-    (λ l. omega (arith, eqb-true (v .listening .done) 0 (both _ _ (window-other v (c .window) l) .0)))

@@ -2,11 +2,10 @@
 use borrow.Author.Needs.{needs}
 use Prim.Native.Nat.{ℕ, _+_}
 use mathlib.Core.Path.{sym, ap, _∙_}
-use native.Mathlib.Omega.{arith}
 use borrow.Author.Tests.{le-leb, lt-leb}
 use Rattle.nodeset.proofs.Tests.{failed, passed, chosen, otherwise}
 use Rattle.ring.proofs.Speakers.{is-sender, no-refusal}
-use Rattle.record.proofs.Facts.{clauses, few-done}
+use Rattle.record.proofs.Facts.{clauses}
 use Rattle.changes.specs.Changes.{counted}
 use Rattle.node.specs.Slot.{afterSlot}
 use Rattle.node.specs.Calls.{done, stepOf}
@@ -44,7 +43,7 @@ add-counted : tie.Need-add-counted
 add-counted c = search needs
 
 after-slot-requires : tie.Need-after-slot-requires
-after-slot-requires c κs = omega (arith, few-done (c .before .before .before .before .before .before .before .before .before .args .v) (passed (c .before .before .before .before .before .before .before .before .is-sound .ensures) (c .before .before .before .before .before .before .before .if1 .left)))
+after-slot-requires c κs = search needs
 
 returns-4 : tie.Need-returns-4
 unfolding stepOf
