@@ -1,23 +1,35 @@
 // The inner functions of the bench (document 01, "The bench"). The walks over the table (look_over,
 // look_through, carry_out, work) have no branches; what they decide and do to a record stands in
 // the functions by value.
+mod orders;
+mod pairs;
+mod records;
+mod surveys;
+
 use bench::Listed;
 use message::Reading;
 use node::Answer;
+use orders::off_order;
+use orders::restart_order;
+use orders::set_up_order;
+use orders::slot_order;
+use pairs::kind_from;
+use pairs::same_state;
 use record::Cause;
 use record::Node;
 use record::State;
 use record::Window;
+use records::off_at;
+use records::place_of;
+use records::restart_at;
+use records::step_at;
 use refusal::Refusal;
-use ring::Speaker;
+use surveys::begun;
+use surveys::seen;
 ghost use mathlib.Core.Path.{_≡_};
-ghost use mathlib.Core.Bool.{cond};
-ghost use Prim.Native.Nat.{_+_, _<_, _≤_, max};
-ghost use lib.Dec.{eqb};
-ghost use Rattle.bench.specs.Table.{inPlace};
-ghost use Rattle.bench.specs.Pairs.{sameState, kindFrom};
-ghost use Rattle.bench_walks.specs.Survey.{senderAfter, begun, listWith, seen, surveyed, unseen, surveyOf, fineTable, farFrom, memberSeen, gathered, noMembers, membersOf};
-ghost use Rattle.bench_walks.specs.Orders.{askedNode, setUpOrder, offOrder, restartOrder, saidBy, slotOrder, orderOf, placeOf, offAt, restartAt, stepAt, carried, carriedFrom, pushed, noted, noPairs, notedFrom, answerTo, reported, reportOf, orderFor};
+ghost use Prim.Native.Nat.{_<_, _≤_, max};
+ghost use Rattle.bench_walks.specs.Survey.{surveyed, unseen, surveyOf, fineTable, farFrom, memberSeen, gathered, noMembers, membersOf};
+ghost use Rattle.bench_walks.specs.Orders.{askedNode, orderOf, carried, carriedFrom, pushed, noted, noPairs, notedFrom, answerTo, reported, reportOf, orderFor};
 
 // What a look over a table finds: whether each record stands in its place; n, k and slots of the
 // first; the next sender's number and record; the state of the node asked about; the list.
@@ -90,123 +102,12 @@ const NO_NODE: Node = Node {
     },
 };
 
-// The sender of the slot that follows those of the record; 0 where its n is no ring's.
-fn sender_after(v: Node) -> u32
-    ensures { λ r. ⌜ r ≡ senderAfter v ⌝ }
-{
-    let speaker = ring::sender(v.n, v.slots);
-    match speaker {
-        Speaker::Node(s) => s,
-        Speaker::Refused(_) => 0,
-    }
-}
-
-// A survey that has n, k and slots of the record, and no record yet.
-fn begun(fine: bool, asked: u32, v: Node) -> Survey
-    ensures { λ r. ⌜ r ≡ begun fine asked v ⌝ }
-{
-    let sender = sender_after(v);
-    let state = v.state;
-    Survey {
-        fine,
-        n: v.n,
-        k: v.k,
-        slots: v.slots,
-        sender,
-        speaker: v,
-        asked,
-        state,
-        list: Listed::Nobody,
-    }
-}
-
 // A survey of nothing.
 fn unseen(asked: u32) -> Survey
     ensures { λ r. ⌜ r ≡ unseen asked ⌝ }
 {
     let v = NO_NODE;
     begun(false, asked, v)
-}
-
-// Whether own is the number of the node at index i.
-fn is_place(own: u32, i: usize) -> bool
-    ensures { λ r. ⌜ r ≡ eqb own (i + 1) ⌝ }
-{
-    if own == 0 {
-        return false;
-    }
-    (own - 1) as usize == i
-}
-
-// Whether the record is sound and stands at index i of the table surveyed.
-fn stands(s: Survey, i: usize, v: Node) -> bool
-    ensures { λ r. ⌜ r ≡ inPlace (s .n) (s .k) (s .slots) (i + 1) v ⌝ }
-{
-    record::is_sound(v)
-        & ((v.n == s.n) & ((v.k == s.k) & ((v.slots == s.slots) & is_place(v.own, i))))
-}
-
-// The list, with one record more.
-fn list_with(list: Listed, v: Node) -> Listed
-    ensures { λ r. ⌜ r ≡ listWith list v ⌝ }
-{
-    let state = v.state;
-    match list {
-        Listed::Nobody => {
-            if record::is_member(state) {
-                Listed::Set(v.set)
-            } else {
-                Listed::Nobody
-            }
-        }
-        Listed::Set(set) => Listed::Set(set),
-        Listed::Refused(cause) => Listed::Refused(cause),
-    }
-}
-
-// The first record where it is node x, else the second.
-fn speaker_of(x: u32, v: Node, other: Node) -> Node
-    ensures { λ r. ⌜ r ≡ cond (eqb (v .own) x) v other ⌝ }
-{
-    if v.own == x {
-        return v;
-    }
-    other
-}
-
-// The record's state where it is node x, else the other.
-fn state_of(x: u32, v: Node, other: State) -> State
-    ensures { λ r. ⌜ r ≡ cond (eqb (v .own) x) (v .state) other ⌝ }
-{
-    let state = v.state;
-    if v.own == x {
-        return state;
-    }
-    other
-}
-
-// The survey with the record at index i.
-fn seen(s: Survey, i: usize, v: Node) -> Survey
-    ensures { λ r. ⌜ r ≡ seen s i v ⌝ }
-{
-    let stands = stands(s, i, v);
-    let other = s.speaker;
-    let speaker = speaker_of(s.sender, v, other);
-    let before = s.state;
-    let state = state_of(s.asked, v, before);
-    let listed = s.list;
-    let list = list_with(listed, v);
-    Survey {
-        fine: s.fine & stands,
-        n: s.n,
-        k: s.k,
-        slots: s.slots,
-        sender: s.sender,
-        speaker,
-        asked: s.asked,
-        state,
-        list,
-    }
 }
 
 // The same; the first record gives n, k and slots.
@@ -238,85 +139,6 @@ fn asked_node(asked: Asked) -> u32
     }
 }
 
-fn set_up_order(n: u32, k: u32, size: usize) -> Order
-    ensures { λ r. ⌜ r ≡ setUpOrder n k size ⌝ }
-{
-    if !ring::is_ring_size(n) {
-        return Order::Refuse(Refusal::RingSize);
-    }
-    if !ring::is_sponsor_count(n, k) {
-        return Order::Refuse(Refusal::SponsorCount);
-    }
-    if size != n as usize {
-        return Order::Refuse(Refusal::Unsound);
-    }
-    Order::Start(n, k)
-}
-
-fn off_order(a: u32, s: Survey, size: usize) -> Order
-    ensures { λ r. ⌜ r ≡ offOrder a s size ⌝ }
-{
-    if !is_fine(s, size) {
-        return Order::Refuse(Refusal::Unsound);
-    }
-    if !ring::is_node_number(s.n, a) {
-        return Order::Refuse(Refusal::NodeNumber);
-    }
-    Order::Off(a)
-}
-
-fn restart_order(a: u32, s: Survey, size: usize) -> Order
-    ensures { λ r. ⌜ r ≡ restartOrder a s size ⌝ }
-{
-    let state = s.state;
-    if !is_fine(s, size) {
-        return Order::Refuse(Refusal::Unsound);
-    }
-    if !ring::is_node_number(s.n, a) {
-        return Order::Refuse(Refusal::NodeNumber);
-    }
-    if !record::is_out(state) {
-        return Order::Refuse(Refusal::NotOut);
-    }
-    Order::Restart(a)
-}
-
-// What is read of the speaker's message.
-fn said_by(lost: bool, v: Node) -> Reading
-    ensures { λ r. ⌜ r ≡ saidBy lost v ⌝ }
-{
-    if lost {
-        return Reading::Refused(Refusal::MessageLength);
-    }
-    if !sending::sends(v) {
-        return Reading::Refused(Refusal::MessageLength);
-    }
-    Reading::Heard {
-        acknowledgements: sending::bits_sent(v),
-        return_bit: sending::return_sent(v),
-    }
-}
-
-fn slot_order(lost: bool, missed: u32, room: usize, s: Survey, size: usize) -> Order
-    ensures { λ r. ⌜ r ≡ slotOrder lost missed room s size ⌝ }
-{
-    let speaker = s.speaker;
-    if !is_fine(s, size) {
-        return Order::Refuse(Refusal::Unsound);
-    }
-    if !nodeset::is_within(s.n, missed) {
-        return Order::Refuse(Refusal::NodeNumber);
-    }
-    if record::LIMIT <= s.slots {
-        return Order::Refuse(Refusal::SlotLimit);
-    }
-    if room < 64 {
-        return Order::Refuse(Refusal::OutputShort);
-    }
-    let said = said_by(lost, speaker);
-    Order::Slot(said, missed)
-}
-
 // What a call has a table of so many records do.
 fn order_of(asked: Asked, s: Survey, size: usize) -> Order
     ensures { λ r. ⌜ r ≡ orderOf asked s size ⌝ }
@@ -327,47 +149,6 @@ fn order_of(asked: Asked, s: Survey, size: usize) -> Order
         Asked::Restart(a) => restart_order(a, s, size),
         Asked::Slot(lost, missed, room) => slot_order(lost, missed, room, s, size),
     }
-}
-
-// The number of the node at index i, of the first 32.
-fn place_of(i: usize) -> u32
-    ensures { λ r. ⌜ r ≡ placeOf i ⌝ }
-{
-    if 32 <= i {
-        return 0;
-    }
-    i as u32 + 1
-}
-
-fn off_at(a: u32, v: Node) -> Node
-    ensures { λ r. ⌜ r ≡ offAt a v ⌝ }
-{
-    if v.own != a {
-        return v;
-    }
-    let done = node::off(v);
-    done.node
-}
-
-fn restart_at(a: u32, v: Node) -> Node
-    ensures { λ r. ⌜ r ≡ restartAt a v ⌝ }
-{
-    if v.own != a {
-        return v;
-    }
-    let done = node::restart(v);
-    done.node
-}
-
-fn step_at(heard: Reading, missed: u32, v: Node) -> Node
-    ensures { λ r. ⌜ r ≡ stepAt heard missed v ⌝ }
-{
-    if nodeset::has(missed, v.own) {
-        let deaf = node::step(Reading::Refused(Refusal::MessageLength), v);
-        return deaf.node;
-    }
-    let done = node::step(heard, v);
-    done.node
 }
 
 // The record at index i after an order.
@@ -381,42 +162,6 @@ fn carried(order: Order, i: usize, v: Node) -> Node
         Order::Restart(a) => restart_at(a, v),
         Order::Slot(heard, missed) => step_at(heard, missed, v),
     }
-}
-
-fn same_state(a: State, b: State) -> bool
-    ensures { λ r. ⌜ r ≡ sameState a b ⌝ }
-{
-    let members = record::is_member(a) & record::is_member(b);
-    let listening = record::is_listening(a) & record::is_listening(b);
-    let following = record::is_following(a) & record::is_following(b);
-    let knocking = record::is_knocking(a) & record::is_knocking(b);
-    let out = record::is_out(a) & record::is_out(b);
-    members | (listening | (following | (knocking | out)))
-}
-
-// The kind of a change; 0 where it is none of those of a slot.
-fn kind_from(a: State, b: State) -> u8
-    ensures { λ r. ⌜ r ≡ kindFrom a b ⌝ }
-{
-    if record::is_member(a) & record::is_out(b) {
-        return 1;
-    }
-    if record::is_listening(a) & record::is_following(b) {
-        return 2;
-    }
-    if record::is_following(a) & record::is_knocking(b) {
-        return 3;
-    }
-    if record::is_knocking(a) & record::is_member(b) {
-        return 4;
-    }
-    if record::is_knocking(a) & record::is_following(b) {
-        return 5;
-    }
-    if (record::is_following(a) | record::is_knocking(a)) & record::is_listening(b) {
-        return 6;
-    }
-    0
 }
 
 // The pairs with one more. Requires room for it.

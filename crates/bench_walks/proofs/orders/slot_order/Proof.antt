@@ -1,0 +1,47 @@
+-- `bench_walks::orders::slot_order` meets its contract: its tests are those of the definition. Assumes nothing.
+use borrow.Author.Needs.{needs}
+use mathlib.Core.Path.{sym, ap, _∙_}
+use Rattle.nodeset.proofs.Tests.{failed, passed, chosen, otherwise}
+use borrow.Author.Tests.{le-leb, lt-leb, lt-ltb, le-ltb}
+use Rattle.bench_walks.specs.declared.Order.{Order}
+use Rattle.message.specs.declared.Reading.{Reading}
+use Rattle.bench_walks.specs.declared.Order.the-variants as order
+use Rattle.bench_walks.proofs.orders.slot_order.Statement.{statement}
+use Rattle.bench_walks.proofs.orders.slot_order.Tie as tie
+
+is-fine-requires : tie.Need-is-fine-requires
+is-fine-requires c κs = search needs
+
+returns : tie.Need-returns
+returns c = sym (otherwise _ _ (failed (c .before .is-fine .ensures) (c .if1 .taken)))
+
+is-within-requires : tie.Need-is-within-requires
+is-within-requires c κs = search needs
+
+returns-2 : tie.Need-returns-2
+returns-2 c = sym (chosen _ _ (passed (c .before .before .before .is-fine .ensures) (c .before .before .if1 .left)) ∙ otherwise _ _ (failed (c .before .is-within .ensures) (c .if2 .taken)))
+
+returns-3 : tie.Need-returns-3
+returns-3 c = sym (chosen _ _ (passed (c .before .before .before .before .before .is-fine .ensures) (c .before .before .before .before .if1 .left)) ∙ chosen _ _ (passed (c .before .before .before .is-within .ensures) (c .before .before .if2 .left)) ∙ otherwise _ _ (le-ltb _ _ (c .if3 .taken)))
+
+returns-4 : tie.Need-returns-4
+returns-4 c = sym (chosen _ _ (passed (c .before .before .before .before .before .before .is-fine .ensures) (c .before .before .before .before .before .if1 .left)) ∙ chosen _ _ (passed (c .before .before .before .before .is-within .ensures) (c .before .before .before .if2 .left)) ∙ chosen _ _ (lt-ltb _ _ (c .before .if3 .left)) ∙ otherwise _ _ (lt-leb _ _ (c .if4 .taken)))
+
+said-by-requires : tie.Need-said-by-requires
+said-by-requires c κs = search needs
+
+returns-5 : tie.Need-returns-5
+returns-5 c = ap {B = Order} (λ (h : Reading). order.Slot h (c .before .before .before .before .before .before .before .before .before .args .missed)) (c .said-by .ensures) ∙ sym (chosen _ _ (passed (c .before .before .before .before .before .before .before .is-fine .ensures) (c .before .before .before .before .before .before .if1 .left)) ∙ chosen _ _ (passed (c .before .before .before .before .before .is-within .ensures) (c .before .before .before .before .if2 .left)) ∙ chosen _ _ (lt-ltb _ _ (c .before .before .if3 .left)) ∙ chosen _ _ (le-leb _ _ (c .before .if4 .left)))
+
+pub slot-order-spec : {M : Type 1} → statement M
+slot-order-spec =
+    tie.close
+    (tie.spec
+    is-fine-requires
+    returns
+    is-within-requires
+    returns-2
+    returns-3
+    returns-4
+    said-by-requires
+    returns-5)

@@ -1,0 +1,19 @@
+-- `bench_walks::surveys::stands` meets its contract: its tests are those of the definition. Assumes nothing.
+use borrow.Author.Needs.{needs}
+use mathlib.Core.Path.{ap, ap₂}
+use lib.Dec.{eqb}
+use mathlib.Core.Bool.{Bool, _&&_}
+use Rattle.bench_walks.proofs.surveys.stands.Statement.{statement}
+use Rattle.bench_walks.proofs.surveys.stands.Tie as tie
+
+is-sound-requires : tie.Need-is-sound-requires
+is-sound-requires c κs = search needs
+
+is-place-requires : tie.Need-is-place-requires
+is-place-requires c κs = search needs
+
+returns : tie.Need-returns
+returns c = ap₂ _&&_ (c .before .before .before .before .before .before .before .is-sound .ensures) (ap (λ (b : Bool). eqb (c .before .before .before .before .before .before .before .before .args .v .n) (c .before .before .before .before .before .before .before .before .args .s .n) && (eqb (c .before .before .before .before .before .before .before .before .args .v .k) (c .before .before .before .before .before .before .before .before .args .s .k) && (eqb (c .before .before .before .before .before .before .before .before .args .v .slots) (c .before .before .before .before .before .before .before .before .args .s .slots) && b))) (c .is-place .ensures))
+
+pub stands-spec : {M : Type 1} → statement M
+stands-spec = tie.close (tie.spec is-sound-requires is-place-requires returns)
