@@ -93,8 +93,8 @@ impl Adversary {
             7 => Mood::Returning,
             8 => Mood::Cut,
             9 => {
-                let deaf = self.some_of(Set::full(nodes[0].n));
-                Mood::Deaf(self.some_of(deaf))
+                let deaf = self.random.some_of(Set::full(nodes[0].n));
+                Mood::Deaf(self.random.some_of(deaf))
             }
             10 => Mood::Narrow(self.pair(bench::list(nodes).unwrap_or(Set::EMPTY))),
             11 => Mood::FewMembers(self.random.within(1, 3) as u32),
@@ -104,8 +104,8 @@ impl Adversary {
 
     /// Two of the nodes; fewer if there are not so many.
     fn pair(&mut self, set: Set) -> Set {
-        let one = self.one_of(set).map_or(Set::EMPTY, |x| Set::EMPTY.with(x));
-        self.one_of(Set(set.0 & !one.0)).map_or(one, |x| one.with(x))
+        let one = self.random.one_of(set).map_or(Set::EMPTY, |x| Set::EMPTY.with(x));
+        self.random.one_of(Set(set.0 & !one.0)).map_or(one, |x| one.with(x))
     }
 
     /// A call that switches a node off or on, if this is the moment for one.
@@ -113,11 +113,11 @@ impl Adversary {
         // Where a node follows two members, one of them is a good choice.
         let follows_two = nodes.iter().find(|node| returns(node) && node.set.count() == 2);
         if follows_two.is_some() && self.random.below(6) == 0 {
-            return follows_two.and_then(|node| self.one_of(node.set)).map(Call::Off);
+            return follows_two.and_then(|node| self.random.one_of(node.set)).map(Call::Off);
         }
         let out = those(nodes, |node| matches!(node.state, State::Out(_)));
         if self.random.below(6) == 0 {
-            return self.one_of(out).map(Call::Restart);
+            return self.random.one_of(out).map(Call::Restart);
         }
         let members = those(nodes, |node| node.state == State::Member);
         let one_in = match self.mood {
@@ -134,7 +134,7 @@ impl Adversary {
             Mood::Knocks => those(nodes, returns),
             _ => self.victims(nodes),
         };
-        self.one_of(victims).map(Call::Off)
+        self.random.one_of(victims).map(Call::Off)
     }
 
     /// Those whose silence may matter most: the next sender, a node on the way back, or anybody.
@@ -156,7 +156,7 @@ impl Adversary {
             Mood::Knocks => self.knock_trouble(nodes),
             Mood::Returning => {
                 let others = those(nodes, |node| node.state != State::Member);
-                missed_by(self.some_of(others))
+                missed_by(self.random.some_of(others))
             }
             Mood::Cut => missed_by(those(nodes, returns)),
             Mood::Narrow(pair) if pair.has(bench::next_sender(nodes)) => missed_by(Set::EMPTY),
@@ -178,9 +178,9 @@ impl Adversary {
         let sponsors = sponsors(nodes, bench::next_sender(nodes));
         match self.random.below(6) {
             0 => sponsors,
-            1 => self.one_of(sponsors).map_or(sponsors, |x| sponsors.without(x)),
-            2 => self.one_of(sponsors).map_or(sponsors, |x| Set::EMPTY.with(x)),
-            3 => self.some_of(sponsors),
+            1 => self.random.one_of(sponsors).map_or(sponsors, |x| sponsors.without(x)),
+            2 => self.random.one_of(sponsors).map_or(sponsors, |x| Set::EMPTY.with(x)),
+            3 => self.random.some_of(sponsors),
             _ => Set::EMPTY,
         }
     }
@@ -194,8 +194,8 @@ impl Adversary {
         if sender.state == State::Following {
             return match self.random.below(5) {
                 0 => LOST,
-                1 => missed_by(self.one_of(all).map_or(all, |x| Set::EMPTY.with(x))),
-                2 => missed_by(self.some_of(all)),
+                1 => missed_by(self.random.one_of(all).map_or(all, |x| Set::EMPTY.with(x))),
+                2 => missed_by(self.random.some_of(all)),
                 3 => missed_by(those(nodes, |node| node.state == State::Following)),
                 _ => missed_by(Set::EMPTY),
             };
@@ -206,19 +206,8 @@ impl Adversary {
         match self.random.below(6) {
             0 => LOST,
             1 | 2 => missed_by(knocking),
-            3 => missed_by(self.some_of(all)),
+            3 => missed_by(self.random.some_of(all)),
             _ => missed_by(Set::EMPTY),
-        }
-    }
-
-    pub fn some_of(&mut self, set: Set) -> Set {
-        Set(set.0 & self.random.number() as u32)
-    }
-
-    pub fn one_of(&mut self, set: Set) -> Option<u32> {
-        match u64::from(set.count()) {
-            0 => None,
-            c => set.nodes().nth(self.random.below(c) as usize),
         }
     }
 }

@@ -84,26 +84,19 @@ impl<'a, R: Rules> Run<'a, R> {
         self.random.below(times) == 0
     }
 
-    fn one_of(&mut self, set: Set) -> Option<u32> {
-        match u64::from(set.count()) {
-            0 => None,
-            c => set.nodes().nth(self.random.below(c) as usize),
-        }
-    }
-
     fn switch(&mut self) -> Option<Call> {
         let n = u64::from(self.nodes[0].n);
         if self.one_in(4) {
             let out = those(&self.nodes, |node| matches!(node.state, State::Out(_)));
-            return self.one_of(out).map(Call::Restart);
+            return self.random.one_of(out).map(Call::Restart);
         }
         if self.one_in(self.seldom * n / 2) && self.left() > 0 && self.may_lose_one() {
             let members = those(&self.nodes, |node| node.state == State::Member);
-            return self.one_of(members).map(Call::Off);
+            return self.random.one_of(members).map(Call::Off);
         }
         if self.one_in(self.seldom * n) {
             let others = those(&self.nodes, |node| node.state != State::Member);
-            return self.one_of(others).map(Call::Off);
+            return self.random.one_of(others).map(Call::Off);
         }
         None
     }
@@ -130,7 +123,7 @@ impl<'a, R: Rules> Run<'a, R> {
         let mut missed = Set::EMPTY;
         for _ in 0..few {
             let from = if self.one_in(4) { members } else { sponsors };
-            missed = self.one_of(Set(from.0 & !missed.0)).map_or(missed, |x| missed.with(x));
+            missed = self.random.one_of(Set(from.0 & !missed.0)).map_or(missed, |x| missed.with(x));
         }
         let harmless = those(&self.nodes, |node| matches!(node.state, State::Out(_))).with(sender);
         Set(missed.0 | harmless.0 & self.random.number() as u32)

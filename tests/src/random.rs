@@ -1,5 +1,7 @@
 //! A small generator with a fixed seed (SplitMix64): every run tries the same inputs.
 
+use crate::model::ring::Set;
+
 pub struct Random(u64);
 
 impl Random {
@@ -31,5 +33,18 @@ impl Random {
 
     pub fn byte(&mut self) -> u8 {
         (self.number() >> 56) as u8
+    }
+
+    /// Some of the nodes of a set: each by the toss of a coin.
+    pub fn some_of(&mut self, set: Set) -> Set {
+        Set(set.0 & self.number() as u32)
+    }
+
+    /// One node of a set, if it has any.
+    pub fn one_of(&mut self, set: Set) -> Option<u32> {
+        match u64::from(set.count()) {
+            0 => None,
+            c => set.nodes().nth(self.below(c) as usize),
+        }
     }
 }

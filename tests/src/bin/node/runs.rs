@@ -32,17 +32,6 @@ enum Trouble {
     FewMembers(u32),
 }
 
-fn some_of(random: &mut Random, set: Set) -> Set {
-    Set(set.0 & random.number() as u32)
-}
-
-fn one_of(random: &mut Random, set: Set) -> Option<u32> {
-    match u64::from(set.count()) {
-        0 => None,
-        c => set.nodes().nth(random.below(c) as usize),
-    }
-}
-
 impl Trouble {
     fn draw(random: &mut Random, n: u32) -> Trouble {
         match random.below(13) {
@@ -54,8 +43,8 @@ impl Trouble {
             9 => Trouble::Returning,
             10 => Trouble::Cut,
             11 => {
-                let nodes = some_of(random, Set::full(n));
-                Trouble::Deaf(some_of(random, nodes))
+                let nodes = random.some_of(Set::full(n));
+                Trouble::Deaf(random.some_of(nodes))
             }
             _ => Trouble::FewMembers(random.within(1, 3) as u32),
         }
@@ -72,13 +61,13 @@ impl Trouble {
             Trouble::Storm => lost(random.below(4) != 0),
             Trouble::Sponsors if random.bit() => {
                 let sponsors = sponsors(cable, sender);
-                missed_by(if random.bit() { sponsors } else { some_of(random, sponsors) })
+                missed_by(if random.bit() { sponsors } else { random.some_of(sponsors) })
             }
             Trouble::Sponsors => Fate::default(),
             Trouble::Knocks if cable.node(sender).state != State::Member => match random.below(3) {
                 0 => lost(true),
-                1 => missed_by(some_of(random, all)),
-                _ => missed_by(some_of(random, cable.those(|node| node.state == State::Following))),
+                1 => missed_by(random.some_of(all)),
+                _ => missed_by(random.some_of(cable.those(|node| node.state == State::Following))),
             },
             Trouble::Knocks if random.below(4) != 0 => {
                 missed_by(cable.those(|node| node.state == State::Knocking))
@@ -86,7 +75,7 @@ impl Trouble {
             Trouble::Knocks => Fate::default(),
             Trouble::Returning => {
                 let returning = cable.those(|node| node.state != State::Member);
-                missed_by(some_of(random, returning))
+                missed_by(random.some_of(returning))
             }
             Trouble::Cut => {
                 missed_by(cable.those(|node| matches!(node.state, State::Following | State::Knocking)))
@@ -100,24 +89,24 @@ impl Trouble {
         if let Trouble::FewMembers(least) = self {
             let members = cable.members();
             if members.count() > least && random.bit() {
-                one_of(random, members).into_iter().for_each(|x| cable.off(count, x));
+                random.one_of(members).into_iter().for_each(|x| cable.off(count, x));
             }
         }
         if random.below(8) == 0 {
             let pairs =
                 cable.nodes.iter().filter(|node| node.state != State::Member && node.set.count() == 2);
             let pair = pairs.last().map_or(Set::EMPTY, |node| node.set);
-            one_of(random, pair).into_iter().for_each(|x| cable.off(count, x));
+            random.one_of(pair).into_iter().for_each(|x| cable.off(count, x));
         }
         if random.below(48) == 0 {
-            one_of(random, Set::full(cable.n)).into_iter().for_each(|x| cable.off(count, x));
+            random.one_of(Set::full(cable.n)).into_iter().for_each(|x| cable.off(count, x));
         }
         let out = cable.those(|node| matches!(node.state, State::Out(_)));
         if random.below(12) == 0 {
-            one_of(random, out).into_iter().for_each(|x| cable.on(count, x));
+            random.one_of(out).into_iter().for_each(|x| cable.on(count, x));
         }
         if random.below(48) == 0 {
-            one_of(random, Set::full(cable.n)).into_iter().for_each(|x| cable.on(count, x));
+            random.one_of(Set::full(cable.n)).into_iter().for_each(|x| cable.on(count, x));
         }
     }
 }
