@@ -3,17 +3,19 @@
 use Prim.Native.Nat.{ℕ, zero, suc, _+_, _-_, _≤_, _<_}
 use mathlib.Core.Path.{_≡_, refl, sym, ap, _∙_}
 use mathlib.Core.Logic.{_≢_}
-use mathlib.Core.Bool.{true, false}
+use mathlib.Core.Bool.{true, false, cond}
 use native.Mathlib.Omega.{arith}
-use native.Mathlib.Decide.{decLe}
+use native.Mathlib.Decide.{decLe, ℕ-discrete}
 use native.Mathlib.Nat.{add-zero}
-use borrow.Author.Tests.{ne-eqb}
+use lib.Dec.{eqb}
+use borrow.Author.Tests.{eq-eqb, ne-eqb}
 use Rattle.nodeset.specs.Sums.{sum, num}
 use Rattle.nodeset.specs.Sets.{has, size}
 use Rattle.nodeset.proofs.Tests.{by-cases}
 use Rattle.nodeset.proofs.Sums.{sum-none, sum-next, sum-at, sum-split, one-place}
 use Rattle.ring.specs.declared.Found.the-variants.{Member, Nobody}
 use Rattle.ring.specs.Ring.{sender, previous, walk, memberBefore}
+use Rattle.ring.specs.Answers.{memberIn, foundAs}
 use Rattle.ring.proofs.Senders.{previous-sender, sender-once, size-round}
 
 -- ---- one slot of the walk, by what stands there
@@ -37,6 +39,27 @@ unfolding walk
 walk-on left n set x j h e =
     let z : j - num (has set (previous n x)) ≡ j - 1 = omega (arith, ap num e) in
     rw (z, ne-eqb (j - 1) 0 (λ y. omega arith)) refl
+
+-- the node before a node is a node
+pub previous-pos : (n x : ℕ) → 1 ≤ n → 1 ≤ x → 1 ≤ previous n x
+unfolding previous
+previous-pos n x h i = go (ℕ-discrete x 1)
+  where
+    go : Dec (x ≡ 1) → 1 ≤ cond (eqb x 1) n (x - 1)
+    go (yes e) = rw (eq-eqb x 1 e) h
+    go (no e) = rw (ne-eqb x 1 e) (omega arith)
+
+-- the number of the member met, 0 where there is none, says what was found
+pub walk-number : (left n set x j : ℕ) → 1 ≤ n → 1 ≤ x → foundAs (memberIn (walk left n set x j)) ≡ walk left n set x j
+unfolding walk
+walk-number zero n set x j h i = refl
+walk-number (suc left) n set x j h i =
+    let p = previous n x in
+    let more = j - num (has set p) in
+    let pos = previous-pos n x h i in
+    by-cases (eqb more 0)
+    (λ e. rw e (rw (ne-eqb p 0 (λ z. omega (arith, z, pos))) refl))
+    (λ e. rw e (walk-number left n set p more h pos))
 
 -- ---- the walk over slots in a row
 

@@ -2,6 +2,7 @@
 -- that is 1 (n not 3 to 32), 2 (k not 2 to n - 1), 3 (node number not 1 to n).
 use Prim.Native.Nat.{ℕ}
 use mathlib.Core.Bool.{cond}
+use lib.Dec.{eqb}
 use Rattle.refusal.specs.declared.Refusal.the-variants.{RingSize, SponsorCount, NodeNumber}
 use Rattle.ring.specs.declared.Speaker.{Speaker}
 use Rattle.ring.specs.declared.Speaker.the-variants as Speaker
@@ -11,6 +12,15 @@ use Rattle.ring.specs.Ring.{ringSize, nodeNumber, sponsorCount, sender, 
 
 abbrev pub senderOf : ℕ → ℕ → Speaker
 senderOf n s = cond (ringSize n) (Speaker.Node (sender n s)) (Speaker.Refused RingSize)
+
+-- What was found as a number, 0 where there is no member, and back.
+abbrev pub memberIn : Found → ℕ
+memberIn (Found.Member m) = m
+memberIn Found.Nobody = 0
+memberIn (Found.Refused r) = 0
+
+abbrev pub foundAs : ℕ → Found
+foundAs m = cond (eqb m 0) Found.Nobody (Found.Member m)
 
 -- 1 and 3, where no k is given
 abbrev pub onRing : ℕ → ℕ → Found → Found

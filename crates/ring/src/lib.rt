@@ -4,7 +4,7 @@ use refusal::Refusal;
 ghost use mathlib.Core.Path.{_≡_};
 ghost use Prim.Native.Nat.{_+_, _≤_};
 ghost use Rattle.ring.specs.Ring.{ringSize, nodeNumber, sponsorCount, ks, previous, walk};
-ghost use Rattle.ring.specs.Answers.{senderOf, beforeOf, sponsoredOf, decidedOf, beforeFound};
+ghost use Rattle.ring.specs.Answers.{senderOf, memberIn, foundAs, beforeOf, sponsoredOf, decidedOf, beforeFound};
 
 // Whose slot it is.
 pub enum Speaker {
@@ -73,20 +73,30 @@ fn previous(n: u32, x: u32) -> u32
 }
 
 // The j-th member met on the walk back from node x, in at most `left` slots: one slot back, and on
-// from there. An inner function: j, x and n are 1 or more.
-fn walk(left: u32, n: u32, set: u32, x: u32, j: u32) -> Found
+// from there; 0 where there is none. An inner function: j, x and n are 1 or more.
+fn walk(left: u32, n: u32, set: u32, x: u32, j: u32) -> u32
     requires { ⌜ (1 ≤ n) × (1 ≤ x) × (1 ≤ j) ⌝ }
-    ensures { λ r. ⌜ r ≡ walk left n set x j ⌝ }
+    ensures { λ r. ⌜ r ≡ memberIn (walk left n set x j) ⌝ }
 {
     if left == 0 {
-        return Found::Nobody;
+        return 0;
     }
     let p = previous(n, x);
     let more = if nodeset::has(set, p) { j - 1 } else { j };
     if more == 0 {
-        return Found::Member(p);
+        return p;
     }
     walk(left - 1, n, set, p, more)
+}
+
+// The member of this number; nobody where it is 0.
+fn found_as(m: u32) -> Found
+    ensures { λ r. ⌜ r ≡ foundAs m ⌝ }
+{
+    if m == 0 {
+        return Found::Nobody;
+    }
+    Found::Member(m)
 }
 
 // The j-th member before node x.
@@ -102,7 +112,7 @@ pub fn before(n: u32, set: u32, x: u32, j: u32) -> Found
     if j == 0 {
         return Found::Nobody;
     }
-    walk(n - 1, n, set, x, j)
+    found_as(walk(n - 1, n, set, x, j))
 }
 
 // The nearest member before one that was found.

@@ -1,18 +1,18 @@
 -- `ring::walk` meets its contract. The slots left are the measure; `more` is what the definition takes off j.
 -- Assumes nothing.
-use Prim.Native.Nat.{ℕ, suc, _-_, _≤_, _<_}
+use Prim.Native.Nat.{ℕ, suc, _-_, _<_}
 use mathlib.Core.Path.{_≡_, refl, sym, ap, _∙_}
 use mathlib.Core.Logic.{_≢_, ⊎-elim}
-use mathlib.Core.Bool.{Bool, cond}
+use mathlib.Core.Bool.{Bool}
 use native.Mathlib.Omega.{arith}
-use native.Mathlib.Decide.{ℕ-discrete}
-use borrow.Author.Tests.{eq-eqb, ne-eqb}
+use borrow.Author.Tests.{ne-eqb}
 use borrow.Fn.Kinds.{In}
 use borrow.Fn.PlainCycle.{Measures, is, falls, and}
-use lib.Dec.{eqb}
 use Rattle.nodeset.specs.Sums.{num}
 use Rattle.nodeset.specs.Sets.{has}
 use Rattle.ring.specs.declared.Found.the-variants.{Member}
+use Rattle.ring.specs.Answers.{memberIn}
+use Rattle.ring.proofs.Walks.{previous-pos}
 use Rattle.ring.specs.Ring as ring
 use Rattle.ring.proofs.walk.Reads as walk
 use Rattle.ring.proofs.walk.Kinds as walk-kinds
@@ -34,15 +34,6 @@ walk-below t = and 0 walk-kinds.ps (falls 0 walk-kinds.ps _<_ μ-walk t) walk.Pr
 sub-none : (j : ℕ) → j ≡ j - 0
 sub-none j = omega arith
 
--- the node before a node is a node
-previous-pos : (n x : ℕ) → 1 ≤ n → 1 ≤ x → 1 ≤ ring.previous n x
-unfolding ring.previous
-previous-pos n x h i = go (ℕ-discrete x 1)
-  where
-    go : Dec (x ≡ 1) → 1 ≤ cond (eqb x 1) n (x - 1)
-    go (yes e) = rw (eq-eqb x 1 e) h
-    go (no e) = rw (ne-eqb x 1 e) (omega arith)
-
 -- what the walk of suc l slots is, once the number still to meet after this slot is known
 found-here : (l n set x j more : ℕ) → more ≡ j - num (has set (ring.previous n x)) → more ≡ 0 → ring.walk (suc l) n set x j ≡ Member (ring.previous n x)
 unfolding ring.walk
@@ -63,7 +54,7 @@ walk-returns : (t : ℕ) → walk-lts.Need-returns (
 unfolding ring.walk
 walk-returns t c =
     let a = c .before .args in
-    sym (ap (λ (l : ℕ). ring.walk l (a .n) (a .set) (a .x) (a .j)) (c .if1 .taken))
+    sym (ap (λ (l : ℕ). memberIn (ring.walk l (a .n) (a .set) (a .x) (a .j))) (c .if1 .taken))
 
 walk-previous-requires : (t : ℕ) → walk-lts.Need-previous-requires (
   previous-reads.Asked,
@@ -124,9 +115,9 @@ walk-returns-2 : (t : ℕ) → walk-lts.Need-returns-2 (
 walk-returns-2 t c =
     let a = c .before .before .before .before .before .args in
     let some : a .left ≡ suc (a .left - 1) = omega (arith, c .before .before .before .before .if1 .left) in
-    ap Member (c .before .before .before .previous .ensures)
-    ∙ sym (found-here (a .left - 1) (a .n) (a .set) (a .x) (a .j) (c .before .if2 .more) (more-is t (c .before)) (c .if3 .taken))
-    ∙ ap (λ (l : ℕ). ring.walk l (a .n) (a .set) (a .x) (a .j)) (sym some)
+    c .before .before .before .previous .ensures
+    ∙ sym (ap memberIn (found-here (a .left - 1) (a .n) (a .set) (a .x) (a .j) (c .before .if2 .more) (more-is t (c .before)) (c .if3 .taken)))
+    ∙ ap (λ (l : ℕ). memberIn (ring.walk l (a .n) (a .set) (a .x) (a .j))) (sym some)
 
 walk-sub-walk : (t : ℕ) → walk-lts.Need-sub-walk (
   previous-reads.Asked,
@@ -169,9 +160,9 @@ walk-returns-3 t c =
     let more = c .before .before .if2 .more in
     let some : a .left ≡ suc (a .left - 1) = omega (arith, c .before .before .before .before .before .if1 .left) in
     c .walk .ensures
-    ∙ ap (λ (p : ℕ). ring.walk (a .left - 1) (a .n) (a .set) p more) (c .before .before .before .before .previous .ensures)
-    ∙ sym (found-later (a .left - 1) (a .n) (a .set) (a .x) (a .j) more (more-is t (c .before .before)) (c .before .if3 .left))
-    ∙ ap (λ (l : ℕ). ring.walk l (a .n) (a .set) (a .x) (a .j)) (sym some)
+    ∙ ap (λ (p : ℕ). memberIn (ring.walk (a .left - 1) (a .n) (a .set) p more)) (c .before .before .before .before .previous .ensures)
+    ∙ sym (ap memberIn (found-later (a .left - 1) (a .n) (a .set) (a .x) (a .j) more (more-is t (c .before .before)) (c .before .if3 .left)))
+    ∙ ap (λ (l : ℕ). memberIn (ring.walk l (a .n) (a .set) (a .x) (a .j))) (sym some)
 
 pub +walk-spec : {M : Type 1} → statement M
 +walk-spec = close μ-walk λ t. walk-lts.spec (
