@@ -1,14 +1,14 @@
 -- A set bit by bit, lowest first: what adding or taking a power of two does to `has` (specs/Sets). Each fact goes by
 -- halving: node 1 is the number's last binary digit, and node x + 1 is node x of its half. Assumes nothing.
-use Prim.Native.Nat.{ℕ, zero, suc, _+_, _-_, _*_, _/_, _%_, _^_, _≤_, _<_, min}
+use Prim.Native.Nat.{ℕ, zero, suc, _+_, _-_, _*_, _/_, _%_, _^_, _≤_, _<_, min, max}
 use mathlib.Core.Path.{_≡_, refl, sym, ap, ap₂, _∙_}
 use mathlib.Core.Logic.{_≢_}
-use mathlib.Core.Bool.{Bool, true, false, not, xor, _&&_}
+use mathlib.Core.Bool.{Bool, true, false, not, xor, _&&_, _||_}
 use native.Mathlib.Omega.{arith}
 use native.Mathlib.Nat.{div-one, one-mul}
 use native.Mathlib.Numerals.{one-add, add-one}
 use lib.Dec.{eqb}
-use lib.Bits.{bitAnd, bitXor, differ, and-step, xor-step}
+use lib.Bits.{bitAnd, bitOr, bitXor, differ, and-step, or-step, xor-step}
 use lib.Pow.{shr-shr, pow-pos, pow-mono, mod-pow-add, shl-exact}
 use borrow.Author.Tests.{eqb-true, eqb-false, eq-eqb, ne-eqb}
 use Rattle.nodeset.specs.Sets.{has}
@@ -185,6 +185,27 @@ has-and a b (suc i) =
     let z : bitAnd a b / 2 ≡ bitAnd (a / 2) (b / 2) = omega (arith, and-step a b) in
     has-next (bitAnd a b) i ∙ ap (λ (q : ℕ). has q (suc i)) z ∙ has-and (a / 2) (b / 2) i
     ∙ ap₂ _&&_ (sym (has-next a i)) (sym (has-next b i))
+
+-- ---- the digits of one of two numbers or of both
+
+digit-or : (a b : ℕ) → a < 2 → b < 2 → (max a b < 2) × (eqb (max a b) 1 ≡ (eqb a 1 || eqb b 1))
+digit-or zero zero h l = (omega arith, refl)
+digit-or zero (suc zero) h l = (omega arith, refl)
+digit-or zero (suc (suc b)) h l = let z : ⊥ = omega arith in absurd z
+digit-or (suc zero) zero h l = (omega arith, refl)
+digit-or (suc zero) (suc zero) h l = (omega arith, refl)
+digit-or (suc zero) (suc (suc b)) h l = let z : ⊥ = omega arith in absurd z
+digit-or (suc (suc a)) b h l = let z : ⊥ = omega arith in absurd z
+
+pub has-or : (a b i : ℕ) → has (bitOr a b) (suc i) ≡ (has a (suc i) || has b (suc i))
+has-or a b zero =
+    let d = digit-or (a % 2) (b % 2) (omega arith) (omega arith) in
+    let z : bitOr a b % 2 ≡ max (a % 2) (b % 2) = omega (arith, or-step a b) in
+    has-first (bitOr a b) ∙ ap (λ (q : ℕ). eqb q 1) z ∙ d .1 ∙ ap₂ _||_ (sym (has-first a)) (sym (has-first b))
+has-or a b (suc i) =
+    let z : bitOr a b / 2 ≡ bitOr (a / 2) (b / 2) = omega (arith, or-step a b) in
+    has-next (bitOr a b) i ∙ ap (λ (q : ℕ). has q (suc i)) z ∙ has-or (a / 2) (b / 2) i
+    ∙ ap₂ _||_ (sym (has-next a i)) (sym (has-next b i))
 
 -- the complement within n digits
 pub has-not : (n s i : ℕ) → i < n → s < 2 ^ n → has (2 ^ n - 1 - s) (suc i) ≡ not (has s (suc i))

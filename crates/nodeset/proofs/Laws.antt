@@ -3,15 +3,16 @@
 use Prim.Native.Nat.{ℕ, zero, suc, _+_, _-_, _^_, _≤_, _<_, min}
 use mathlib.Core.Path.{_≡_, refl, sym, ap, _∙_}
 use mathlib.Core.Logic.{_≢_}
-use mathlib.Core.Bool.{Bool, true, false, cond, true≢false, and-false}
+use mathlib.Core.Bool.{Bool, true, false, cond, _||_, true≢false, and-false}
 use native.Mathlib.Omega.{arith}
 use native.Mathlib.Decide.{decLe, decLt}
-use lib.Dec.{ltb}
+use lib.Dec.{eqb, ltb}
+use lib.Bits.{or-lt}
 use lib.Pow.{pow-pos, pow-mono}
-use borrow.Author.Tests.{lt-ltb, le-ltb}
-use Rattle.nodeset.specs.Sets.{has, with, without, full}
-use Rattle.nodeset.proofs.Tests.{by-cases}
-use Rattle.nodeset.proofs.Bits.{has-more, has-more-other, has-less, has-less-other, more-lt, has-beyond, has-ones, bit-ext}
+use borrow.Author.Tests.{lt-ltb, le-ltb, eqb-true, eqb-false}
+use Rattle.nodeset.specs.Sets.{has, with, without, union, full}
+use Rattle.nodeset.proofs.Tests.{by-cases, or-right}
+use Rattle.nodeset.proofs.Bits.{has-more, has-more-other, has-less, has-less-other, more-lt, has-beyond, has-ones, has-or, bit-ext}
 
 -- ---- with and without, by whether the node is there
 
@@ -121,3 +122,41 @@ has-range n s (suc i) l e = go (decLe (suc i) n)
 -- extensionality: two sets of the nodes 1 to n that have the same nodes are equal
 pub set-ext : (n a b : ℕ) → a < 2 ^ n → b < 2 ^ n → ((x : ℕ) → 1 ≤ x → x ≤ n → has a x ≡ has b x) → a ≡ b
 set-ext n a b p q h = bit-ext n a b p q (λ i l. h (suc i) (omega arith) l)
+
+-- ---- the union
+
+-- a number above 32 names no node
+pub with-above : (s x : ℕ) → 32 < x → with s x ≡ s
+with-above s zero h = absurd (elim h [ ])
+with-above s (suc i) h = with-beyond s i (omega arith)
+
+pub with-lt-32 : (s x : ℕ) → s < 2 ^ 32 → with s x < 2 ^ 32
+with-lt-32 s x l = go (decLe x 32)
+  where
+    go : Dec (x ≤ 32) → with s x < 2 ^ 32
+    go (yes h) = with-lt 32 s x h l
+    go (no h) = omega (arith, with-above s x (omega arith))
+
+pub has-union : (a b y : ℕ) → 1 ≤ y → has (union a b) y ≡ (has a y || has b y)
+has-union a b zero h = absurd (elim h [ ])
+has-union a b (suc i) h = has-or a b i
+
+-- a node more in the second set is one more in the union
+pub union-with : (a b x : ℕ) → a < 2 ^ 32 → b < 2 ^ 32 → with (union a b) x ≡ union a (with b x)
+union-with a b x p q =
+    set-ext 32 (with (union a b) x) (union a (with b x)) (with-lt-32 (union a b) x (or-lt 32 a b p q)) (or-lt 32 a (with b x) p (with-lt-32 b x q)) same
+  where
+    there : (y : ℕ) → 1 ≤ y → y ≤ 32 → x ≡ y → has (with (union a b) x) y ≡ (has a y || has (with b x) y)
+    there y h l e =
+        let u : has (with (union a b) x) y ≡ true = ap (λ (z : ℕ). has (with (union a b) z) y) e ∙ has-with (union a b) y h l in
+        let w : has (with b x) y ≡ true = ap (λ (z : ℕ). has (with b z) y) e ∙ has-with b y h l in
+        u ∙ sym (or-right (has a y) (has (with b x) y) w)
+
+    other : (y : ℕ) → 1 ≤ y → x ≢ y → has (with (union a b) x) y ≡ (has a y || has (with b x) y)
+    other y h e =
+        has-with-other (union a b) x y e ∙ has-union a b y h ∙ ap (λ (t : Bool). has a y || t) (sym (has-with-other b x y e))
+
+    same : (y : ℕ) → 1 ≤ y → y ≤ 32 → has (with (union a b) x) y ≡ has (union a (with b x)) y
+    same y h l =
+        by-cases (eqb x y) (λ e. there y h l (eqb-true x y e)) (λ e. other y h (eqb-false x y e))
+        ∙ sym (has-union a (with b x) y h)

@@ -3,6 +3,7 @@
 use Prim.Native.Nat.{ℕ, zero, suc, _+_, _-_, _/_, _%_, _^_, min}
 use mathlib.Core.Bool.{Bool, false, cond, not, xor, _&&_}
 use lib.Dec.{eqb, ltb}
+use lib.Bits.{bitOr}
 use Rattle.nodeset.specs.Sums.{sum, num}
 
 -- Node x is in the set.
@@ -19,6 +20,10 @@ with s (suc i) = cond (ltb i 32 && not (has s (suc i))) (s + 2 ^ i) s
 unfoldable pub without : ℕ → ℕ → ℕ
 without s zero = s
 without s (suc i) = cond (has s (suc i)) (s - 2 ^ i) s
+
+-- The nodes that are in one of the sets or in both.
+abbrev pub union : ℕ → ℕ → ℕ
+union a b = bitOr a b
 
 -- The set of the nodes 1 to n, all of 1 to 32 where n is more.
 unfoldable pub full : ℕ → ℕ
