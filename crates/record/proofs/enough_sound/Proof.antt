@@ -1,7 +1,9 @@
--- `record::enough_sound` meets its contract: it makes the tests of its definition. Assumes nothing.
-use mathlib.Core.Path.{ap, ap₂}
-use mathlib.Core.Bool.{_||_}
+-- `record::enough_sound` meets its contract: members are counted where its definition asks for it. Assumes nothing.
+use mathlib.Core.Path.{sym, ap, ap₂, _∙_}
+use mathlib.Core.Bool.{Bool, _||_}
 use lib.Dec.{leb}
+use Rattle.nodeset.specs.Sets.{size}
+use Rattle.nodeset.proofs.Tests.{told}
 use Rattle.record.specs.Soundness.{implies}
 use borrow.Author.Needs.{needs}
 use Rattle.record.proofs.enough_sound.Statement.{statement}
@@ -18,8 +20,16 @@ size-requires c κs = search needs
 
 returns : tie.Need-returns
 returns c =
-    ap₂ implies (ap₂ _||_ (c .before .before .is-following .ensures) (c .before .is-knocking .ensures)) (ap (leb 2) (c .size .ensures))
+    let v = c .before .before .before .before .args .v in
+    let follows = told (ap₂ _||_ (c .before .before .before .is-following .ensures) (c .before .before .is-knocking .ensures)) (c .before .if1 .taken) in
+    ap (leb 2) (c .size .ensures) ∙ sym (ap (λ (b : Bool). implies b (leb 2 (size (v .n) (v .set)))) follows)
+
+returns-2 : tie.Need-returns-2
+returns-2 c =
+    let v = c .before .before .before .args .v in
+    let follows = told (ap₂ _||_ (c .before .before .is-following .ensures) (c .before .is-knocking .ensures)) (c .if1 .left) in
+    sym (ap (λ (b : Bool). implies b (leb 2 (size (v .n) (v .set)))) follows)
 
 pub enough-sound-spec : {M : Type 1} → statement M
 enough-sound-spec =
-    tie.close (tie.spec is-following-requires is-knocking-requires size-requires returns)
+    tie.close (tie.spec is-following-requires is-knocking-requires size-requires returns returns-2)
