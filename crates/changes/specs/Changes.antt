@@ -21,6 +21,10 @@ beginning n k own set = record { n = n; k = k; own = own; slots = 0; state = Mem
 abbrev pub starting : ℕ → ℕ → ℕ → Node
 starting n k own = beginning n k own (full n)
 
+-- Inner: one who holds a set, without marks; for what all who hold it are told (steps' specs/Lessons).
+abbrev pub holding : ℕ → ℕ → ℕ → Node
+holding n k set = record { n = n; k = k; own = 0; slots = 0; state = Member; set = set; present = 0; returning = 0; «return_heard» = false; listening = noWindow }
+
 -- Out for a cause: "its set empty".
 abbrev pub outFor : Cause → Node → Node
 outFor cause v = record { n = v .n; k = v .k; own = v .own; slots = v .slots; state = Out cause; set = 0; present = 0; returning = 0; «return_heard» = false; listening = noWindow }

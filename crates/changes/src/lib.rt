@@ -6,7 +6,7 @@ use record::State;
 use record::Window;
 use record::is_member;
 ghost use mathlib.Core.Path.{_≡_};
-ghost use Rattle.changes.specs.Changes.{starting, outFor, listeningAfter, fresh, followingWith, leave, withSet, withMarks, withReturning, withWindow};
+ghost use Rattle.changes.specs.Changes.{starting, holding, outFor, listeningAfter, fresh, followingWith, leave, withSet, withMarks, withReturning, withWindow};
 
 // Listening data of a node that does not listen.
 const NO_WINDOW: Window = Window {
@@ -31,6 +31,25 @@ pub fn starting(n: u32, k: u32, own: u32) -> Node
         state: State::Member,
         set: all,
         present: all,
+        returning: 0,
+        return_heard: false,
+        listening: w,
+    }
+}
+
+// A member that holds a set and has no marks, of whom nothing else is known.
+pub fn holding(n: u32, k: u32, set: u32) -> Node
+    ensures { λ r. ⌜ r ≡ holding n k set ⌝ }
+{
+    let w = NO_WINDOW;
+    Node {
+        n,
+        k,
+        own: 0,
+        slots: 0,
+        state: State::Member,
+        set,
+        present: 0,
         returning: 0,
         return_heard: false,
         listening: w,

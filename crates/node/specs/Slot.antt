@@ -8,7 +8,10 @@ use Rattle.message.specs.declared.Reading.the-variants.{Refused}
 use Rattle.record.specs.declared.Node.{Node}
 use Rattle.record.specs.declared.State.{State}
 use Rattle.record.specs.declared.State.the-variants.{Member, Listening, Following, Knocking, Out}
+use Rattle.record.specs.States.{isOut, isListening}
+use Rattle.steps.specs.declared.Lesson.{Lesson}
 use Rattle.steps.specs.Steps.{trackingSlot}
+use Rattle.steps.specs.Lessons.{lessonOf, trackingBy}
 use Rattle.hearing.specs.Hearing.{listeningSlot}
 
 -- "A message handed over in the own slot is ignored"; "the own slot hears nothing": there it is as if unreadable.
@@ -26,3 +29,13 @@ slotIn (Out cause) s heard v = v
 -- The record after the slot; its slot count is the slot's number already.
 unfoldable pub afterSlot : ℕ → Reading → Node → Node
 afterSlot s heard v = slotIn (v .state) s (heardFrom s heard v) v
+
+-- Inner: the same by what the slot tells those who hold one set (steps' specs/Lessons); the law is `after-taught` in proofs/Taught.
+abbrev pub lessonFor : Lesson → ℕ → Reading → Node → Lesson
+lessonFor l s heard v = cond (eqb (l .set) (v .set)) l (lessonOf s heard v)
+
+unfoldable pub afterBy : Lesson → ℕ → Reading → Node → Node
+afterBy l s heard v =
+    cond (isOut (v .state)) v
+    (cond (isListening (v .state)) (listeningSlot s (heardFrom s heard v) v)
+    (trackingBy (lessonFor l s (heardFrom s heard v) v) s (heardFrom s heard v) v))

@@ -9,10 +9,11 @@ use record::State;
 use record::Window;
 use refusal::Refusal;
 use ring::Speaker;
+use steps::Lesson;
 ghost use mathlib.Core.Path.{_≡_};
 ghost use mathlib.Core.Bool.{true};
 ghost use Rattle.ring.specs.Ring.{ringSize};
-ghost use Rattle.node.specs.Slot.{heardFrom, afterSlot};
+ghost use Rattle.node.specs.Slot.{heardFrom, lessonFor, afterBy};
 ghost use Rattle.node.specs.Calls.{itsTurn, setUpOf, stepOf, slotOf, sendOf, offOf, restartOf};
 
 // What came of a call on a record.
@@ -128,19 +129,30 @@ fn heard_from(s: u32, heard: Reading, v: Node) -> Reading
     heard
 }
 
-// The record after a slot of which s is the sender; its slot count is the slot's number already.
-fn after_slot(s: u32, heard: Reading, v: Node) -> Node
-    ensures { λ r. ⌜ r ≡ afterSlot s heard v ⌝ }
+// What the slot tells this node: the lesson, if it is that of the node's set.
+fn lesson_for(s: u32, heard: Reading, lesson: Lesson, v: Node) -> Lesson
+    ensures { λ r. ⌜ r ≡ lessonFor lesson s heard v ⌝ }
+{
+    if lesson.set == v.set {
+        return lesson;
+    }
+    steps::lesson_with(s, heard, v.n, v.k, v.set)
+}
+
+// The record after a slot of which s is the sender, by what the slot tells those who hold one set. The
+// slot count is the slot's number already. An inner function: it takes every record as it is.
+pub fn after_slot(s: u32, heard: Reading, lesson: Lesson, v: Node) -> Node
+    ensures { λ r. ⌜ r ≡ afterBy lesson s heard v ⌝ }
 {
     let state = v.state;
-    let told = heard_from(s, heard, v);
-    match state {
-        State::Member => steps::tracking_slot(s, told, v),
-        State::Listening => hearing::listening_slot(s, told, v),
-        State::Following => steps::tracking_slot(s, told, v),
-        State::Knocking => steps::tracking_slot(s, told, v),
-        State::Out(_) => v,
+    if record::is_out(state) {
+        return v;
     }
+    let told = heard_from(s, heard, v);
+    if record::is_listening(state) {
+        return hearing::listening_slot(s, told, v);
+    }
+    steps::tracking_slot(s, told, lesson_for(s, told, lesson, v), v)
 }
 
 // One slot, in which the reader found this in the bytes heard; any refused reading is nothing heard.
@@ -170,7 +182,8 @@ pub fn step(heard: Reading, v: Node) -> Stepped
     };
     let mut counted = v;
     counted.slots = v.slots + 1;
-    let w = after_slot(s, heard, counted);
+    let lesson = steps::lesson_of(s, heard, counted);
+    let w = after_slot(s, heard, lesson, counted);
     Stepped {
         node: w,
         answer: Answer::Done,

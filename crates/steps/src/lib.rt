@@ -12,7 +12,19 @@ ghost use mathlib.Core.Path.{_≡_};
 ghost use mathlib.Core.Bool.{cond};
 ghost use Rattle.nodeset.specs.Sets.{has, size};
 ghost use Rattle.ring.specs.Ring.{ks};
-ghost use Rattle.steps.specs.Steps.{isHeard, returnIn, withFound, confirmed, marksAfter, missedReturn, returnHeard, marked, noted, tooFew, nothingHeard, isFound, joins, stateOnList, joined, join, settle, judged, departs, insideSlot, outsideSlot, trackingSlot};
+ghost use Rattle.ring.specs.Answers.{memberIn};
+ghost use Rattle.changes.specs.Changes.{holding};
+ghost use Rattle.steps.specs.Steps.{isHeard, returnIn, withFound, confirmed, missedReturn, returnHeard, noted, tooFew, nothingHeard, isFound, joins, stateOnList, joined, join, settle};
+ghost use Rattle.steps.specs.Lessons.{bitsIn, lessonOf, marksBy, markedBy, takenBy, decidedBy, isStruck, setAfter, trackingBy};
+
+// What a slot tells all who hold one set: that set; the marks that the message sets, the sender's and
+// those of the members that it acknowledges; and the member that the sender decides, 0 for nobody.
+// It is worked out once for all of them.
+pub struct Lesson {
+    pub set: u32,
+    pub marks: u32,
+    pub decided: u32,
+}
 
 // The return bit heard.
 fn return_in(heard: Reading) -> bool
@@ -78,18 +90,64 @@ fn confirmed(s: u32, bits: u32, v: Node) -> u32
     marks
 }
 
-// The marks after the slot. An unreadable message counts as not heard: the sender's mark goes off.
-fn marks_after(s: u32, heard: Reading, v: Node) -> u32
-    ensures { λ r. ⌜ r ≡ marksAfter s heard v ⌝ }
+// The acknowledgements heard; none where nothing is.
+fn bits_in(heard: Reading) -> u32
+    ensures { λ r. ⌜ r ≡ bitsIn heard ⌝ }
+{
+    match heard {
+        Reading::Heard {
+            acknowledgements,
+            return_bit: _,
+        } => acknowledgements,
+        Reading::Refused(_) => 0,
+    }
+}
+
+// The member found; 0 where there is none.
+fn member_in(found: Found) -> u32
+    ensures { λ r. ⌜ r ≡ memberIn found ⌝ }
+{
+    match found {
+        Found::Member(m) => m,
+        Found::Nobody => 0,
+        Found::Refused(_) => 0,
+    }
+}
+
+// What a slot of s, in which this is heard, tells those who hold the set.
+pub fn lesson_with(s: u32, heard: Reading, n: u32, k: u32, set: u32) -> Lesson
+    ensures { λ r. ⌜ r ≡ lessonOf s heard (holding n k set) ⌝ }
+{
+    let bare = changes::holding(n, k, set);
+    let marks = confirmed(s, bits_in(heard), bare);
+    let decided = member_in(ring::decided(n, k, set, s));
+    Lesson {
+        set,
+        marks,
+        decided,
+    }
+}
+
+// What it tells those who hold the record's set.
+pub fn lesson_of(s: u32, heard: Reading, v: Node) -> Lesson
+    ensures { λ r. ⌜ r ≡ lessonOf s heard v ⌝ }
+{
+    lesson_with(s, heard, v.n, v.k, v.set)
+}
+
+// The marks after a slot of a member, whose message sets these. An unreadable message counts as not
+// heard: the sender's mark goes off.
+fn marks_after(s: u32, heard: Reading, marks: u32, v: Node) -> u32
+    ensures { λ r. ⌜ r ≡ marksBy marks s heard v ⌝ }
 {
     let Reading::Heard {
-        acknowledgements,
+        acknowledgements: _,
         return_bit: _,
     } = heard
     else {
         return nodeset::without(v.present, s);
     };
-    confirmed(s, acknowledgements, v)
+    nodeset::union(v.present, marks)
 }
 
 // Whether a return bit of 1 was heard while returning is 0.
@@ -108,10 +166,10 @@ fn return_heard(heard: Reading, v: Node) -> bool
 }
 
 // Step 1: the marks, and whether a return bit was heard while knocking.
-fn marked(s: u32, heard: Reading, v: Node) -> Node
-    ensures { λ r. ⌜ r ≡ marked s heard v ⌝ }
+fn marked(s: u32, heard: Reading, marks: u32, v: Node) -> Node
+    ensures { λ r. ⌜ r ≡ markedBy marks s heard v ⌝ }
 {
-    changes::with_marks(marks_after(s, heard, v), return_heard(heard, v), v)
+    changes::with_marks(marks_after(s, heard, marks, v), return_heard(heard, v), v)
 }
 
 // Step 2: a knock is noted, or this node knocks.
@@ -162,6 +220,9 @@ fn is_found(x: u32, found: Found) -> bool
 fn joins(s: u32, v: Node) -> bool
     ensures { λ r. ⌜ r ≡ joins s v ⌝ }
 {
+    if v.returning == 0 {
+        return false;
+    }
     is_found(s, ring::before(v.n, v.set, v.returning, 1))
 }
 
@@ -228,54 +289,55 @@ fn settle(inside: bool, s: u32, v: Node) -> Node
     v
 }
 
-// The decided member m leaves if its mark is off.
-fn judged(s: u32, m: u32, v: Node) -> Node
-    ensures { λ r. ⌜ r ≡ judged s m v ⌝ }
+// Step 1 where the sender is in the set, step 2 where it is not.
+fn taken(inside: bool, s: u32, heard: Reading, marks: u32, v: Node) -> Node
+    ensures { λ r. ⌜ r ≡ takenBy inside marks s heard v ⌝ }
+{
+    if inside {
+        return marked(s, heard, marks, v);
+    }
+    noted(s, heard, v)
+}
+
+// The member that a sender decides; 0 where it decides nobody, or is outside the set.
+fn decided_by(inside: bool, lesson: Lesson) -> u32
+    ensures { λ r. ⌜ r ≡ decidedBy inside lesson ⌝ }
+{
+    if inside {
+        return lesson.decided;
+    }
+    0
+}
+
+// Step 3: whether this node is the decided member and its mark is off.
+fn is_struck(m: u32, v: Node) -> bool
+    ensures { λ r. ⌜ r ≡ isStruck m v ⌝ }
+{
+    (v.own == m) & !nodeset::has(v.present, m)
+}
+
+// Step 3: the set without the decided member, if its mark is off.
+fn set_after(m: u32, v: Node) -> u32
+    ensures { λ r. ⌜ r ≡ setAfter m v ⌝ }
 {
     if nodeset::has(v.present, m) {
-        return settle(true, s, v);
+        return v.set;
     }
-    if m == v.own {
-        return changes::leave(Cause::Unconfirmed, v);
-    }
-    settle(true, s, changes::with_set(nodeset::without(v.set, m), v))
+    nodeset::without(v.set, m)
 }
 
-// Step 3, and those after it.
-fn departs(s: u32, found: Found, v: Node) -> Node
-    ensures { λ r. ⌜ r ≡ departs s found v ⌝ }
+// One slot of a member, following or knocking node, by what the slot tells those who hold its set.
+pub fn tracking_slot(s: u32, heard: Reading, lesson: Lesson, v: Node) -> Node
+    ensures { λ r. ⌜ r ≡ trackingBy lesson s heard v ⌝ }
 {
-    match found {
-        Found::Member(m) => judged(s, m, v),
-        Found::Nobody => settle(true, s, v),
-        Found::Refused(_) => settle(true, s, v),
-    }
-}
-
-// The sender is in the set: steps 1, 3, 4 and 5.
-fn inside_slot(s: u32, heard: Reading, v: Node) -> Node
-    ensures { λ r. ⌜ r ≡ insideSlot s heard v ⌝ }
-{
-    if missed_return(heard, v) {
+    let inside = nodeset::has(v.set, s);
+    if inside & missed_return(heard, v) {
         return changes::leave(Cause::MissedReturn, v);
     }
-    let w = marked(s, heard, v);
-    departs(s, ring::decided(w.n, w.k, w.set, s), w)
-}
-
-// The sender is outside the set: steps 2 and 4.
-fn outside_slot(s: u32, heard: Reading, v: Node) -> Node
-    ensures { λ r. ⌜ r ≡ outsideSlot s heard v ⌝ }
-{
-    settle(false, s, noted(s, heard, v))
-}
-
-// One slot of a member, following or knocking node.
-pub fn tracking_slot(s: u32, heard: Reading, v: Node) -> Node
-    ensures { λ r. ⌜ r ≡ trackingSlot s heard v ⌝ }
-{
-    if nodeset::has(v.set, s) {
-        return inside_slot(s, heard, v);
+    let w = taken(inside, s, heard, lesson.marks, v);
+    let m = decided_by(inside, lesson);
+    if is_struck(m, w) {
+        return changes::leave(Cause::Unconfirmed, w);
     }
-    outside_slot(s, heard, v)
+    settle(inside, s, changes::with_set(set_after(m, w), w))
 }

@@ -1,80 +1,66 @@
--- `node::after_slot` meets its contract, state by state. Assumes nothing.
+-- `node::after_slot` meets its contract: its tests are those of the definition, in their order. Assumes nothing.
 use borrow.Author.Needs.{needs}
 use mathlib.Core.Path.{sym, ap, _∙_}
+use Rattle.nodeset.proofs.Tests.{told, chosen, otherwise}
 use Rattle.message.specs.declared.Reading.{Reading}
-use Rattle.record.specs.declared.State.{State}
-use Rattle.steps.specs.Steps.{trackingSlot}
+use Rattle.steps.specs.declared.Lesson.{Lesson}
+use Rattle.steps.specs.Lessons.{trackingBy}
 use Rattle.hearing.specs.Hearing.{listeningSlot}
-use Rattle.node.specs.Slot.{heardFrom, slotIn, afterSlot}
+use Rattle.node.specs.Slot.{lessonFor, afterBy}
 use Rattle.node.proofs.after_slot.Statement.{statement}
 use Rattle.node.proofs.after_slot.Tie as tie
+
+is-out-requires : tie.Need-is-out-requires
+is-out-requires c κs = search needs
+
+returns : tie.Need-returns
+unfolding afterBy
+returns c = sym (chosen _ _ (told (c .before .is-out .ensures) (c .if1 .taken)))
 
 heard-from-requires : tie.Need-heard-from-requires
 heard-from-requires c κs = search needs
 
-enum-told : tie.Need-enum-told
-enum-told c = search needs
-
-tracking-slot-requires : tie.Need-tracking-slot-requires
-tracking-slot-requires c κs = search needs
-
-enum-told-2 : tie.Need-enum-told-2
-enum-told-2 c = search needs
+is-listening-requires : tie.Need-is-listening-requires
+is-listening-requires c κs = search needs
 
 listening-slot-requires : tie.Need-listening-slot-requires
 listening-slot-requires c κs = search needs
 
-enum-told-3 : tie.Need-enum-told-3
-enum-told-3 c = search needs
-
-tracking-slot-requires-2 : tie.Need-tracking-slot-requires-2
-tracking-slot-requires-2 c κs = search needs
-
-enum-told-4 : tie.Need-enum-told-4
-enum-told-4 c = search needs
-
-tracking-slot-requires-3 : tie.Need-tracking-slot-requires-3
-tracking-slot-requires-3 c κs = search needs
-
-enum-told-5 : tie.Need-enum-told-5
-enum-told-5 c = search needs
-
-returns : tie.Need-returns
-unfolding afterSlot
-returns c = c .tracking-slot .ensures ∙ ap (λ (r : Reading). trackingSlot (c .before .before .before .before .args .s) r (c .before .before .before .before .args .v)) (c .before .before .before .heard-from .ensures) ∙ sym (ap (λ (t : State). slotIn t (c .before .before .before .before .args .s) (heardFrom (c .before .before .before .before .args .s) (c .before .before .before .before .args .heard) (c .before .before .before .before .args .v)) (c .before .before .before .before .args .v)) (c .before .enum-told .given .1))
-
 returns-2 : tie.Need-returns-2
-unfolding afterSlot
-returns-2 c = c .listening-slot .ensures ∙ ap (λ (r : Reading). listeningSlot (c .before .before .before .before .args .s) r (c .before .before .before .before .args .v)) (c .before .before .before .heard-from .ensures) ∙ sym (ap (λ (t : State). slotIn t (c .before .before .before .before .args .s) (heardFrom (c .before .before .before .before .args .s) (c .before .before .before .before .args .heard) (c .before .before .before .before .args .v)) (c .before .before .before .before .args .v)) (c .before .enum-told2 .given .1))
+unfolding afterBy
+returns-2 c =
+    let h = c .before .before .before in
+    let a = h .before .before .before .args in
+    c .listening-slot .ensures
+    ∙ ap (λ (r : Reading). listeningSlot (a .s) r (a .v)) (h .heard-from .ensures)
+    ∙ sym (otherwise _ _ (told (h .before .before .is-out .ensures) (h .before .if1 .left)) ∙ chosen _ _ (told (c .before .before .is-listening .ensures) (c .before .if2 .taken)))
+
+lesson-for-requires : tie.Need-lesson-for-requires
+lesson-for-requires c κs = search needs
+
+tracking-slot-requires : tie.Need-tracking-slot-requires
+tracking-slot-requires c κs = search needs
 
 returns-3 : tie.Need-returns-3
-unfolding afterSlot
-returns-3 c = c .tracking-slot2 .ensures ∙ ap (λ (r : Reading). trackingSlot (c .before .before .before .before .args .s) r (c .before .before .before .before .args .v)) (c .before .before .before .heard-from .ensures) ∙ sym (ap (λ (t : State). slotIn t (c .before .before .before .before .args .s) (heardFrom (c .before .before .before .before .args .s) (c .before .before .before .before .args .heard) (c .before .before .before .before .args .v)) (c .before .before .before .before .args .v)) (c .before .enum-told3 .given .1))
-
-returns-4 : tie.Need-returns-4
-unfolding afterSlot
-returns-4 c = c .tracking-slot3 .ensures ∙ ap (λ (r : Reading). trackingSlot (c .before .before .before .before .args .s) r (c .before .before .before .before .args .v)) (c .before .before .before .heard-from .ensures) ∙ sym (ap (λ (t : State). slotIn t (c .before .before .before .before .args .s) (heardFrom (c .before .before .before .before .args .s) (c .before .before .before .before .args .heard) (c .before .before .before .before .args .v)) (c .before .before .before .before .args .v)) (c .before .enum-told4 .given .1))
-
-returns-5 : tie.Need-returns-5
-unfolding afterSlot
-returns-5 c = sym (ap (λ (t : State). slotIn t (c .before .before .before .args .s) (heardFrom (c .before .before .before .args .s) (c .before .before .before .args .heard) (c .before .before .before .args .v)) (c .before .before .before .args .v)) (c .enum-told5 .given .1))
+unfolding afterBy
+returns-3 c =
+    let h = c .before .before .before .before in
+    let a = h .before .before .before .args in
+    c .tracking-slot .ensures
+    ∙ ap (λ (l : Lesson). trackingBy l (a .s) (h .heard-from .result) (a .v)) (c .before .lesson-for .ensures)
+    ∙ ap (λ (r : Reading). trackingBy (lessonFor (a .lesson) (a .s) r (a .v)) (a .s) r (a .v)) (h .heard-from .ensures)
+    ∙ sym (otherwise _ _ (told (h .before .before .is-out .ensures) (h .before .if1 .left)) ∙ otherwise _ _ (told (c .before .before .before .is-listening .ensures) (c .before .before .if2 .left)))
 
 pub after-slot-spec : {M : Type 1} → statement M
 after-slot-spec =
     tie.close
     (tie.spec
-    heard-from-requires
-    enum-told
-    tracking-slot-requires
-    enum-told-2
-    listening-slot-requires
-    enum-told-3
-    tracking-slot-requires-2
-    enum-told-4
-    tracking-slot-requires-3
-    enum-told-5
+    is-out-requires
     returns
+    heard-from-requires
+    is-listening-requires
+    listening-slot-requires
     returns-2
-    returns-3
-    returns-4
-    returns-5)
+    lesson-for-requires
+    tracking-slot-requires
+    returns-3)

@@ -1,16 +1,33 @@
--- `node::step` meets its contract: its tests are in the table's order; on a ring the sender is never refused. Assumes nothing.
+-- `node::step` meets its contract: its tests are in the table's order; on a ring the sender is never refused; the slot goes by the record's own
+-- lesson. Assumes nothing.
 use borrow.Author.Needs.{needs}
 use Prim.Native.Nat.{ℕ, _+_}
-use mathlib.Core.Path.{sym, ap, _∙_}
+use mathlib.Core.Path.{_≡_, refl, sym, ap, _∙_}
+use mathlib.Core.Bool.{true}
 use borrow.Author.Tests.{le-leb, lt-leb}
 use Rattle.nodeset.proofs.Tests.{failed, passed, chosen, otherwise}
 use Rattle.ring.proofs.Speakers.{is-sender, no-refusal}
+use Rattle.message.specs.declared.Reading.{Reading}
+use Rattle.record.specs.declared.Node.{Node}
+use Rattle.record.specs.Soundness.{sound}
 use Rattle.record.proofs.Facts.{clauses}
 use Rattle.changes.specs.Changes.{counted}
-use Rattle.node.specs.Slot.{afterSlot}
+use Rattle.steps.specs.declared.Lesson.{Lesson}
+use Rattle.steps.specs.Lessons.{lessonOf}
+use Rattle.node.specs.Slot.{afterSlot, afterBy}
 use Rattle.node.specs.Calls.{done, stepOf}
+use Rattle.node.proofs.Taught.{sound-own, sound-marks, after-taught}
 use Rattle.node.proofs.step.Statement.{statement}
 use Rattle.node.proofs.step.Tie as tie
+
+-- the record after the slot of x by the record's own lesson, where x is the sender y
+by-own-lesson : (x y : ℕ) (heard : Reading) (v r : Node) (l : Lesson) → sound v ≡ true → r ≡ afterBy l x heard (counted v) → l ≡ lessonOf x heard (counted v) → x ≡ y
+    → r ≡ afterSlot y heard (counted v)
+by-own-lesson x y heard v r l good e f g =
+    e
+    ∙ ap (λ (t : Lesson). afterBy t x heard (counted v)) f
+    ∙ after-taught x heard heard (counted v) (counted v) (λ _. refl) refl refl (sound-own v good) (sound-marks v good)
+    ∙ ap (λ (t : ℕ). afterSlot t heard (counted v)) g
 
 is-sound-requires : tie.Need-is-sound-requires
 is-sound-requires c κs = search needs
@@ -42,17 +59,22 @@ returns-3 c =
 add-counted : tie.Need-add-counted
 add-counted c = search needs
 
+lesson-of-requires : tie.Need-lesson-of-requires
+lesson-of-requires c κs = search needs
+
 after-slot-requires : tie.Need-after-slot-requires
 after-slot-requires c κs = search needs
 
 returns-4 : tie.Need-returns-4
 unfolding stepOf
 returns-4 c =
-    let v = c .before .before .before .before .before .before .before .before .before .before .args .v in
-    let good = passed (c .before .before .before .before .before .before .before .before .before .is-sound .ensures) (c .before .before .before .before .before .before .before .before .if1 .left) in
-    let s = is-sender (v .n) (v .slots + 1) _ (c .before .before .before .before .before .sender .result) (clauses v good .ring) (c .before .before .before .before .before .sender .ensures) (c .before .before .before .speaker .given .1) in
-    ap done (c .after-slot .ensures ∙ ap (λ (x : ℕ). afterSlot x (c .before .before .before .before .before .before .before .before .before .before .args .heard) (counted v)) s)
-    ∙ sym (chosen _ _ good ∙ otherwise _ _ (lt-leb _ _ (c .before .before .before .before .before .before .if2 .left)))
+    let q = c .before .before .before .before .before .before in
+    let a = q .before .before .before .before .before .args in
+    let v = a .v in
+    let good = passed (q .before .before .before .before .is-sound .ensures) (q .before .before .before .if1 .left) in
+    let s = is-sender (v .n) (v .slots + 1) _ (q .sender .result) (clauses v good .ring) (q .sender .ensures) (c .before .before .before .before .speaker .given .1) in
+    ap done (by-own-lesson _ _ (a .heard) v _ _ good (c .after-slot .ensures) (c .before .lesson-of .ensures) s)
+    ∙ sym (chosen _ _ good ∙ otherwise _ _ (lt-leb _ _ (q .before .if2 .left)))
 
 pub step-spec : {M : Type 1} → statement M
 step-spec =
@@ -66,5 +88,6 @@ step-spec =
     enum-told
     returns-3
     add-counted
+    lesson-of-requires
     after-slot-requires
     returns-4)
