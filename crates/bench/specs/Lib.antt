@@ -1,6 +1,7 @@
 pub mod Table
 pub mod Calls
 pub mod Pairs
+pub mod Outcomes
 pub mod Runs
 pub mod Demand
 pub mod Computed

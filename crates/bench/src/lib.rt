@@ -34,3 +34,17 @@ pub enum Next {
     Slot(u32, Fate),
     Refused(Refusal),
 }
+
+// The list as it is shown: its set, if there is a member.
+pub enum Shown {
+    Set(u32),
+    Nobody,
+}
+
+// What there is to print of a call: nothing, a slot (its number, sender, fate, and the list and the
+// distance after it), or why it is refused.
+pub enum Outcome {
+    Quiet,
+    Slot(u64, u32, Fate, Shown, u32),
+    Refused(Refusal),
+}

@@ -2,28 +2,27 @@
 -- each member's set is compared with those of the members before it, which gives every two once. Assumes nothing.
 use Prim.Native.Nat.{ℕ, zero, suc, _+_, _<_, _≤_, max}
 use mathlib.Core.Path.{_≡_, refl, sym, ap, ap₂, subst, _∙_}
-use mathlib.Core.Bool.{Bool, true, false, cond, _&&_, true≢false}
+use mathlib.Core.Bool.{Bool, true, false, cond, _&&_}
 use mathlib.Core.List.{List, [], _∷_}
 use native.Mathlib.Omega.{arith}
 use native.Mathlib.Numerals.{add-one}
-use lib.Dec.{eqb, ltb}
-use lib.ListN.{length, getD, set, replicate, length-set, length-replicate}
-use borrow.Author.Tests.{eqb-true, ne-eqb, lt-ltb}
-use Rattle.refusal.specs.declared.Refusal.the-variants.{Unsound}
+use lib.Dec.{ltb}
+use lib.ListN.{length, getD, set, take, replicate, length-set, length-replicate}
+use lib.Seq.{take-length}
+use borrow.Author.Tests.{lt-ltb}
 use Rattle.nodeset.specs.Sets.{distance}
-use Rattle.nodeset.proofs.Tests.{by-cases, both, otherwise}
+use Rattle.nodeset.proofs.Tests.{by-cases}
 use Rattle.ring.proofs.Ranges.{ring-size}
 use Rattle.record.specs.declared.Node.{Node}
 use Rattle.record.specs.States.{isMember}
 use Rattle.bench.specs.declared.Apart.the-variants as apart
 use Rattle.bench.specs.declared.Next.the-variants as next
-use Rattle.bench_walks.specs.declared.Survey.{Survey}
 use Rattle.bench_walks.specs.declared.Members.{Members}
-use Rattle.bench.specs.Table.{Table, recordOf, tableSound, speaker}
+use Rattle.bench.specs.Table.{Table, recordOf, placedFrom, tableSound, slotsOf, speaker}
 use Rattle.bench.specs.Calls.{listedOf, distanceOf, nextOf, fateOf, transmits, farthest, greatest}
-use Rattle.bench_walks.specs.Survey.{foldFrom, begun, surveyed, unseen, surveyOf, fineTable, farFrom, memberSeen, gathered, noMembers, membersOf}
+use Rattle.bench_walks.specs.Survey.{foldFrom, surveyOf, farFrom, memberSeen, gathered, noMembers, membersOf}
 use Rattle.bench_walks.specs.Orders.{listedBy, apartBy, fateBy, nextBy}
-use Rattle.bench_calls.proofs.Surveys.{fine-table, said}
+use Rattle.bench_calls.proofs.Surveys.{placed, fine-table, said}
 
 decides : {X : Type 0} {b b′ : Bool} (x x′ y : X) → b ≡ b′ → (b′ ≡ true → x ≡ x′) → cond b x y ≡ cond b′ x′ y
 decides {X} {b} {b′} x x′ y e h = ap (λ (d : Bool). cond d x y) e ∙ go b′ h
@@ -35,7 +34,7 @@ decides {X} {b} {b′} x x′ y e h = ap (λ (d : Bool). cond d x y) e ∙ go b�
 pub list-read : (t : Table) → listedBy (surveyOf 0 t) (length t) ≡ listedOf t
 list-read t = decides _ _ _ (fine-table 0 t) (λ ok. said 0 t ok .list)
 
-fate-read : (lost : Bool) (t : Table) → fateBy lost (recordOf t (speaker t)) ≡ fateOf lost t
+pub fate-read : (lost : Bool) (t : Table) → fateBy lost (recordOf t (speaker t)) ≡ fateOf lost t
 unfolding fateOf transmits
 fate-read lost t = refl
 
@@ -100,22 +99,6 @@ cross-none n sets (v ∷ t) = ap₂ max (go (isMember (v .state))) (cross-none n
 
 -- ---- what one record adds
 
-survey-next : (m : Members) (i : ℕ) (v : Node) → gathered m i v .survey ≡ surveyed (m .survey) i v
-unfolding gathered
-survey-next m i v = go (isMember (v .state) && ltb (m .count) 32)
-  where
-    s : Survey
-    s = surveyed (m .survey) i v
-
-    go : (b : Bool) → cond b (memberSeen s m (v .set)) (record { survey = s; count = m .count; sets = m .sets; greatest = m .greatest }) .survey ≡ s
-    go true = refl
-    go false = refl
-
-pub survey-kept : (m : Members) (i : ℕ) (t : Table) → foldFrom gathered m i t .survey ≡ foldFrom surveyed (m .survey) i t
-unfolding foldFrom
-survey-kept m i [] = refl
-survey-kept m i (v ∷ t) = survey-kept (gathered m i v) (suc i) t ∙ ap (λ (s : Survey). foldFrom surveyed s (suc i) t) (survey-next m i v)
-
 -- what is gathered from the rest, where c sets are there already
 abbrev Gathers : ℕ → Members → ℕ → Table → Type 0
 Gathers n m i t = foldFrom gathered m i t .greatest ≡ max (m .greatest) (max (crossOf n (m .sets) (m .count) t) (greatest n t))
@@ -130,30 +113,24 @@ pushed-max g f c t w =
 passed-max : (g c w : ℕ) → max g (max c w) ≡ max g (max (max 0 c) (max 0 w))
 passed-max g c w = omega arith
 
-one-record : (n : ℕ) (m : Members) (i : ℕ) (v : Node) (t : Table) → surveyed (m .survey) i v .n ≡ n → m .count < 32 → length (m .sets) ≡ 32
-    → ((m′ : Members) → m′ .survey .n ≡ n → m′ .count ≤ m .count + 1 → length (m′ .sets) ≡ 32 → Gathers n m′ (suc i) t) → Gathers n m i (v ∷ t)
+one-record : (n : ℕ) (m : Members) (i : ℕ) (v : Node) (t : Table) → v .n ≡ n → m .count < 32 → length (m .sets) ≡ 32
+    → ((m′ : Members) → m′ .count ≤ m .count + 1 → length (m′ .sets) ≡ 32 → Gathers n m′ (suc i) t) → Gathers n m i (v ∷ t)
 unfolding foldFrom greatest gathered
 one-record n m i v t e l h ih = by-cases (isMember (v .state)) member other
   where
-    s : Survey
-    s = surveyed (m .survey) i v
-
-    rest : Members
-    rest = record { survey = s; count = m .count; sets = m .sets; greatest = m .greatest }
-
     Goal : Bool → Type 0
-    Goal b = foldFrom gathered (cond (b && ltb (m .count) 32) (memberSeen s m (v .set)) rest) (suc i) t .greatest
+    Goal b = foldFrom gathered (cond (b && ltb (m .count) 32) (memberSeen (v .n) m (v .set)) m) (suc i) t .greatest
         ≡ max (m .greatest) (max (max (cond b (farFrom n (v .set) (m .sets) (m .count)) 0) (crossOf n (m .sets) (m .count) t)) (max (cond b (farthest n (v .set) t) 0) (greatest n t)))
 
     in-list : Goal true
     in-list =
-        ap (λ (b : Bool). foldFrom gathered (cond b (memberSeen s m (v .set)) rest) (suc i) t .greatest) (lt-ltb (m .count) 32 l)
-        ∙ ih (memberSeen s m (v .set)) e (omega arith) (length-set (m .sets) (m .count) (v .set) ∙ h)
+        ap (λ (b : Bool). foldFrom gathered (cond b (memberSeen (v .n) m (v .set)) m) (suc i) t .greatest) (lt-ltb (m .count) 32 l)
+        ∙ ih (memberSeen (v .n) m (v .set)) (omega arith) (length-set (m .sets) (m .count) (v .set) ∙ h)
         ∙ ap₂ (λ (k x : ℕ). max (max (m .greatest) (farFrom k (v .set) (m .sets) (m .count))) (max x (greatest n t))) e (cross-push n (m .count) (v .set) (m .sets) t (omega (arith, l, h)))
         ∙ pushed-max (m .greatest) (farFrom n (v .set) (m .sets) (m .count)) (crossOf n (m .sets) (m .count) t) (farthest n (v .set) t) (greatest n t)
 
     not-in : Goal false
-    not-in = ih rest e (omega arith) h ∙ passed-max (m .greatest) (crossOf n (m .sets) (m .count) t) (greatest n t)
+    not-in = ih m (omega arith) h ∙ passed-max (m .greatest) (crossOf n (m .sets) (m .count) t) (greatest n t)
 
     member : isMember (v .state) ≡ true → Gathers n m i (v ∷ t)
     member b = subst Goal (sym b) in-list
@@ -163,44 +140,25 @@ one-record n m i v t e l h ih = by-cases (isMember (v .state)) member other
 
 -- ---- the whole table
 
-n-kept : (s : Survey) (i : ℕ) (v : Node) → surveyed s (suc i) v .n ≡ s .n
-unfolding surveyed
-n-kept s i v = ap (λ (c : Survey). c .n) (otherwise (begun true (s .asked) v) s (ne-eqb (suc i) 0 (λ e. omega (arith, e))))
-
-n-begun : (s : Survey) (v : Node) → surveyed s 0 v .n ≡ v .n
-unfolding surveyed
-n-begun s v = refl
-
-gathers : (n : ℕ) (m : Members) (i : ℕ) (t : Table) → m .survey .n ≡ n → m .count ≤ suc i → length (m .sets) ≡ 32 → suc i + length t ≤ 32 → Gathers n m (suc i) t
+gathers : (n k slots : ℕ) (m : Members) (i : ℕ) (t : Table) → placedFrom n k slots (suc i) t ≡ true → m .count ≤ i → length (m .sets) ≡ 32 → i + length t ≤ 32 → Gathers n m i t
 unfolding foldFrom greatest
-gathers n m i [] e l h r = omega arith
-gathers n m i (v ∷ t) e l h r =
-    one-record n m (suc i) v t (n-kept (m .survey) i v ∙ e) (omega (arith, l, r)) h
-    (λ m′ e′ l′ h′. gathers n m′ (suc i) t e′ (omega (arith, l, l′)) h′ (omega (arith, r)))
+gathers n k slots m i [] e l h r = omega arith
+gathers n k slots m i (v ∷ t) e l h r =
+    let p = placed n k slots (suc i) v t e in
+    one-record n m i v t (p .ring) (omega (arith, l, r)) h
+    (λ m′ l′ h′. gathers n k slots m′ (suc i) t (p .rest) (omega (arith, l, l′)) h′ (omega (arith, r)))
 
-distance-is : (v : Node) (t : Table) → length (v ∷ t) ≤ 32 → membersOf (v ∷ t) .greatest ≡ greatest (v .n) (v ∷ t)
+placed-distance : (n k slots : ℕ) (t : Table) → placedFrom n k slots 1 t ≡ true → length t ≤ 32 → membersOf t .greatest ≡ greatest n t
 unfolding membersOf noMembers
-distance-is v t r =
-    one-record (v .n) noMembers 0 v t (n-begun (unseen 0) v) (omega arith) (length-replicate {A = ℕ} 32 0)
-    (λ m′ e′ l′ h′. gathers (v .n) m′ 0 t e′ (omega (arith, l′)) h′ (omega (arith, r)))
-    ∙ ap (λ (x : ℕ). max 0 (max x (greatest (v .n) (v ∷ t)))) (cross-none (v .n) (replicate 32 0) (v ∷ t)) ∙ least (greatest (v .n) (v ∷ t))
+placed-distance n k slots t e r =
+    gathers n k slots noMembers 0 t e (omega arith) (length-replicate {A = ℕ} 32 0) (omega (arith, r))
+    ∙ ap (λ (x : ℕ). max 0 (max x (greatest n t))) (cross-none n (replicate 32 0) t) ∙ least (greatest n t)
   where
     least : (x : ℕ) → max 0 (max 0 x) ≡ x
     least x = omega arith
 
-members-survey : (t : Table) → membersOf t .survey ≡ surveyOf 0 t
-unfolding membersOf noMembers surveyOf
-members-survey t = survey-kept noMembers 0 t
+pub of-sound : (t : Table) → tableSound t ≡ true → membersOf t .greatest ≡ greatest (length t) t
+of-sound t e = let s = said 0 t e in placed-distance (length t) (recordOf t 1 .k) (slotsOf t) t (s .rows) (ring-size (length t) (s .ring) .1)
 
-of-sound : (t : Table) → tableSound t ≡ true → membersOf t .greatest ≡ greatest (length t) t
-unfolding tableSound
-of-sound [] e = absurd (true≢false (sym e))
-of-sound (v ∷ t) e =
-    let n-is : v .n ≡ suc (length t) = eqb-true (v .n) (suc (length t)) (both (eqb (v .n) (suc (length t))) _ e .0) in
-    let r = ring-size (suc (length t)) (said 0 (v ∷ t) e .ring) .1 in
-    distance-is v t r ∙ ap (λ (n : ℕ). greatest n (v ∷ t)) n-is
-
-pub distance-read : (t : Table) → apartBy (membersOf t) (length t) ≡ distanceOf t
-distance-read t =
-    ap (λ (s : Survey). cond (fineTable s (length t)) (apart.Nodes (membersOf t .greatest)) (apart.Refused Unsound)) (members-survey t)
-    ∙ decides _ _ _ (fine-table 0 t) (λ ok. ap apart.Nodes (of-sound t ok))
+pub distance-read : (t : Table) → apartBy (surveyOf 0 t) (membersOf (take (length t) t)) (length t) ≡ distanceOf t
+distance-read t = decides _ _ _ (fine-table 0 t) (λ ok. ap apart.Nodes (ap (λ (u : Table). membersOf u .greatest) (take-length t) ∙ of-sound t ok))

@@ -28,12 +28,13 @@ use Rattle.bench.specs.declared.Changed.{Changed}
 use Rattle.bench_walks.specs.declared.Order.{Order}
 use Rattle.bench_walks.specs.declared.Order.the-variants as order
 use Rattle.bench_walks.specs.declared.Told.{Told}
+use Rattle.bench_walks.specs.declared.Notes.{Notes}
 use Rattle.bench.specs.declared.Changed.the-variants as changed
 use Rattle.bench.specs.Table.{Table, recordOf, eachFrom, placedFrom, tableSound, slotsOf}
 use Rattle.bench.specs.Calls.{Called, slotOf}
 use Rattle.bench.specs.Pairs.{sameState, kindFrom, isChanged, kindOf, changeCount, Pair, bytesOf, times, Tells, Reported, changedOf, BytesAfter}
 use Rattle.bench_walks.specs.Survey.{foldFrom, surveyOf, fineTable}
-use Rattle.bench_walks.specs.Orders.{ifGood, saidBy, orderFor, carried, carriedFrom, pushed, noted, noPairs, notedFrom, reported, reportOf, changedBy, puts, writtenBy}
+use Rattle.bench_walks.specs.Orders.{ifGood, turnOf, orderFor, carried, carriedFrom, pushed, noted, noPairs, noticed, noNotes, noticedFrom, reported, reportOf, changedBy, puts, writtenBy}
 use Rattle.bench_calls.proofs.Surveys.{placed, fine-table, said}
 use Rattle.bench_calls.proofs.Works.{calledBy, slot-called}
 
@@ -76,8 +77,17 @@ few o i (v ∷ t) = go (few o (suc i) t) (same o i v)
     go h true = omega (arith, h)
     go h false = omega (arith, h)
 
+-- the notes' part of the pairs
+abbrev notedFrom : Order → Told → ℕ → Table → Told
+notedFrom o p i t = foldFrom (λ p i v. noted p v (carried o i v)) p i t
+
+told-part : (o : Order) (m : Notes) (i : ℕ) (t : Table) → noticedFrom o m i t .told ≡ notedFrom o (m .told) i t
+unfolding foldFrom noticed
+told-part o m i [] = refl
+told-part o m i (v ∷ t) = told-part o (noticed m v (carried o i v)) (suc i) t
+
 -- what is noted of the records from index i on
-pub record Notes (p r : Told) (ps : List Pair) : Type 0 where
+pub record Noted (p r : Told) (ps : List Pair) : Type 0 where
   pub count : r .count ≡ p .count + length ps
   pub size : length (r .bytes) ≡ 64
   pub bytes : take (r .count * 2) (r .bytes) ≡ take (p .count * 2) (p .bytes) ++ bytesOf ps
@@ -94,7 +104,7 @@ push-size : (p : Told) (x k : ℕ) → length (p .bytes) ≡ 64 → length (push
 push-size p x k h = length-set (set (p .bytes) (p .count * 2) x) (p .count * 2 + 1) k ∙ length-set (p .bytes) (p .count * 2) x ∙ h
 
 notes : (n k slots : ℕ) (o : Order) (p : Told) (i : ℕ) (t : Table) → placedFrom n k slots (suc i) t ≡ true → p .count ≤ i → i + length t ≤ 32 → length (p .bytes) ≡ 64
-    → Notes p (notedFrom o p i t) (pairsOf o i t)
+    → Noted p (notedFrom o p i t) (pairsOf o i t)
 unfolding foldFrom noted bytesOf
 notes n k slots o p i [] e l m h = record { count = omega arith; size = h; bytes = sym (append-nil (take (p .count * 2) (p .bytes))) }
 notes n k slots o p i (v ∷ t) e l m h =
@@ -106,18 +116,18 @@ notes n k slots o p i (v ∷ t) e l m h =
     q = pushed p (v .own) (kind o i v)
 
     Goal : Bool → Type 0
-    Goal b = Notes p (notedFrom o (cond b p (cond (ltb (p .count) 32 && leb (v .own) 32) q p)) (suc i) t) (cond b (pairsOf o (suc i) t) ((v .own, kind o i v) ∷ pairsOf o (suc i) t))
+    Goal b = Noted p (notedFrom o (cond b p (cond (ltb (p .count) 32 && leb (v .own) 32) q p)) (suc i) t) (cond b (pairsOf o (suc i) t) ((v .own, kind o i v) ∷ pairsOf o (suc i) t))
 
     own-is : v .own ≡ suc i
     own-is = placed n k slots (suc i) v t e .own
 
     After : Type 0
-    After = (p′ : Told) → p′ .count ≤ suc i → length (p′ .bytes) ≡ 64 → Notes p′ (notedFrom o p′ (suc i) t) (pairsOf o (suc i) t)
+    After = (p′ : Told) → p′ .count ≤ suc i → length (p′ .bytes) ≡ 64 → Noted p′ (notedFrom o p′ (suc i) t) (pairsOf o (suc i) t)
 
     test : (ltb (p .count) 32 && leb (v .own) 32) ≡ true
     test = all (lt-ltb (p .count) 32 (omega (arith, l, m))) (le-leb (v .own) 32 (omega (arith, own-is, m)))
 
-    with-it : Notes q (notedFrom o q (suc i) t) (pairsOf o (suc i) t) → Notes p (notedFrom o q (suc i) t) ((v .own, kind o i v) ∷ pairsOf o (suc i) t)
+    with-it : Noted q (notedFrom o q (suc i) t) (pairsOf o (suc i) t) → Noted p (notedFrom o q (suc i) t) ((v .own, kind o i v) ∷ pairsOf o (suc i) t)
     with-it later = record {
       count = let c = later .count in omega (arith, c);
       size = later .size;
@@ -126,7 +136,7 @@ notes n k slots o p i (v ∷ t) e l m h =
     }
 
     changes : After → Goal false
-    changes ih = subst (λ (b : Bool). Notes p (notedFrom o (cond b q p) (suc i) t) ((v .own, kind o i v) ∷ pairsOf o (suc i) t)) (sym test) (with-it (ih q (omega (arith, l)) (push-size p (v .own) (kind o i v) h)))
+    changes ih = subst (λ (b : Bool). Noted p (notedFrom o (cond b q p) (suc i) t) ((v .own, kind o i v) ∷ pairsOf o (suc i) t)) (sym test) (with-it (ih q (omega (arith, l)) (push-size p (v .own) (kind o i v) h)))
 
 -- ---- how often a pair stands there
 
@@ -266,10 +276,14 @@ Ready (order.Refuse cause) t room = Unit {0}
 Ready (order.Start n k) t room = (tableSound t ≡ true) × (64 ≤ room)
 Ready (order.Off a) t room = (tableSound t ≡ true) × (64 ≤ room)
 Ready (order.Restart a) t room = (tableSound t ≡ true) × (64 ≤ room)
-Ready (order.Slot heard missed) t room = (tableSound t ≡ true) × (64 ≤ room)
+Ready (order.Slot turn) t room = (tableSound t ≡ true) × (64 ≤ room)
 
 abbrev noted-of : Order → Table → Told
-noted-of o t = notedFrom o noPairs 0 t
+noted-of o t = noticedFrom o noNotes 0 t .told
+
+noted-is : (o : Order) (t : Table) → noted-of o t ≡ notedFrom o noPairs 0 t
+unfolding noNotes
+noted-is o t = told-part o noNotes 0 t
 
 abbrev written : Told → List ℕ → List ℕ
 written p out = puts (p .bytes) (cond (leb (p .count) 32 && leb 64 (length out)) (p .count * 2) 0) out
@@ -289,7 +303,7 @@ done-told o t out (sound, room) =
     let k = recordOf t 1 .k in
     let slots = slotsOf t in
     let most = ring-size n (s .ring) .1 in
-    let all-noted = notes n k slots o noPairs 0 t (s .rows) (omega (arith, no-pairs-count)) (omega (arith, most)) no-pairs-size in
+    let all-noted : Noted noPairs (noted-of o t) (pairsOf o 0 t) = rw (noted-is o t) (notes n k slots o noPairs 0 t (s .rows) (omega (arith, no-pairs-count)) (omega (arith, most)) no-pairs-size) in
     let ps = pairsOf o 0 t in
     let r = noted-of o t in
     let count-is : r .count ≡ length ps = all-noted .count ∙ ap (λ (m : ℕ). m + length ps) no-pairs-count ∙ zero-plus (length ps) in
@@ -316,7 +330,7 @@ slot-told (order.Refuse cause) t out h = (refl, refl)
 slot-told (order.Start n k) t out h = let d = done-told (order.Start n k) t out h in (ap changed.Pairs (d .0), d .1)
 slot-told (order.Off a) t out h = let d = done-told (order.Off a) t out h in (ap changed.Pairs (d .0), d .1)
 slot-told (order.Restart a) t out h = let d = done-told (order.Restart a) t out h in (ap changed.Pairs (d .0), d .1)
-slot-told (order.Slot heard missed) t out h = let d = done-told (order.Slot heard missed) t out h in (ap changed.Pairs (d .0), d .1)
+slot-told (order.Slot turn) t out h = let d = done-told (order.Slot turn) t out h in (ap changed.Pairs (d .0), d .1)
 
 -- the order of a slot is one of these
 ready-if : (b : Bool) (cause : Refusal) (o : Order) (t : Table) (room : ℕ) → (b ≡ true → Ready o t room) → Ready (ifGood b cause o) t room
@@ -329,7 +343,7 @@ slot-ready lost missed room t =
     ready-if (fineTable (surveyOf 0 t) (length t)) Unsound _ t room (λ ok.
     ready-if (within (surveyOf 0 t .n) missed) NodeNumber _ t room (λ h.
     ready-if (ltb (surveyOf 0 t .slots) limit) SlotLimit _ t room (λ l.
-    ready-if (leb 64 room) OutputShort (order.Slot (saidBy lost (surveyOf 0 t .speaker)) missed) t room (λ r.
+    ready-if (leb 64 room) OutputShort (order.Slot (turnOf lost missed (surveyOf 0 t))) t room (λ r.
     (sym (fine-table 0 t) ∙ ok, leb-true 64 room r)))))
 
 -- a slot, from the table that `work` leaves and its report

@@ -85,7 +85,7 @@ unfolding foldFrom
 state-is s i [] = refl
 state-is s i (v ∷ t) = state-is (seen s i v) (suc i) t
 
-abbrev list-after : Listed → Table → Listed
+abbrev pub list-after : Listed → Table → Listed
 list-after l [] = l
 list-after l (v ∷ t) = list-after (listWith l v) t
 
@@ -98,7 +98,7 @@ list-stays : (set : ℕ) (t : Table) → list-after (listed.Set set) t ≡ liste
 list-stays set [] = refl
 list-stays set (v ∷ t) = list-stays set t
 
-list-found : (t : Table) → list-after listed.Nobody t ≡ listIn t
+pub list-found : (t : Table) → list-after listed.Nobody t ≡ listIn t
 unfolding listIn
 list-found [] = refl
 list-found (v ∷ t) =
@@ -111,6 +111,7 @@ list-found (v ∷ t) =
 pub record Placed (n k slots i : ℕ) (v : Node) (t : Table) : Type 0 where
   pub good : sound v ≡ true
   pub ring : v .n ≡ n
+  pub sponsors : v .k ≡ k
   pub slot : v .slots ≡ slots
   pub own : v .own ≡ i
   pub rest : placedFrom n k slots (suc i) t ≡ true
@@ -123,7 +124,7 @@ placed n k slots i v t e =
     let c = both (eqb (v .n) n) (eqb (v .k) k && (eqb (v .slots) slots && eqb (v .own) i)) (b .1) in
     let d = both (eqb (v .k) k) (eqb (v .slots) slots && eqb (v .own) i) (c .1) in
     let f = both (eqb (v .slots) slots) (eqb (v .own) i) (d .1) in
-    record { good = b .0; ring = eqb-true (v .n) n (c .0); slot = eqb-true (v .slots) slots (f .0); own = eqb-true (v .own) i (f .1); rest = a .1 }
+    record { good = b .0; ring = eqb-true (v .n) n (c .0); sponsors = eqb-true (v .k) k (d .0); slot = eqb-true (v .slots) slots (f .0); own = eqb-true (v .own) i (f .1); rest = a .1 }
 
 module _ {X : Type 0} (g : Node → X) (n k slots : ℕ) where
   not-found : (i x : ℕ) (d : X) (t : Table) → placedFrom n k slots i t ≡ true → x < i → found g x d t ≡ d

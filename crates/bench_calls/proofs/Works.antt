@@ -1,34 +1,50 @@
 -- An order carried out (bench_walks' specs/Orders) is the call that asked for it (bench's specs/Calls): off, restart, set-up and slot. The survey decides as the table does
--- (`Surveys.antt`), and in a sound table a record's own number is its place. Assumes nothing.
-use Prim.Native.Nat.{ℕ, suc, _+_, _<_, _≤_}
-use mathlib.Core.Path.{_≡_, refl, ap, ap₂, _∙_}
-use mathlib.Core.Bool.{Bool, true, false, cond, _||_}
+-- (`Surveys.antt`), and in a sound table a record's own number is its place. In a slot each record goes by the lesson of the speaker's record,
+-- which is what it would find by itself (node's proofs/Taught). Assumes nothing.
+use Prim.Native.Nat.{ℕ, suc, _+_, _-_, _^_, _<_, _≤_}
+use mathlib.Core.Path.{_≡_, refl, sym, ap, ap₂, _∙_}
+use mathlib.Core.Bool.{Bool, true, false, cond, _&&_, _||_, true≢false}
 use mathlib.Core.List.{List, [], _∷_}
 use native.Mathlib.Omega.{arith}
 use native.Mathlib.Numerals.{add-one}
+use native.Mathlib.Nat.{lt-of-lt-of-le}
 use lib.Dec.{eqb, leb, ltb}
-use lib.ListN.{length}
-use borrow.Author.Tests.{eqb-true, lt-ltb}
+use lib.ListN.{length, getD}
+use lib.Pow.{pow-mono}
+use borrow.Author.Tests.{eqb-true, ltb-true, lt-ltb}
 use Rattle.refusal.specs.declared.Refusal.{Refusal}
 use Rattle.refusal.specs.declared.Refusal.the-variants.{RingSize, SponsorCount, Unsound, OutputShort}
-use Rattle.nodeset.specs.Sets.{has, within}
-use Rattle.nodeset.proofs.Tests.{chosen}
-use Rattle.ring.specs.Ring.{ringSize, sponsorCount, nodeNumber}
-use Rattle.ring.proofs.Ranges.{ring-size}
+use Rattle.nodeset.specs.Sets.{has, within, subset}
+use Rattle.nodeset.proofs.Tests.{by-cases, both, chosen}
+use Rattle.ring.specs.Ring.{ringSize, sponsorCount, nodeNumber, sender}
+use Rattle.ring.proofs.Ranges.{ring-size, node-number}
+use Rattle.ring.proofs.Senders.{sender-range}
 use Rattle.message.specs.declared.Reading.{Reading}
 use Rattle.record.specs.declared.Node.{Node}
+use Rattle.record.specs.declared.Cause.the-variants.{SwitchedOff}
 use Rattle.record.specs.States.{isOut}
-use Rattle.record.specs.Soundness.{limit}
-use Rattle.changes.specs.Changes.{starting}
+use Rattle.record.specs.Soundness.{sound, limit}
+use Rattle.record.proofs.Facts.{clauses}
+use Rattle.changes.specs.Changes.{starting, outFor, fresh}
+use Rattle.steps.specs.Steps.{isHeard}
+use Rattle.node.specs.declared.Stepped.{Stepped}
+use Rattle.node.specs.Slot.{afterSlot}
 use Rattle.node.specs.Calls as node
+use Rattle.node.specs.Calls.{noNode}
+use Rattle.node.proofs.Taught.{after-taught}
 use Rattle.bench_walks.specs.declared.Asked.the-variants as asked
 use Rattle.bench_walks.specs.declared.Order.{Order}
 use Rattle.bench_walks.specs.declared.Order.the-variants as order
-use Rattle.bench.specs.Table.{Table, eachFrom, placedFrom, slotsOf, recordOf, speaker}
-use Rattle.bench.specs.Calls.{Called, done, ifPassed, setUpOf, startTable, offOf, afterOff, restartOf, afterRestart, slotOf, afterSlot, heardBy, spoken, transmits, unheard}
+use Rattle.bench_walks.specs.declared.Turn.{Turn}
+use Rattle.bench_walks.specs.declared.Survey.{Survey}
+use Rattle.bench.specs.Table.{Table, eachFrom, placedFrom, tableSound, slotsOf, recordOf, speaker}
+use Rattle.bench.specs.Calls as bench
+use Rattle.bench.specs.Calls.{Called, done, ifPassed, setUpOf, startTable, offOf, afterOff, restartOf, afterRestart, slotOf, heardBy, spoken, transmits, unheard}
+use Rattle.bench.proofs.agreement.Places.{sound-placed}
+use Rattle.bench.proofs.agreement.Counted.{step-done}
 use Rattle.bench_walks.specs.Survey.{surveyOf}
-use Rattle.bench_walks.specs.Orders.{ifGood, saidBy, orderFor, carried, answerTo, reported, reportOf}
-use Rattle.bench_calls.proofs.Surveys.{placed, fine-table, Said, said}
+use Rattle.bench_walks.specs.Orders.{ifGood, saidBy, turnOf, orderFor, heardAt, numbered, stepAt, carried, answerTo, reported, reportOf}
+use Rattle.bench_calls.proofs.Surveys.{Placed, placed, fine-table, Said, said}
 
 -- ---- each record
 
@@ -37,14 +53,23 @@ unfolding eachFrom carried
 refused-table cause i [] = refl
 refused-table cause i (v ∷ t) = ap {B = List Node} (λ r. v ∷ r) (refused-table cause (suc i) t)
 
--- where what is done to a record goes by its own number, its place is that
-by-own : (n k slots : ℕ) (f g : ℕ → Node → Node) → ((j : ℕ) (v : Node) → v .own ≡ suc j → f j v ≡ g (suc j) v)
-    → (i : ℕ) (t : Table) → placedFrom n k slots (suc i) t ≡ true → eachFrom f i t ≡ eachFrom g (suc i) t
+-- two ways to make a table anew are one where they agree on each record in its place
+by-own : (n k slots : ℕ) (w : ℕ → Node) (f g : ℕ → Node → Node) → ((j : ℕ) (v : Node) (u : Table) → Placed n k slots (suc j) v u → v ≡ w j → f j v ≡ g (suc j) v)
+    → (i : ℕ) (t : Table) → placedFrom n k slots (suc i) t ≡ true → ((j : ℕ) → j < length t → getD t j noNode ≡ w (i + j)) → eachFrom f i t ≡ eachFrom g (suc i) t
 unfolding eachFrom
-by-own n k slots f g h i [] e = refl
-by-own n k slots f g h i (v ∷ t) e =
+by-own n k slots w f g h i [] e is = refl
+by-own n k slots w f g h i (v ∷ t) e is =
     let p = placed n k slots (suc i) v t e in
-    ap₂ {C = List Node} (λ w r. w ∷ r) (h i v (p .own)) (by-own n k slots f g h (suc i) t (p .rest))
+    let first : i + 0 ≡ i = omega arith in
+    ap₂ {C = List Node} (λ x r. x ∷ r) (h i v t p (is 0 (omega arith) ∙ ap w first))
+    (by-own n k slots w f g h (suc i) t (p .rest) (λ j l. let z : i + suc j ≡ suc i + j = omega arith in is (suc j) (omega (arith, l)) ∙ ap w z))
+
+by-record : (k slots : ℕ) (f g : ℕ → Node → Node) (t : Table) → placedFrom (length t) k slots 1 t ≡ true
+    → ((j : ℕ) (v : Node) (u : Table) → Placed (length t) k slots (suc j) v u → v ≡ recordOf t (suc j) → f j v ≡ g (suc j) v) → eachFrom f 0 t ≡ eachFrom g 1 t
+unfolding recordOf
+by-record k slots f g t rows h =
+    by-own (length t) k slots (λ j. getD t (suc j - 1) noNode) f g h 0 t rows
+    (λ j l. let z : j ≡ suc (0 + j) - 1 = omega arith in ap (λ (x : ℕ). getD t x noNode) z)
 
 -- where it goes by the place, of 32 at most
 by-place : (f g : ℕ → Node → Node) → ((j : ℕ) (v : Node) → j < 32 → f j v ≡ g (suc j) v) → (i : ℕ) (t : Table) → i + length t ≤ 32 → eachFrom f i t ≡ eachFrom g (suc i) t
@@ -68,6 +93,10 @@ passes {b} {b′} cause o t c e h = ap (λ (d : Bool). calledBy (ifGood d cause 
     go true k = k refl
     go false k = refuses cause t
 
+off-node : (v : Node) → sound v ≡ true → outFor SwitchedOff v ≡ node.offOf v .node
+unfolding node.offOf
+off-node v e = rw e
+
 pub off-called : (a : ℕ) (t : Table) → calledBy (orderFor (asked.Off a) t) t ≡ offOf a t
 unfolding orderFor offOf carried
 off-called a t =
@@ -77,8 +106,12 @@ off-called a t =
   where
     tables : placedFrom (length t) (recordOf t 1 .k) (slotsOf t) 1 t ≡ true → eachFrom (carried (order.Off a)) 0 t ≡ afterOff a t
     tables rows =
-        by-own (length t) (recordOf t 1 .k) (slotsOf t) (carried (order.Off a)) (λ i v. cond (eqb i a) (node.offOf v .node) v)
-        (λ j v own. ap (λ (i : ℕ). cond (eqb i a) (node.offOf v .node) v) own) 0 t rows
+        by-record (recordOf t 1 .k) (slotsOf t) (carried (order.Off a)) (λ i v. cond (eqb i a) (node.offOf v .node) v) t rows
+        (λ j v u p is. ap₂ (λ (i : ℕ) (w : Node). cond (eqb i a) w v) (p .own) (off-node v (p .good)))
+
+restart-node : (v : Node) → sound v ≡ true → isOut (v .state) ≡ true → fresh v ≡ node.restartOf v .node
+unfolding node.restartOf
+restart-node v e out = rw (e, out)
 
 pub restart-called : (a : ℕ) (t : Table) → calledBy (orderFor (asked.Restart a) t) t ≡ restartOf a t
 unfolding orderFor restartOf carried
@@ -86,12 +119,19 @@ restart-called a t =
     passes _ _ t _ (fine-table a t) (λ ok.
     let s = said a t ok in
     passes _ _ t _ (ap (λ (m : ℕ). nodeNumber m a) (s .n)) (λ h.
-    passes _ _ t _ (ap isOut (s .state h)) (λ out. ap done (tables (s .rows)))))
+    passes _ _ t _ (ap isOut (s .state h)) (λ out. ap done (tables (s .rows) out))))
   where
-    tables : placedFrom (length t) (recordOf t 1 .k) (slotsOf t) 1 t ≡ true → eachFrom (carried (order.Restart a)) 0 t ≡ afterRestart a t
-    tables rows =
-        by-own (length t) (recordOf t 1 .k) (slotsOf t) (carried (order.Restart a)) (λ i v. cond (eqb i a) (node.restartOf v .node) v)
-        (λ j v own. ap (λ (i : ℕ). cond (eqb i a) (node.restartOf v .node) v) own) 0 t rows
+    one : (j : ℕ) (v : Node) → sound v ≡ true → isOut (recordOf t a .state) ≡ true → v ≡ recordOf t (suc j) → cond (eqb (suc j) a) (fresh v) v ≡ cond (eqb (suc j) a) (node.restartOf v .node) v
+    one j v good out is =
+        by-cases (eqb (suc j) a)
+        (λ e. let z : suc j ≡ a = eqb-true (suc j) a e in
+        ap (λ (w : Node). cond (eqb (suc j) a) w v) (restart-node v good (ap (λ (w : Node). isOut (w .state)) (is ∙ ap (recordOf t) z) ∙ out)))
+        (λ e. rw e)
+
+    tables : placedFrom (length t) (recordOf t 1 .k) (slotsOf t) 1 t ≡ true → isOut (recordOf t a .state) ≡ true → eachFrom (carried (order.Restart a)) 0 t ≡ afterRestart a t
+    tables rows out =
+        by-record (recordOf t 1 .k) (slotsOf t) (carried (order.Restart a)) (λ i v. cond (eqb i a) (node.restartOf v .node) v) t rows
+        (λ j v u p is. ap (λ (i : ℕ). cond (eqb i a) (fresh v) v) (p .own) ∙ one j v (p .good) out is)
 
 pub set-up-called : (n k : ℕ) (t : Table) → calledBy (orderFor (asked.SetUp n k) t) t ≡ setUpOf n k t
 unfolding orderFor setUpOf carried
@@ -119,22 +159,79 @@ hears lost missed t i v e = ap (λ (w : Node). cond (has missed i) unheard (said
     go false true = refl
     go false false = refl
 
+-- who hears anything hears what is said
+heard-said : (b : Bool) (r : Reading) → isHeard (cond b unheard r) ≡ true → cond b unheard r ≡ r
+heard-said true r e = absurd (true≢false (sym e))
+heard-said false r e = refl
+
+-- the marks of a sound record are a u32
+marks-fit : (v : Node) → sound v ≡ true → v .present < 2 ^ 32
+marks-fit v e =
+    let c = clauses v e in
+    let most = ring-size (v .n) (c .ring) .1 in
+    let sets = both (within (v .n) (v .set)) (within (v .n) (v .present) && subset (v .present) (v .set)) (c .sets) .1 in
+    let marks = ltb-true (v .present) (2 ^ (v .n)) (both (within (v .n) (v .present)) (subset (v .present) (v .set)) sets .0) in
+    lt-of-lt-of-le marks (pow-mono {i = v .n} {j = 32} most)
+
+-- a record in its place does in a slot what the node call does
+module _ (lost : Bool) (missed : ℕ) (t : Table) (ok : tableSound t ≡ true) (s : Said 0 t) (below : slotsOf t < limit) where
+  abbrev survey : Survey
+  survey = surveyOf 0 t
+
+  abbrev turn : Turn
+  turn = turnOf lost missed survey
+
+  -- the speaker is one of the table's nodes
+  spoken-in : (recordOf t (speaker t) .n ≡ length t) × (recordOf t (speaker t) .k ≡ recordOf t 1 .k)
+  unfolding speaker
+  spoken-in =
+      let three = ring-size (length t) (s .ring) .0 in
+      let r = sender-range (length t) (omega (arith, three)) (slotsOf t + 1) in
+      let p = sound-placed t ok .at (sender (length t) (slotsOf t + 1)) (r .0) (r .1) in
+      (p .n-is, p .k-is)
+
+  speaker-n : survey .speaker .n ≡ length t
+  speaker-n = ap (λ (w : Node). w .n) (s .spoken) ∙ spoken-in .0
+
+  speaker-k : survey .speaker .k ≡ recordOf t 1 .k
+  speaker-k = ap (λ (w : Node). w .k) (s .spoken) ∙ spoken-in .1
+
+  step-is : (j : ℕ) (v : Node) (u : Table) → Placed (length t) (recordOf t 1 .k) (slotsOf t) (suc j) v u → stepAt turn v ≡ node.stepOf (heardBy lost missed t (suc j)) v .node
+  unfolding speaker
+  step-is j v u p =
+      after-taught (turn .sender) (turn .heard) (heardAt turn v) (survey .speaker) (numbered (turn .slot) v) (heard-said (has missed (v .own)) (turn .heard))
+      (p .ring ∙ sym speaker-n) (p .sponsors ∙ sym speaker-k) (node-number (v .n) (v .own) (clauses v (p .good) .own) .0) (marks-fit v (p .good))
+      ∙ ap₂ (λ (x : ℕ) (r : Reading). afterSlot x r (numbered (turn .slot) v)) sender-at heard-at
+      ∙ ap (λ (m : ℕ). afterSlot (sender (v .n) (v .slots + 1)) (heardBy lost missed t (suc j)) (numbered m v)) slot-at
+      ∙ sym (ap (λ (d : Stepped). d .node) (step-done (heardBy lost missed t (suc j)) v (p .good) (omega (arith, below, p .slot))))
+    where
+      slot-at : survey .slots + 1 ≡ v .slots + 1
+      slot-at = ap (λ (m : ℕ). m + 1) (s .slots ∙ sym (p .slot))
+
+      sender-at : survey .sender ≡ sender (v .n) (v .slots + 1)
+      sender-at = s .sender ∙ ap₂ (λ (m x : ℕ). sender m (x + 1)) (sym (p .ring)) (sym (p .slot))
+
+      heard-at : heardAt turn v ≡ heardBy lost missed t (suc j)
+      heard-at = ap (λ (i : ℕ). cond (has missed i) unheard (turn .heard)) (p .own) ∙ hears lost missed t (suc j) (survey .speaker) (s .spoken)
+
+pub slot-table : (lost : Bool) (missed : ℕ) (t : Table) → tableSound t ≡ true → slotsOf t < limit
+    → eachFrom (carried (order.Slot (turnOf lost missed (surveyOf 0 t)))) 0 t ≡ bench.afterSlot lost missed t
+unfolding carried bench.afterSlot
+slot-table lost missed t ok below =
+    let s = said 0 t ok in
+    by-record (recordOf t 1 .k) (slotsOf t) (carried (order.Slot (turnOf lost missed (surveyOf 0 t)))) (λ i v. node.stepOf (heardBy lost missed t i) v .node) t (s .rows)
+    (λ j v u p is. step-is lost missed t ok s below j v u p)
+
 pub slot-called : (lost : Bool) (missed room : ℕ) (t : Table) → calledBy (orderFor (asked.Slot lost missed room) t) t ≡ slotOf lost missed room t
-unfolding orderFor slotOf carried afterSlot
+unfolding orderFor slotOf
 slot-called lost missed room t =
     passes _ _ t _ (fine-table 0 t) (λ ok.
     let s = said 0 t ok in
     passes _ _ t _ (ap (λ (m : ℕ). within m missed) (s .n)) (λ h.
     passes _ _ t _ (ap (λ (m : ℕ). ltb m limit) (s .slots)) (λ l.
-    passes {b = leb 64 room} OutputShort (order.Slot (saidBy lost (surveyOf 0 t .speaker)) missed) t _ refl (λ r. ap done (tables s)))))
-  where
-    tables : Said 0 t → eachFrom (carried (order.Slot (saidBy lost (surveyOf 0 t .speaker)) missed)) 0 t ≡ afterSlot lost missed t
-    tables s =
-        by-own (length t) (recordOf t 1 .k) (slotsOf t) (carried (order.Slot (saidBy lost (surveyOf 0 t .speaker)) missed)) (λ i v. node.stepOf (heardBy lost missed t i) v .node)
-        (λ j v own. ap (λ (i : ℕ). node.stepOf (cond (has missed i) unheard (saidBy lost (surveyOf 0 t .speaker))) v .node) own
-        ∙ ap (λ (h : Reading). node.stepOf h v .node) (hears lost missed t (suc j) (surveyOf 0 t .speaker) (s .spoken))) 0 t (s .rows)
+    passes {b = leb 64 room} OutputShort (order.Slot (turnOf lost missed (surveyOf 0 t))) t _ refl (λ r. ap done (slot-table lost missed t ok (ltb-true (slotsOf t) limit l))))))
 
 -- the answer of a report
-pub answered : (o : Order) (t : Table) → reportOf o t .answer ≡ answerTo o
+pub answered : (o : Order) (t : Table) → answerTo (reportOf o t .order) ≡ answerTo o
 unfolding reportOf reported
 answered o t = refl

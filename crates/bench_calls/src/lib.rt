@@ -6,8 +6,11 @@ use bench::Changed;
 use bench::Fate;
 use bench::Listed;
 use bench::Next;
+use bench::Outcome;
+use bench::Shown;
 use bench_walks::Asked;
 use bench_walks::Members;
+use bench_walks::Order;
 use bench_walks::Report;
 use bench_walks::Survey;
 use node::Answer;
@@ -18,7 +21,8 @@ ghost use Prim.Native.Nat.{_≤_};
 ghost use lib.ListN.{length};
 ghost use Rattle.bench.specs.Calls.{setUpOf, offOf, restartOf, slotOf, listedOf, distanceOf, nextOf};
 ghost use Rattle.bench.specs.Pairs.{changedOf, BytesAfter};
-ghost use Rattle.bench_walks.specs.Orders.{listedBy, apartBy, fateBy, nextBy, bytesTold, changedBy, puts, writtenBy};
+ghost use Rattle.bench.specs.Outcomes.{shownOf, endedOf};
+ghost use Rattle.bench_walks.specs.Orders.{answerTo, listedBy, apartBy, nextBy, bytesTold, changedBy, puts, writtenBy, reachOf, outcomeBy};
 
 // The list of a table of so many records.
 fn list_of(s: Survey, size: usize) -> Listed
@@ -32,31 +36,13 @@ fn list_of(s: Survey, size: usize) -> Listed
 }
 
 // The greatest distance in a table of so many records.
-fn distance_of(m: Members, size: usize) -> Apart
-    ensures { λ r. ⌜ r ≡ apartBy m size ⌝ }
+fn distance_of(s: Survey, m: Members, size: usize) -> Apart
+    ensures { λ r. ⌜ r ≡ apartBy s m size ⌝ }
 {
-    let survey = m.survey;
-    if !bench_walks::is_fine(survey, size) {
+    if !bench_walks::is_fine(s, size) {
         return Apart::Refused(Refusal::Unsound);
     }
     Apart::Nodes(m.greatest)
-}
-
-// What comes of the speaker's message.
-fn fate_of(lost: bool, v: Node) -> Fate
-    ensures { λ r. ⌜ r ≡ fateBy lost v ⌝ }
-{
-    let state = v.state;
-    if !sending::sends(v) {
-        return Fate::Silent;
-    }
-    if lost {
-        return Fate::Lost;
-    }
-    if record::is_member(state) {
-        return Fate::Sent;
-    }
-    Fate::Knock
 }
 
 // The next slot of a table of so many records.
@@ -67,17 +53,31 @@ fn next_of(lost: bool, s: Survey, size: usize) -> Next
     if !bench_walks::is_fine(s, size) {
         return Next::Refused(Refusal::Unsound);
     }
-    let fate = fate_of(lost, speaker);
+    let fate = bench_walks::orders::fate_of(lost, speaker);
     Next::Slot(s.sender, fate)
+}
+
+// What an order is answered by.
+fn answer_to(order: Order) -> Answer
+    ensures { λ r. ⌜ r ≡ answerTo order ⌝ }
+{
+    match order {
+        Order::Refuse(cause) => Answer::Refused(cause),
+        Order::Start(_, _) => Answer::Done,
+        Order::Off(_) => Answer::Done,
+        Order::Restart(_) => Answer::Done,
+        Order::Slot(_) => Answer::Done,
+    }
 }
 
 // How many bytes of pairs go to a buffer of this length: none where the call is refused.
 fn bytes_told(report: Report, room: usize) -> usize
     ensures { λ r. ⌜ r ≡ bytesTold report room ⌝ }
 {
-    let answer = report.answer;
-    let told = report.told;
-    match answer {
+    let order = report.order;
+    let notes = report.notes;
+    let told = notes.told;
+    match answer_to(order) {
         Answer::Done => {
             if (told.count <= 32) & (64 <= room) {
                 told.count as usize * 2
@@ -104,9 +104,10 @@ fn put_bytes(bytes: [u8; 64], end: usize, pairs: &mut [u8])
 fn changed_by(report: Report) -> Changed
     ensures { λ r. ⌜ r ≡ changedBy report ⌝ }
 {
-    let answer = report.answer;
-    let told = report.told;
-    match answer {
+    let order = report.order;
+    let notes = report.notes;
+    let told = notes.told;
+    match answer_to(order) {
         Answer::Done => Changed::Pairs(told.count),
         Answer::Refused(cause) => Changed::Refused(cause),
     }
@@ -116,11 +117,55 @@ fn changed_by(report: Report) -> Changed
 fn tell(report: Report, pairs: &mut [u8]) -> Changed
     ensures { λ r. ⌜ (r ≡ changedBy report) × (now (pairs .exit) ≡ writtenBy report (now (pairs .entry))) ⌝ }
 {
-    let told = report.told;
+    let notes = report.notes;
+    let told = notes.told;
     let bytes = told.bytes;
     let end = bytes_told(report, pairs.len());
     put_bytes(bytes, end, pairs);
     changed_by(report)
+}
+
+// How many of so many records are to be looked through for the distance after a slot.
+fn reach_of(report: Report, size: usize) -> usize
+    ensures { λ r. ⌜ r ≡ reachOf report size ⌝ }
+{
+    let notes = report.notes;
+    let sight = notes.sight;
+    if sight.same {
+        return 0;
+    }
+    size
+}
+
+// The list as it is shown.
+fn shown(list: Listed) -> Shown
+    ensures { λ r. ⌜ r ≡ shownOf list ⌝ }
+{
+    match list {
+        Listed::Set(set) => Shown::Set(set),
+        Listed::Nobody => Shown::Nobody,
+        Listed::Refused(_) => Shown::Nobody,
+    }
+}
+
+// What there is to print of a slot.
+fn outcome_by(report: Report, m: Members) -> Outcome
+    ensures { λ r. ⌜ r ≡ outcomeBy report m ⌝ }
+{
+    let order = report.order;
+    let notes = report.notes;
+    let sight = notes.sight;
+    let list = sight.list;
+    match order {
+        Order::Refuse(cause) => Outcome::Refused(cause),
+        Order::Start(_, _) => Outcome::Quiet,
+        Order::Off(_) => Outcome::Quiet,
+        Order::Restart(_) => Outcome::Quiet,
+        Order::Slot(turn) => {
+            let fate = turn.fate;
+            Outcome::Slot(turn.slot, turn.sender, fate, shown(list), m.greatest)
+        }
+    }
 }
 
 fn set_up_asked(n: u32, k: u32) -> Asked
@@ -148,10 +193,10 @@ fn slot_asked(lost: bool, missed: u32, room: usize) -> Asked
 }
 
 fn answer_of(report: Report) -> Answer
-    ensures { λ r. ⌜ r ≡ report .answer ⌝ }
+    ensures { λ r. ⌜ r ≡ answerTo (report .order) ⌝ }
 {
-    let answer = report.answer;
-    answer
+    let order = report.order;
+    answer_to(order)
 }
 
 // Sets the table up: all nodes are members, the sets full, all marks on. Refuses by 1, 2 and 4.
@@ -190,8 +235,9 @@ pub fn list(table: &[Node]) -> Listed
 pub fn distance(table: &[Node]) -> Apart
     ensures { λ r. ⌜ r ≡ distanceOf (now (table .entry)) ⌝ }
 {
-    let m = bench_walks::look_through(table);
-    distance_of(m, table.len())
+    let s = bench_walks::look_over(table, 0);
+    let m = bench_walks::look_through(table, table.len());
+    distance_of(s, m, table.len())
 }
 
 // The sender of the next slot and what comes of its message, lost or not. Refuses by 4.
@@ -213,4 +259,17 @@ pub fn slot(table: &mut [Node], lost: bool, missed: u32, pairs: &mut [u8]) -> Ch
     let asked = slot_asked(lost, missed, pairs.len());
     let report = bench_walks::work(table, asked);
     tell(report, pairs)
+}
+
+// One slot without the pairs, and what there is to print of it: the sender and the fate as they are
+// before the slot, the list and the distance as they are after it. Refuses by 4, 3 and 5. The table is
+// tested once; the distance is looked for only where two members hold different sets.
+pub fn slot_outcome(table: &mut [Node], lost: bool, missed: u32) -> Outcome
+    ensures { λ r. ⌜ record { table = now (table .exit); outcome = r } ≡ endedOf lost missed (now (table .entry)) ⌝ }
+{
+    let asked = slot_asked(lost, missed, 64);
+    let report = bench_walks::work(table, asked);
+    let reach = reach_of(report, table.len());
+    let m = bench_walks::look_through(table, reach);
+    outcome_by(report, m)
 }

@@ -3,99 +3,133 @@
 mod input;
 mod output;
 
+use bench::Outcome;
+use doors::Ran;
 use input::Ending;
 use input::Unread;
-use plan_run::Ran;
-use plan_run::Report;
+use plan_run::Opened;
 use record::Node;
 use refusal::Refusal;
 
-// The input ends after a line, and not within one or before the first.
-fn is_end(number: u64, length: usize, ending: Ending) -> bool {
+// The input ends after a line, and not within one.
+fn is_end(length: usize, ending: Ending) -> bool {
     match ending {
-        Ending::Input => length == 0 && number > 1,
+        Ending::Input => length == 0,
         Ending::LineFeed => false,
         Ending::TooLong => false,
     }
 }
 
-fn is_refused(report: Report) -> bool {
-    match report {
-        Report::Refused(_) => true,
-        Report::Slot(_, _, _, _, _) => false,
-        Report::Quiet => false,
+fn is_refused(outcome: Outcome) -> bool {
+    match outcome {
+        Outcome::Refused(_) => true,
+        Outcome::Slot(_, _, _, _, _) => false,
+        Outcome::Quiet => false,
     }
 }
 
-// Runs a line of the plan; lines are counted from 1.
-fn run_line(number: u64, n: u32, rows: [Node; 32], line: &[u8]) -> Ran {
-    if number == 1 {
-        return plan_run::open(line);
-    }
-    plan_run::run(n, rows, line)
-}
-
-fn unreadable(n: u32, rows: [Node; 32]) -> Ran {
-    Ran {
-        n,
+fn unopened() -> Opened {
+    let rows = plan_run::no_rows();
+    Opened {
+        n: 0,
         rows,
-        report: Report::Refused(Refusal::PlanLine),
+        outcome: Outcome::Refused(Refusal::PlanLine),
+    }
+}
+
+// Runs line one, which stands in the first bytes of `text`.
+fn open_text(text: &[u8], length: usize) -> Opened {
+    if length <= text.len() {
+        return plan_run::open(&text[0..length]);
+    }
+    unopened()
+}
+
+// Runs line one as it was taken. One without a line feed, or too long, is unreadable.
+fn open_taken(text: &[u8; 120], length: usize, ending: Ending) -> Opened {
+    match ending {
+        Ending::LineFeed => open_text(text, length),
+        Ending::Input => unopened(),
+        Ending::TooLong => unopened(),
+    }
+}
+
+fn unreadable(rows: [Node; 32]) -> Ran {
+    Ran {
+        rows,
+        outcome: Outcome::Refused(Refusal::PlanLine),
     }
 }
 
 // Runs the line that stands in the first bytes of `text`.
-fn run_text(number: u64, n: u32, rows: [Node; 32], text: &[u8], length: usize) -> Ran {
+fn run_text(n: u32, rows: [Node; 32], text: &[u8], length: usize) -> Ran {
     if length <= text.len() {
-        return run_line(number, n, rows, &text[0..length]);
+        return plan_run::run(n, rows, &text[0..length]);
     }
-    unreadable(n, rows)
+    unreadable(rows)
 }
 
 // Runs a line as it was taken. One without a line feed, or too long, is unreadable.
-fn run_taken(
-    number: u64,
-    n: u32,
-    rows: [Node; 32],
-    text: &[u8; 120],
-    length: usize,
-    ending: Ending,
-) -> Ran {
+fn run_taken(n: u32, rows: [Node; 32], text: &[u8; 120], length: usize, ending: Ending) -> Ran {
     match ending {
-        Ending::LineFeed => run_text(number, n, rows, text, length),
-        Ending::Input => unreadable(n, rows),
-        Ending::TooLong => unreadable(n, rows),
+        Ending::LineFeed => run_text(n, rows, text, length),
+        Ending::Input => unreadable(rows),
+        Ending::TooLong => unreadable(rows),
     }
 }
 
-// Runs a plan; the number of bytes that then wait in the output. No plan has u64::MAX lines.
-fn run_plan(input: &mut [u8; 4096], output: &mut [u8; 4096]) -> usize {
-    let mut left = Unread { at: 0, end: 0 };
+// Runs the lines after line one; the number of bytes that then wait in the output. No plan has
+// u64::MAX lines.
+fn run_lines(
+    input: &mut [u8; 4096],
+    left: Unread,
+    output: &mut [u8; 4096],
+    n: u32,
+    rows: [Node; 32],
+) -> usize {
+    let mut left = left;
     let mut held = 0;
-    let mut n = 0;
-    let mut rows = plan_run::no_rows();
-    let mut number: u64 = 0;
+    let mut ran = Ran {
+        rows,
+        outcome: Outcome::Quiet,
+    };
+    let mut number: u64 = 1;
     while number < u64::MAX {
         number += 1;
         let mut text = [0u8; 120];
         let line = input::take_line(input, left, &mut text);
         let length = line.length;
         let ending = line.ending;
-        if is_end(number, length, ending) {
+        if is_end(length, ending) {
             return held;
         }
-        let ran = run_taken(number, n, rows, &text, length, ending);
-        let report = ran.report;
-        held = output::print(output, held, number, report);
-        if is_refused(report) {
+        let rows = ran.rows;
+        ran = run_taken(n, rows, &text, length, ending);
+        let outcome = ran.outcome;
+        held = output::print(output, held, number, outcome);
+        if is_refused(outcome) {
             return held;
         }
-        n = ran.n;
-        let after = ran.rows;
-        rows = after;
         let rest = line.left;
         left = rest;
     }
     held
+}
+
+// Runs a plan; the number of bytes that then wait in the output.
+fn run_plan(input: &mut [u8; 4096], output: &mut [u8; 4096]) -> usize {
+    let mut text = [0u8; 120];
+    let line = input::take_line(input, Unread { at: 0, end: 0 }, &mut text);
+    let length = line.length;
+    let ending = line.ending;
+    let left = line.left;
+    let opened = open_taken(&text, length, ending);
+    let outcome = opened.outcome;
+    if is_refused(outcome) {
+        return output::print(output, 0, 1, outcome);
+    }
+    let rows = opened.rows;
+    run_lines(input, left, output, opened.n, rows)
 }
 
 fn main() {

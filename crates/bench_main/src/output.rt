@@ -1,7 +1,7 @@
 // Standard output, line by line, through a buffer. `held` is the number of bytes that wait in it.
 use bench::Fate;
-use plan_run::Report;
-use plan_text::Shown;
+use bench::Outcome;
+use bench::Shown;
 use plan_text::Written;
 
 // The bytes that every line fits into.
@@ -63,12 +63,12 @@ fn print_refusal(buffer: &mut [u8; 4096], held: usize, line: u64, number: u32) -
 }
 
 // Prints what there is to print of a line.
-pub fn print(buffer: &mut [u8; 4096], held: usize, line: u64, report: Report) -> usize {
-    match report {
-        Report::Quiet => held,
-        Report::Slot(slot, sender, fate, shown, distance) => {
+pub fn print(buffer: &mut [u8; 4096], held: usize, line: u64, outcome: Outcome) -> usize {
+    match outcome {
+        Outcome::Quiet => held,
+        Outcome::Slot(slot, sender, fate, shown, distance) => {
             print_slot(buffer, held, slot, sender, fate, shown, distance)
         }
-        Report::Refused(cause) => print_refusal(buffer, held, line, refusal::number(cause)),
+        Outcome::Refused(cause) => print_refusal(buffer, held, line, refusal::number(cause)),
     }
 }

@@ -9,6 +9,7 @@ use Rattle.ring.specs.Answers.{senderOf}
 use Rattle.ring.specs.declared.Speaker.{Speaker}
 use Rattle.ring.specs.declared.Speaker.the-variants as speaker
 use Rattle.record.specs.declared.Node.{Node}
+use Rattle.record.specs.declared.State.{State}
 use Rattle.record.specs.States.{isMember}
 use Rattle.node.specs.Calls.{noNode}
 use Rattle.bench.specs.declared.Listed.{Listed}
@@ -50,19 +51,28 @@ listWith listed.Nobody v = cond (isMember (v .state)) (listed.Set (v .set)) list
 listWith (listed.Set set) v = listed.Set set
 listWith (listed.Refused cause) v = listed.Refused cause
 
--- With the record at index i.
-abbrev pub seen : Survey → ℕ → Node → Survey
-seen s i v = record {
-  fine = s .fine && inPlace (s .n) (s .k) (s .slots) (i + 1) v;
+-- With another speaker, and what one more record changes.
+abbrev pub surveyWith : Survey → Node → Bool → State → Listed → Survey
+surveyWith s v fine state list = record {
+  fine = fine;
   n = s .n;
   k = s .k;
   slots = s .slots;
   sender = s .sender;
-  speaker = cond (eqb (v .own) (s .sender)) v (s .speaker);
+  speaker = v;
   asked = s .asked;
-  state = cond (eqb (v .own) (s .asked)) (v .state) (s .state);
-  list = listWith (s .list) v;
+  state = state;
+  list = list;
 }
+
+-- With the record at index i.
+abbrev pub seen : Survey → ℕ → Node → Survey
+seen s i v =
+    surveyWith s
+    (cond (eqb (v .own) (s .sender)) v (s .speaker))
+    (s .fine && inPlace (s .n) (s .k) (s .slots) (i + 1) v)
+    (cond (eqb (v .own) (s .asked)) (v .state) (s .state))
+    (listWith (s .list) v)
 
 -- The first record gives n, k and slots.
 unfoldable pub surveyed : Survey → ℕ → Node → Survey
@@ -89,25 +99,24 @@ unfoldable pub farFrom : ℕ → ℕ → List ℕ → ℕ → ℕ
 farFrom n set sets zero = 0
 farFrom n set sets (suc j) = max (farFrom n set sets j) (distance n (getD sets j 0) set)
 
-abbrev pub memberSeen : Survey → Members → ℕ → Members
-memberSeen s m y = record {
-  survey = s;
+abbrev pub memberSeen : ℕ → Members → ℕ → Members
+memberSeen n m y = record {
   count = m .count + 1;
   sets = set (m .sets) (m .count) y;
-  greatest = max (m .greatest) (farFrom (s .n) y (m .sets) (m .count));
+  greatest = max (m .greatest) (farFrom n y (m .sets) (m .count));
 }
 
 unfoldable pub gathered : Members → ℕ → Node → Members
 gathered m i v =
     cond (isMember (v .state) && ltb (m .count) 32)
-    (memberSeen (surveyed (m .survey) i v) m (v .set))
-    (record { survey = surveyed (m .survey) i v; count = m .count; sets = m .sets; greatest = m .greatest })
+    (memberSeen (v .n) m (v .set))
+    m
 
 abbrev pub gatheredFrom : Members → ℕ → Table → Members
 gatheredFrom m i t = foldFrom gathered m i t
 
 unfoldable pub noMembers : Members
-noMembers = record { survey = unseen 0; count = 0; sets = replicate 32 0; greatest = 0 }
+noMembers = record { count = 0; sets = replicate 32 0; greatest = 0 }
 
 unfoldable pub membersOf : Table → Members
 membersOf t = gatheredFrom noMembers 0 t

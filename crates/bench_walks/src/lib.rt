@@ -1,14 +1,14 @@
 // The inner functions of the bench (document 01, "The bench"). The walks over the table (look_over,
 // look_through, carry_out, work) have no branches; what they decide and do to a record stands in
 // the functions by value.
-mod orders;
+pub mod orders;
 mod pairs;
 mod records;
 mod surveys;
 
+use bench::Fate;
 use bench::Listed;
 use message::Reading;
-use node::Answer;
 use orders::off_order;
 use orders::restart_order;
 use orders::set_up_order;
@@ -24,12 +24,15 @@ use records::place_of;
 use records::restart_at;
 use records::step_at;
 use refusal::Refusal;
+use steps::Lesson;
 use surveys::begun;
+use surveys::list_with;
 use surveys::seen;
 ghost use mathlib.Core.Path.{_≡_};
 ghost use Prim.Native.Nat.{_<_, _≤_, max};
+ghost use lib.ListN.{length, take};
 ghost use Rattle.bench_walks.specs.Survey.{surveyed, unseen, surveyOf, fineTable, farFrom, memberSeen, gathered, noMembers, membersOf};
-ghost use Rattle.bench_walks.specs.Orders.{askedNode, orderOf, carried, carriedFrom, pushed, noted, noPairs, notedFrom, answerTo, reported, reportOf, orderFor};
+ghost use Rattle.bench_walks.specs.Orders.{askedNode, orderOf, carried, carriedFrom, pushed, noted, noPairs, sameWith, sighted, noticed, noNotes, noticedFrom, reported, reportOf, orderFor};
 
 // What a look over a table finds: whether each record stands in its place; n, k and slots of the
 // first; the next sender's number and record; the state of the node asked about; the list.
@@ -45,9 +48,8 @@ pub struct Survey {
     pub list: Listed,
 }
 
-// A survey with the sets of the members, and the greatest distance of two of them.
+// The sets of the members, and the greatest distance of two of them.
 pub struct Members {
-    pub survey: Survey,
     pub count: u32,
     pub sets: [u32; 32],
     pub greatest: u32,
@@ -61,13 +63,24 @@ pub enum Asked {
     Slot(bool, u32, usize),
 }
 
+// A slot that is to run: its number and sender, what comes of the message, what is read of it, which
+// nodes miss it, and what it tells those who hold the sender's set.
+pub struct Turn {
+    pub slot: u64,
+    pub sender: u32,
+    pub fate: Fate,
+    pub heard: Reading,
+    pub missed: u32,
+    pub lesson: Lesson,
+}
+
 // What each record is to do.
 pub enum Order {
     Refuse(Refusal),
     Start(u32, u32),
     Off(u32),
     Restart(u32),
-    Slot(Reading, u32),
+    Slot(Turn),
 }
 
 // Pairs of a node and a kind.
@@ -76,10 +89,22 @@ pub struct Told {
     pub bytes: [u8; 64],
 }
 
-// What came of a call that changes the table.
-pub struct Report {
-    pub answer: Answer,
+// The list of the records seen so far, and whether all members among them hold it.
+pub struct Sight {
+    pub list: Listed,
+    pub same: bool,
+}
+
+// What is noticed while an order is carried out: whose state changed, and the list afterwards.
+pub struct Notes {
     pub told: Told,
+    pub sight: Sight,
+}
+
+// What a call that changes the table did, and what was noticed.
+pub struct Report {
+    pub order: Order,
+    pub notes: Notes,
 }
 
 // A record of no node.
@@ -114,10 +139,8 @@ fn unseen(asked: u32) -> Survey
 fn surveyed(s: Survey, i: usize, v: Node) -> Survey
     ensures { λ r. ⌜ r ≡ surveyed s i v ⌝ }
 {
-    if i == 0 {
-        return seen(begun(true, s.asked, v), i, v);
-    }
-    seen(s, i, v)
+    let before = if i == 0 { begun(true, s.asked, v) } else { s };
+    seen(before, i, v)
 }
 
 // Whether the table surveyed is sound, where it has so many records.
@@ -160,7 +183,7 @@ fn carried(order: Order, i: usize, v: Node) -> Node
         Order::Start(n, k) => changes::starting(n, k, place_of(i)),
         Order::Off(a) => off_at(a, v),
         Order::Restart(a) => restart_at(a, v),
-        Order::Slot(heard, missed) => step_at(heard, missed, v),
+        Order::Slot(turn) => step_at(turn, v),
     }
 }
 
@@ -201,16 +224,54 @@ fn no_pairs() -> Told
     }
 }
 
-fn answer_to(order: Order) -> Answer
-    ensures { λ r. ⌜ r ≡ answerTo order ⌝ }
+// Whether a record is no member, or holds the list as far as it is known.
+fn same_with(list: Listed, v: Node) -> bool
+    ensures { λ r. ⌜ r ≡ sameWith list v ⌝ }
 {
-    match order {
-        Order::Refuse(cause) => Answer::Refused(cause),
-        Order::Start(_, _) => Answer::Done,
-        Order::Off(_) => Answer::Done,
-        Order::Restart(_) => Answer::Done,
-        Order::Slot(_, _) => Answer::Done,
+    let state = v.state;
+    if !record::is_member(state) {
+        return true;
     }
+    match list {
+        Listed::Set(set) => set == v.set,
+        Listed::Nobody => true,
+        Listed::Refused(_) => true,
+    }
+}
+
+// The list with one record more.
+fn sighted(sight: Sight, v: Node) -> Sight
+    ensures { λ r. ⌜ r ≡ sighted sight v ⌝ }
+{
+    let before = sight.list;
+    let same = same_with(before, v);
+    let list = list_with(before, v);
+    Sight {
+        list,
+        same: sight.same & same,
+    }
+}
+
+// The notes with those of a record.
+fn noticed(notes: Notes, before: Node, after: Node) -> Notes
+    ensures { λ r. ⌜ r ≡ noticed notes before after ⌝ }
+{
+    let pairs = notes.told;
+    let seen = notes.sight;
+    let told = noted(pairs, before, after);
+    let sight = sighted(seen, after);
+    Notes { told, sight }
+}
+
+fn no_notes() -> Notes
+    ensures { λ r. ⌜ r ≡ noNotes ⌝ }
+{
+    let told = no_pairs();
+    let sight = Sight {
+        list: Listed::Nobody,
+        same: true,
+    };
+    Notes { told, sight }
 }
 
 // The greater number.
@@ -235,47 +296,36 @@ fn far_from(n: u32, set: u32, sets: [u32; 32], count: u32) -> u32
 }
 
 // What is gathered with a member's set, which stands after the others. Requires room for it.
-fn member_seen(s: Survey, m: Members, set: u32) -> Members
+fn member_seen(n: u32, m: Members, set: u32) -> Members
     requires { ⌜ m .count < 32 ⌝ }
-    ensures { λ r. ⌜ r ≡ memberSeen s m set ⌝ }
+    ensures { λ r. ⌜ r ≡ memberSeen n m set ⌝ }
 {
     let mut sets = m.sets;
-    let far = far_from(s.n, set, sets, m.count);
+    let far = far_from(n, set, sets, m.count);
     let greatest = larger(m.greatest, far);
     sets[m.count as usize] = set;
     Members {
-        survey: s,
         count: m.count + 1,
         sets,
         greatest,
     }
 }
 
-// What is gathered with the record at index i.
+// What is gathered with one record more.
 fn gathered(m: Members, i: usize, v: Node) -> Members
     ensures { λ r. ⌜ r ≡ gathered m i v ⌝ }
 {
-    let before = m.survey;
     let state = v.state;
-    let survey = surveyed(before, i, v);
     if record::is_member(state) & (m.count < 32) {
-        return member_seen(survey, m, v.set);
+        return member_seen(v.n, m, v.set);
     }
-    let sets = m.sets;
-    Members {
-        survey,
-        count: m.count,
-        sets,
-        greatest: m.greatest,
-    }
+    m
 }
 
 fn no_members() -> Members
     ensures { λ r. ⌜ r ≡ noMembers ⌝ }
 {
-    let survey = unseen(0);
     Members {
-        survey,
         count: 0,
         sets: [0; 32],
         greatest: 0,
@@ -283,11 +333,10 @@ fn no_members() -> Members
 }
 
 // What came of an order.
-fn reporting(order: Order, told: Told) -> Report
-    ensures { λ r. ⌜ r ≡ reported order told ⌝ }
+fn reporting(order: Order, notes: Notes) -> Report
+    ensures { λ r. ⌜ r ≡ reported order notes ⌝ }
 {
-    let answer = answer_to(order);
-    Report { answer, told }
+    Report { order, notes }
 }
 
 // Looks over the table.
@@ -303,34 +352,36 @@ pub fn look_over(table: &[Node], asked: u32) -> Survey
     s
 }
 
-// Looks over the table, and gathers the members' sets.
-pub fn look_through(table: &[Node]) -> Members
-    ensures { λ r. ⌜ r ≡ membersOf (now (table .entry)) ⌝ }
+// Gathers the members' sets of the first so many records. An inner function: requires that there are
+// so many.
+pub fn look_through(table: &[Node], reach: usize) -> Members
+    requires { ⌜ reach ≤ length (now table) ⌝ }
+    ensures { λ r. ⌜ r ≡ membersOf (take reach (now (table .entry))) ⌝ }
 {
     let mut m = no_members();
     let mut i = 0;
-    while i < table.len() {
+    while i < reach {
         m = gathered(m, i, table[i]);
         i += 1;
     }
     m
 }
 
-// Has each record do what is ordered, and tells whose state changed.
-fn carry_out(table: &mut [Node], order: Order) -> Told
+// Has each record do what is ordered, and notes what comes of it.
+fn carry_out(table: &mut [Node], order: Order) -> Notes
     ensures { λ r. ⌜ (now (table .exit) ≡ carriedFrom order 0 (now (table .entry)))
-        × (r ≡ notedFrom order noPairs 0 (now (table .entry))) ⌝ }
+        × (r ≡ noticedFrom order noNotes 0 (now (table .entry))) ⌝ }
 {
-    let mut told = no_pairs();
+    let mut notes = no_notes();
     let mut i = 0;
     while i < table.len() {
         let before = table[i];
         let after = carried(order, i, before);
-        told = noted(told, before, after);
+        notes = noticed(notes, before, after);
         table[i] = after;
         i += 1;
     }
-    told
+    notes
 }
 
 // A call that changes the table: a look over it, an order, and the order carried out.
@@ -341,6 +392,6 @@ pub fn work(table: &mut [Node], asked: Asked) -> Report
     let about = asked_node(asked);
     let s = look_over(table, about);
     let order = order_of(asked, s, table.len());
-    let told = carry_out(table, order);
-    reporting(order, told)
+    let notes = carry_out(table, order);
+    reporting(order, notes)
 }

@@ -1,12 +1,15 @@
 // What each record of a table is to do, by value: the tests of each call, in the table's order.
 use crate::Order;
 use crate::Survey;
+use crate::Turn;
 use crate::is_fine;
+use bench::Fate;
 use message::Reading;
 use record::Node;
 use refusal::Refusal;
 ghost use mathlib.Core.Path.{_≡_};
-ghost use Rattle.bench_walks.specs.Orders.{setUpOrder, offOrder, restartOrder, saidBy, slotOrder};
+ghost use Prim.Native.Nat.{_<_, _^_, _-_};
+ghost use Rattle.bench_walks.specs.Orders.{setUpOrder, offOrder, restartOrder, saidBy, fateBy, turnOf, slotOrder};
 
 pub fn set_up_order(n: u32, k: u32, size: usize) -> Order
     ensures { λ r. ⌜ r ≡ setUpOrder n k size ⌝ }
@@ -67,10 +70,45 @@ pub fn said_by(lost: bool, v: Node) -> Reading
     }
 }
 
+// What comes of the speaker's message.
+pub fn fate_of(lost: bool, v: Node) -> Fate
+    ensures { λ r. ⌜ r ≡ fateBy lost v ⌝ }
+{
+    let state = v.state;
+    if !sending::sends(v) {
+        return Fate::Silent;
+    }
+    if lost {
+        return Fate::Lost;
+    }
+    if record::is_member(state) {
+        return Fate::Sent;
+    }
+    Fate::Knock
+}
+
+// The slot that follows those of the table surveyed, of which there are fewer than a u64 counts.
+fn turn_of(lost: bool, missed: u32, s: Survey) -> Turn
+    requires { ⌜ s .slots < 2 ^ 64 - 1 ⌝ }
+    ensures { λ r. ⌜ r ≡ turnOf lost missed s ⌝ }
+{
+    let speaker = s.speaker;
+    let fate = fate_of(lost, speaker);
+    let heard = said_by(lost, speaker);
+    let lesson = steps::lesson_of(s.sender, heard, speaker);
+    Turn {
+        slot: s.slots + 1,
+        sender: s.sender,
+        fate,
+        heard,
+        missed,
+        lesson,
+    }
+}
+
 pub fn slot_order(lost: bool, missed: u32, room: usize, s: Survey, size: usize) -> Order
     ensures { λ r. ⌜ r ≡ slotOrder lost missed room s size ⌝ }
 {
-    let speaker = s.speaker;
     if !is_fine(s, size) {
         return Order::Refuse(Refusal::Unsound);
     }
@@ -83,6 +121,6 @@ pub fn slot_order(lost: bool, missed: u32, room: usize, s: Survey, size: usize) 
     if room < 64 {
         return Order::Refuse(Refusal::OutputShort);
     }
-    let said = said_by(lost, speaker);
-    Order::Slot(said, missed)
+    let turn = turn_of(lost, missed, s);
+    Order::Slot(turn)
 }

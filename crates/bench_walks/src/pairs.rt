@@ -6,12 +6,13 @@ ghost use Rattle.bench.specs.Pairs.{sameState, kindFrom};
 pub fn same_state(a: State, b: State) -> bool
     ensures { λ r. ⌜ r ≡ sameState a b ⌝ }
 {
-    let members = record::is_member(a) & record::is_member(b);
-    let listening = record::is_listening(a) & record::is_listening(b);
-    let following = record::is_following(a) & record::is_following(b);
-    let knocking = record::is_knocking(a) & record::is_knocking(b);
-    let out = record::is_out(a) & record::is_out(b);
-    members | (listening | (following | (knocking | out)))
+    match a {
+        State::Member => record::is_member(b),
+        State::Listening => record::is_listening(b),
+        State::Following => record::is_following(b),
+        State::Knocking => record::is_knocking(b),
+        State::Out(_) => record::is_out(b),
+    }
 }
 
 // The kind of a change; 0 where it is none of those of a slot.

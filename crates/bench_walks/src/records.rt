@@ -1,9 +1,12 @@
-// What an order does to one record, by value.
+// What an order does to one record, by value. An order other than a refusal is one for a sound table,
+// so the records are not tested again.
+use crate::Turn;
 use message::Reading;
+use record::Cause;
 use record::Node;
 use refusal::Refusal;
 ghost use mathlib.Core.Path.{_≡_};
-ghost use Rattle.bench_walks.specs.Orders.{placeOf, offAt, restartAt, stepAt};
+ghost use Rattle.bench_walks.specs.Orders.{placeOf, offAt, restartAt, numbered, heardAt, stepAt};
 
 // The number of the node at index i, of the first 32.
 pub fn place_of(i: usize) -> u32
@@ -21,8 +24,7 @@ pub fn off_at(a: u32, v: Node) -> Node
     if v.own != a {
         return v;
     }
-    let done = node::off(v);
-    done.node
+    changes::out_for(Cause::SwitchedOff, v)
 }
 
 pub fn restart_at(a: u32, v: Node) -> Node
@@ -31,17 +33,33 @@ pub fn restart_at(a: u32, v: Node) -> Node
     if v.own != a {
         return v;
     }
-    let done = node::restart(v);
-    done.node
+    changes::fresh(v)
 }
 
-pub fn step_at(heard: Reading, missed: u32, v: Node) -> Node
-    ensures { λ r. ⌜ r ≡ stepAt heard missed v ⌝ }
+// What the record's node hears: nothing, if it misses the message.
+fn heard_at(turn: Turn, v: Node) -> Reading
+    ensures { λ r. ⌜ r ≡ heardAt turn v ⌝ }
 {
-    if nodeset::has(missed, v.own) {
-        let deaf = node::step(Reading::Refused(Refusal::MessageLength), v);
-        return deaf.node;
+    let heard = turn.heard;
+    if nodeset::has(turn.missed, v.own) {
+        return Reading::Refused(Refusal::MessageLength);
     }
-    let done = node::step(heard, v);
-    done.node
+    heard
+}
+
+// The record with a slot count.
+fn numbered(slot: u64, v: Node) -> Node
+    ensures { λ r. ⌜ r ≡ numbered slot v ⌝ }
+{
+    let mut w = v;
+    w.slots = slot;
+    w
+}
+
+pub fn step_at(turn: Turn, v: Node) -> Node
+    ensures { λ r. ⌜ r ≡ stepAt turn v ⌝ }
+{
+    let heard = heard_at(turn, v);
+    let lesson = turn.lesson;
+    node::after_slot(turn.sender, heard, lesson, numbered(turn.slot, v))
 }

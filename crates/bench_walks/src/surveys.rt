@@ -9,7 +9,7 @@ ghost use mathlib.Core.Bool.{cond};
 ghost use Prim.Native.Nat.{_+_};
 ghost use lib.Dec.{eqb};
 ghost use Rattle.bench.specs.Table.{inPlace};
-ghost use Rattle.bench_walks.specs.Survey.{senderAfter, begun, listWith, seen};
+ghost use Rattle.bench_walks.specs.Survey.{senderAfter, begun, listWith, surveyWith, seen};
 
 // The sender of the slot that follows those of the record; 0 where its n is no ring's.
 pub fn sender_after(v: Node) -> u32
@@ -77,16 +77,6 @@ pub fn list_with(list: Listed, v: Node) -> Listed
     }
 }
 
-// The first record where it is node x, else the second.
-pub fn speaker_of(x: u32, v: Node, other: Node) -> Node
-    ensures { λ r. ⌜ r ≡ cond (eqb (v .own) x) v other ⌝ }
-{
-    if v.own == x {
-        return v;
-    }
-    other
-}
-
 // The record's state where it is node x, else the other.
 pub fn state_of(x: u32, v: Node, other: State) -> State
     ensures { λ r. ⌜ r ≡ cond (eqb (v .own) x) (v .state) other ⌝ }
@@ -98,19 +88,12 @@ pub fn state_of(x: u32, v: Node, other: State) -> State
     other
 }
 
-// The survey with the record at index i.
-pub fn seen(s: Survey, i: usize, v: Node) -> Survey
-    ensures { λ r. ⌜ r ≡ seen s i v ⌝ }
+// The survey with another speaker, and what one more record changes.
+fn survey_with(s: Survey, speaker: Node, fine: bool, state: State, list: Listed) -> Survey
+    ensures { λ r. ⌜ r ≡ surveyWith s speaker fine state list ⌝ }
 {
-    let stands = stands(s, i, v);
-    let other = s.speaker;
-    let speaker = speaker_of(s.sender, v, other);
-    let before = s.state;
-    let state = state_of(s.asked, v, before);
-    let listed = s.list;
-    let list = list_with(listed, v);
     Survey {
-        fine: s.fine & stands,
+        fine,
         n: s.n,
         k: s.k,
         slots: s.slots,
@@ -120,4 +103,20 @@ pub fn seen(s: Survey, i: usize, v: Node) -> Survey
         state,
         list,
     }
+}
+
+// The survey with the record at index i.
+pub fn seen(s: Survey, i: usize, v: Node) -> Survey
+    ensures { λ r. ⌜ r ≡ seen s i v ⌝ }
+{
+    let fine = s.fine & stands(s, i, v);
+    let before = s.state;
+    let state = state_of(s.asked, v, before);
+    let listed = s.list;
+    let list = list_with(listed, v);
+    if v.own == s.sender {
+        return survey_with(s, v, fine, state, list);
+    }
+    let other = s.speaker;
+    survey_with(s, other, fine, state, list)
 }

@@ -16,7 +16,6 @@ use prog.Wp.{Heap}
 use ghost.Atoms.{Atoms, sem}
 use types.Kit.{Given, ‵, _⊛_, later, _$_, _∵_, !, qed, by, move, keep, drop as leave, use1, use2, use3, split, rewrite, fsplit, fjoin, fpick, fpack, feqL, feqI, check, await, updating, now as at-once, done}
 use types.SemTy.{Arr}
-use types.Tokens.{lent-back}
 use types.Share.{arr-parts}
 use denote.RattleType.{RattleType}
 use denote.Laws.{Is, Tells, Makes, Lawful, shows}
@@ -24,8 +23,8 @@ use denote.Memory.{cellAt, partAt, mem, shares, partOf}
 use denote.Array.{Array, arrayVal, array-vals, array-tells, array-lawful, array-makes}
 use denote.ArrayMemory.{array-apart, array-whole}
 use denote.Index.{row, place, whole-in, whole-out}
-use denote.Slice.{sliceVal, MutSlice, ShrSlice, finally}
-use denote.Lend.{Held, lends-slice, slice-back, lends-shr-slice}
+use denote.Slice.{sliceVal, MutSlice, finally}
+use denote.Lend.{Held, lends-slice, slice-back}
 use denote.Steps.{peeks}
 use denote.Struct.Laws as LL
 use Rattle.record.specs.declared.Node.{Node}
@@ -123,13 +122,3 @@ module _ {M : Type 1} (𝓤 : URA M) (H : Heap 𝓤) (A : Atoms 𝓤) (W : Given
   row-back κ δ ys n l =
       qed W (‵ (fdead κ) ∷ ‵ (flent κ (Held N.the-row n l 0 δ)) ∷ ‵ (finally N.the-row δ ys) ∷ []) ∵ updating ! $
       use3 W (later (‵ (Arr (mem N.the-row) n .lies ys l 0))) (slice-back 𝓤 H A W N.the-row κ δ ys n l 0) $ await ! tt $ at-once ! $ fsplit ! $ leave ! $ by ! (whole-out 𝓤 H A W N.the-row ys l 0)
-
-  -- the same as a `&`, where it comes back as it was
-  pub shows-row : (κ : Lft) (ys : List Node) (l : ℕ) → length ys ≤ 32 → ent 𝓤 (sem 𝓤 H A (row N.the-row fullShare ys l 0))
-      (H .⇛ (ex 𝓤 (λ (δ : GName). sep 𝓤 (sem 𝓤 H A (ShrSlice (named 0) κ N.the-row .own (record { ptr = (l, 0); name = δ; now = ys }) (sliceVal (l, 0) (length ys) ∷ []))) (sem 𝓤 H A (flent κ (arr-parts (shares N.the-row) (length ys) .part fullShare ys l 0))))))
-  shows-row κ ys l few =
-      via 𝓤 _ (qed W (‵ (row N.the-row fullShare ys l 0) ∷ []) ∵ feqI ! ℕ (length ys) (length ys) refl $ done !) (lends-shr-slice 𝓤 H A W N.the-row (named 0) κ fullShare ys l 0 (roomy (length ys) few))
-
-  pub row-again : (κ : Lft) (ys : List Node) (l : ℕ) → ent 𝓤 (sep 𝓤 (A .dead κ) (sem 𝓤 H A (flent κ (arr-parts (shares N.the-row) (length ys) .part fullShare ys l 0)))) (H .⇛ (sem 𝓤 H A (row N.the-row fullShare ys l 0)))
-  row-again κ ys l =
-      qed W (‵ (fdead κ) ∷ ‵ (flent κ (arr-parts (shares N.the-row) (length ys) .part fullShare ys l 0)) ∷ []) ∵ updating ! $ lent-back ! tt $ at-once ! $ fsplit ! $ leave ! $ done !

@@ -6,10 +6,9 @@ use lib.ListN.{take, drop}
 use Rattle.record.specs.declared.Node.{Node}
 use Rattle.bench.specs.Table.{Table}
 use Rattle.bench.specs.Calls as bench
-use Rattle.bench.specs.Calls.{Called, nextOf, listedOf, distanceOf}
-use Rattle.bench.specs.Pairs.{changedOf}
-use Rattle.doors.specs.declared.Switched.{Switched}
-use Rattle.doors.specs.declared.Slotted.{Slotted}
+use Rattle.bench.specs.Calls.{Called}
+use Rattle.bench.specs.Outcomes.{Ended, endedOf, quietOutcome}
+use Rattle.doors.specs.declared.Ran.{Ran}
 
 abbrev pub Rows : Type 0
 Rows = List Node
@@ -17,29 +16,21 @@ Rows = List Node
 abbrev pub tableOf : ℕ → Rows → Table
 tableOf n rows = take n rows
 
--- The rows after a call on the table, and what it answered.
-abbrev pub switched : ℕ → Rows → Called → Switched
-switched n rows called = record { rows = called .table ++ drop n rows; answer = called .answer }
+-- The rows after a call on the table, and what there is to print of it.
+abbrev pub switched : ℕ → Rows → Called → Ran
+switched n rows called = record { rows = called .table ++ drop n rows; outcome = quietOutcome (called .answer) }
 
-unfoldable pub setUpOf : ℕ → ℕ → Rows → Switched
+unfoldable pub setUpOf : ℕ → ℕ → Rows → Ran
 setUpOf n k rows = switched n rows (bench.setUpOf n k (tableOf n rows))
 
-unfoldable pub offOf : ℕ → ℕ → Rows → Switched
+unfoldable pub offOf : ℕ → ℕ → Rows → Ran
 offOf n a rows = switched n rows (bench.offOf a (tableOf n rows))
 
-unfoldable pub restartOf : ℕ → ℕ → Rows → Switched
+unfoldable pub restartOf : ℕ → ℕ → Rows → Ran
 restartOf n a rows = switched n rows (bench.restartOf a (tableOf n rows))
 
--- The next slot as it is before the slot, and the list and the distance as they are after it.
-abbrev pub slotted : ℕ → Bool → Rows → Called → Slotted
-slotted n lost rows called = record {
-  rows = called .table ++ drop n rows;
-  next = nextOf lost (tableOf n rows);
-  changed = changedOf (tableOf n rows) called;
-  list = listedOf (called .table);
-  apart = distanceOf (called .table);
-}
+abbrev pub ended : ℕ → Rows → Ended → Ran
+ended n rows e = record { rows = e .table ++ drop n rows; outcome = e .outcome }
 
--- "A lent buffer of at least 64 bytes": it has 64.
-unfoldable pub slotOf : ℕ → Bool → ℕ → Rows → Slotted
-slotOf n lost missed rows = slotted n lost rows (bench.slotOf lost missed 64 (tableOf n rows))
+unfoldable pub slotOf : ℕ → Bool → ℕ → Rows → Ran
+slotOf n lost missed rows = ended n rows (endedOf lost missed (tableOf n rows))

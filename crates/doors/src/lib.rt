@@ -1,29 +1,17 @@
 // The bench behind doors with a plain signature: 32 rows by value, the first n of which are lent to the bench as its table (all of them where n is
 // above 32). The rows after the table stay as they are. A caller of these functions holds no reference to a record.
-use bench::Apart;
-use bench::Changed;
-use bench::Listed;
-use bench::Next;
+use bench::Outcome;
 use node::Answer;
 use record::Node;
 ghost use mathlib.Core.Path.{_≡_};
 ghost use Prim.Native.Nat.{min};
-ghost use lib.ListN.{replicate};
+ghost use Rattle.bench.specs.Outcomes.{quietOutcome};
 ghost use Rattle.doors.specs.Doors.{setUpOf, offOf, restartOf, slotOf};
 
-// The rows after a call, and what the call answers.
-pub struct Switched {
+// The rows after a call, and what there is to print of it.
+pub struct Ran {
     pub rows: [Node; 32],
-    pub answer: Answer,
-}
-
-// The rows after a slot; the slot's sender and fate; how many states changed; the list and the distance afterwards.
-pub struct Slotted {
-    pub rows: [Node; 32],
-    pub next: Next,
-    pub changed: Changed,
-    pub list: Listed,
-    pub apart: Apart,
+    pub outcome: Outcome,
 }
 
 // How many rows a table of n nodes takes.
@@ -33,32 +21,30 @@ fn size(n: u32) -> usize
     if n < 32 { n as usize } else { 32 }
 }
 
-fn answered(rows: [Node; 32], answer: Answer) -> Switched
-    ensures { λ r. ⌜ r ≡ record { rows = rows; answer = answer } ⌝ }
+// What there is to print of a call that is no slot.
+fn quiet(answer: Answer) -> Outcome
+    ensures { λ r. ⌜ r ≡ quietOutcome answer ⌝ }
 {
-    Switched { rows, answer }
-}
-
-fn told(rows: [Node; 32], next: Next, changed: Changed, list: Listed, apart: Apart) -> Slotted
-    ensures { λ r. ⌜ r ≡ record { rows = rows; next = next; changed = changed; list = list; apart = apart } ⌝ }
-{
-    Slotted {
-        rows,
-        next,
-        changed,
-        list,
-        apart,
+    match answer {
+        Answer::Done => Outcome::Quiet,
+        Answer::Refused(cause) => Outcome::Refused(cause),
     }
 }
 
-fn no_bytes() -> [u8; 64]
-    ensures { λ r. ⌜ r ≡ replicate 64 0 ⌝ }
+fn told(rows: [Node; 32], outcome: Outcome) -> Ran
+    ensures { λ r. ⌜ r ≡ record { rows = rows; outcome = outcome } ⌝ }
 {
-    [0; 64]
+    Ran { rows, outcome }
+}
+
+fn answered(rows: [Node; 32], answer: Answer) -> Ran
+    ensures { λ r. ⌜ r ≡ record { rows = rows; outcome = quietOutcome answer } ⌝ }
+{
+    told(rows, quiet(answer))
 }
 
 // Sets the table up for a ring of n nodes with k sponsors. Refuses by 1, 2 and 4.
-pub fn set_up(mut rows: [Node; 32], n: u32, k: u32) -> Switched
+pub fn set_up(mut rows: [Node; 32], n: u32, k: u32) -> Ran
     ensures { λ r. ⌜ r ≡ setUpOf n k rows ⌝ }
 {
     let size = size(n);
@@ -67,7 +53,7 @@ pub fn set_up(mut rows: [Node; 32], n: u32, k: u32) -> Switched
 }
 
 // Switches node a off. Refuses by 4 and 3.
-pub fn off(mut rows: [Node; 32], n: u32, a: u32) -> Switched
+pub fn off(mut rows: [Node; 32], n: u32, a: u32) -> Ran
     ensures { λ r. ⌜ r ≡ offOf n a rows ⌝ }
 {
     let size = size(n);
@@ -76,7 +62,7 @@ pub fn off(mut rows: [Node; 32], n: u32, a: u32) -> Switched
 }
 
 // Restarts node a, which is out: it listens. Refuses by 4, 3 and 11.
-pub fn restart(mut rows: [Node; 32], n: u32, a: u32) -> Switched
+pub fn restart(mut rows: [Node; 32], n: u32, a: u32) -> Ran
     ensures { λ r. ⌜ r ≡ restartOf n a rows ⌝ }
 {
     let size = size(n);
@@ -84,15 +70,11 @@ pub fn restart(mut rows: [Node; 32], n: u32, a: u32) -> Switched
     answered(rows, answer)
 }
 
-// The next slot, a slot, and the list and the distance after it. Refuses by 4, 3 and 5.
-pub fn slot(mut rows: [Node; 32], n: u32, lost: bool, missed: u32) -> Slotted
+// Runs a slot. Refuses by 4, 3 and 5.
+pub fn slot(mut rows: [Node; 32], n: u32, lost: bool, missed: u32) -> Ran
     ensures { λ r. ⌜ r ≡ slotOf n lost missed rows ⌝ }
 {
     let size = size(n);
-    let next = bench_calls::next_slot(&rows[..size], lost);
-    let mut pairs = no_bytes();
-    let changed = bench_calls::slot(&mut rows[..size], lost, missed, &mut pairs);
-    let list = bench_calls::list(&rows[..size]);
-    let apart = bench_calls::distance(&rows[..size]);
-    told(rows, next, changed, list, apart)
+    let outcome = bench_calls::slot_outcome(&mut rows[..size], lost, missed);
+    told(rows, outcome)
 }

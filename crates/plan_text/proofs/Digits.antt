@@ -11,8 +11,8 @@ use borrow.Author.Tests.{lt-ltb, le-ltb}
 use Rattle.plan_text.specs.Text.{decimal, digits, fateText, glyph, numberThen, places, shownText}
 use Rattle.bench.specs.declared.Fate.{Fate}
 use Rattle.bench.specs.declared.Fate.the-variants.{Silent, Lost, Knock, Sent}
-use Rattle.plan_text.specs.declared.Shown.{Shown}
-use Rattle.plan_text.specs.declared.Shown.the-variants.{Set, Nobody}
+use Rattle.bench.specs.declared.Shown.{Shown}
+use Rattle.bench.specs.declared.Shown.the-variants.{Set, Nobody}
 
 pub places-stop : (m x : ℕ) → x < 10 → places m x ≡ 1
 unfolding places

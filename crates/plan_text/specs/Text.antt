@@ -8,8 +8,8 @@ use lib.ListN.{length, take, drop}
 use Rattle.refusal.specs.declared.Refusal.the-variants.{OutputShort}
 use Rattle.bench.specs.declared.Fate.{Fate}
 use Rattle.bench.specs.declared.Fate.the-variants.{Silent, Lost, Knock, Sent}
-use Rattle.plan_text.specs.declared.Shown.{Shown}
-use Rattle.plan_text.specs.declared.Shown.the-variants.{Set, Nobody}
+use Rattle.bench.specs.declared.Shown.{Shown}
+use Rattle.bench.specs.declared.Shown.the-variants.{Set, Nobody}
 use Rattle.plan_text.specs.declared.Written.{Written}
 use Rattle.plan_text.specs.declared.Written.the-variants.{Bytes, Refused}
 

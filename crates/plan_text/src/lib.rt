@@ -1,17 +1,12 @@
 // The lines that the bench program prints (document 01, "The bench program"), written into lent bytes at a place.
 use bench::Fate;
+use bench::Shown;
 use refusal::Refusal;
 ghost use mathlib.Core.Path.{_≡_};
 ghost use Prim.Native.Nat.{_+_, _≤_, _<_};
 ghost use lib.Dec.{leb};
 ghost use lib.ListN.{length};
 ghost use Rattle.plan_text.specs.Text.{digits, fateText, glyph, numberThen, pasted, places, refusalText, shownText, slotText, writtenOf, PutAt};
-
-// The set to show, if there is a member.
-pub enum Shown {
-    Set(u32),
-    Nobody,
-}
 
 // What came of writing: the number of bytes, or why none was written.
 pub enum Written {

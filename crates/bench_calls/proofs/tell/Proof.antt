@@ -14,7 +14,7 @@ bytes-told-requires c κs = search needs
 
 put-bytes-requires : tie.Need-put-bytes-requires
 put-bytes-requires c κs =
-    let a = c .before .before .before .before .before .args in
+    let a = c .before .before .before .before .before .before .args in
     subst (λ (m : ℕ). (m ≤ 64) × (m ≤ length (now (a .pairs)))) (sym (c .before .bytes-told .ensures)) (told-fits (a .report) (length (now (a .pairs))))
 
 changed-by-requires : tie.Need-changed-by-requires
@@ -24,7 +24,9 @@ same-length : tie.Need-same-length
 same-length c = search needs
 
 returns : tie.Need-returns
-returns c = (c .changed-by .ensures, c .before .before .before .put-bytes .ensures ∙ ap (λ (j : ℕ). puts (c .before .before .before .before .before .before .before .before .before .args .report .told .bytes) j (now (c .before .before .before .before .before .before .before .before .before .args .pairs))) (c .before .before .before .before .before .bytes-told .ensures))
+returns c =
+    let a = c .before .before .before .before .before .before .before .before .before .before .args in
+    (c .changed-by .ensures, c .before .before .before .put-bytes .ensures ∙ ap (λ (j : ℕ). puts (a .report .notes .told .bytes) j (now (a .pairs))) (c .before .before .before .before .before .bytes-told .ensures))
 
 pub tell-spec : {M : Type 1} → statement M
 tell-spec =

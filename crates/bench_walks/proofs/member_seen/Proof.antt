@@ -26,7 +26,7 @@ add-t12 : tie.Need-add-t12
 add-t12 c = search needs
 
 returns : tie.Need-returns
-returns c = ap {B = Members} (λ (g : ℕ). record { survey = c .before .before .before .before .before .args .s; count = c .before .before .before .before .before .args .m .count + 1; sets = set (c .before .before .before .before .before .args .m .sets) (c .before .before .before .before .before .args .m .count) (c .before .before .before .before .before .args .set); greatest = g }) (c .before .before .larger .ensures ∙ ap (max (c .before .before .before .before .before .args .m .greatest)) (c .before .before .before .far-from .ensures))
+returns c = ap {B = Members} (λ (g : ℕ). record { count = c .before .before .before .before .before .args .m .count + 1; sets = set (c .before .before .before .before .before .args .m .sets) (c .before .before .before .before .before .args .m .count) (c .before .before .before .before .before .args .set); greatest = g }) (c .before .before .larger .ensures ∙ ap (max (c .before .before .before .before .before .args .m .greatest)) (c .before .before .before .far-from .ensures))
 
 pub member-seen-spec : {M : Type 1} → statement M
 member-seen-spec =

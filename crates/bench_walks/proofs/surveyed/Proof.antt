@@ -1,6 +1,7 @@
 -- `bench_walks::surveyed` meets its contract: the first record begins the survey. Assumes nothing.
 use borrow.Author.Needs.{needs}
 use mathlib.Core.Path.{sym, ap, _∙_}
+use mathlib.Core.Logic.{⊎-elim}
 use Rattle.nodeset.proofs.Tests.{chosen, otherwise}
 use borrow.Author.Tests.{eq-eqb, ne-eqb}
 use Rattle.bench_walks.specs.declared.Survey.{Survey}
@@ -16,14 +17,12 @@ seen-requires c κs = search needs
 
 returns : tie.Need-returns
 unfolding surveyed
-returns c = c .seen .ensures ∙ ap (λ (s : Survey). seen s (c .before .before .before .args .i) (c .before .before .before .args .v)) (c .before .begun .ensures ∙ sym (chosen _ _ (eq-eqb _ _ (c .before .before .if1 .taken))))
-
-seen-requires-2 : tie.Need-seen-requires-2
-seen-requires-2 c κs = search needs
-
-returns-2 : tie.Need-returns-2
-unfolding surveyed
-returns-2 c = c .seen2 .ensures ∙ ap (λ (s : Survey). seen s (c .before .before .args .i) (c .before .before .args .v)) (sym (otherwise _ _ (ne-eqb _ _ (c .before .if1 .left))))
+returns c =
+    let a = c .before .before .args in
+    c .seen .ensures ∙ ap (λ (s : Survey). seen s (a .i) (a .v)) (⊎-elim
+    (λ w. w .2 ∙ w .1 .ensures ∙ sym (chosen _ _ (eq-eqb _ _ (w .0 .taken))))
+    (λ w. w .1 ∙ sym (otherwise _ _ (ne-eqb _ _ (w .0 .left))))
+    (c .before .if1 .came))
 
 pub surveyed-spec : {M : Type 1} → statement M
-surveyed-spec = tie.close (tie.spec begun-requires seen-requires returns seen-requires-2 returns-2)
+surveyed-spec = tie.close (tie.spec begun-requires seen-requires returns)

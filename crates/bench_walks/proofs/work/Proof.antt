@@ -43,15 +43,15 @@ use denote.Triple.Walked.{says, Stays, stay-dropped, gave-slice, walkOf, goes-dr
 use denote.Exit.{yes}
 use Rattle.record.specs.declared.Node.{Node}
 use Rattle.bench_walks.specs.declared.Survey.{Survey}
-use Rattle.bench_walks.specs.declared.Told.{Told}
+use Rattle.bench_walks.specs.declared.Notes.{Notes}
 use Rattle.bench_walks.specs.declared.Report.{Report}
 use Rattle.bench_walks.specs.declared.Asked.{Asked}
 use Rattle.bench_walks.specs.declared.Order.{Order}
 use Rattle.record.proofs.Node as T
 use Rattle.bench_walks.proofs.Survey as S
 use Rattle.bench_walks.proofs.Survey.Laws as S′
-use Rattle.bench_walks.proofs.Told as P
-use Rattle.bench_walks.proofs.Told.Laws as P′
+use Rattle.bench_walks.proofs.Notes as P
+use Rattle.bench_walks.proofs.Notes.Laws as P′
 use Rattle.bench_walks.proofs.Report as R
 use Rattle.bench_walks.proofs.Report.Laws as R′
 use Rattle.bench_walks.proofs.Asked as Q
@@ -59,7 +59,7 @@ use Rattle.bench_walks.proofs.Asked.Laws as Q′
 use Rattle.bench_walks.proofs.Order as O
 use Rattle.bench_walks.proofs.Order.Laws as O′
 use Rattle.bench_walks.specs.Survey.{surveyOf}
-use Rattle.bench_walks.specs.Orders.{askedNode, orderOf, orderFor, carriedFrom, notedFrom, noPairs, reported, reportOf}
+use Rattle.bench_walks.specs.Orders.{askedNode, orderOf, orderFor, carriedFrom, noticedFrom, noNotes, reported, reportOf}
 use Rattle.bench_walks.proofs.Shared.{LentShared, lends-shared, shared-back}
 use Rattle.bench_walks.proofs.asked_node as asked-node
 use Rattle.bench_walks.proofs.asked_node.Symbol as asked-node-def
@@ -133,13 +133,13 @@ module _ {M : Type 1} (𝓤 : URA M) (H : Heap 𝓤) (A : Atoms 𝓤) (mem : Mem
   To-reporting = tripleOf 𝓤 H A reporting.signature (reporting.spec 𝓤 H A mem run)
 
   -- of what `reporting` ensures, the clause alone
-  said-reporting : (w : Order) (p : Told) (r : Report) → ent 𝓤 (ensured 𝓤 H A reporting.ended (reporting.clauses 𝓤 H A mem run) tt (w, (p, tt)) tt r) (fact 𝓤 (r ≡ reported w p))
+  said-reporting : (w : Order) (p : Notes) (r : Report) → ent 𝓤 (ensured 𝓤 H A reporting.ended (reporting.clauses 𝓤 H A mem run) tt (w, (p, tt)) tt r) (fact 𝓤 (r ≡ reported w p))
   said-reporting w p r = exE 𝓤 _ (λ ws. snd∗ 𝓤 (sem 𝓤 H A (lasts reporting.ended tt (w, (p, tt)) ws)) (fact 𝓤 (r ≡ reported w p)))
 
-  abbrev to-reporting : Order → Told → To-reporting .Ghost
+  abbrev to-reporting : Order → Notes → To-reporting .Ghost
   to-reporting w p = ((tt, tt, tt, (w, (p, tt)), (EL.val O.the-type O′.the-laws w ∷ [], (LL.val P.the-type P′.the-laws p ∷ [], tt))), tt)
 
-  goes-reporting : Given 𝓤 H A → (w : Order) (p : Told) → Is O.the-row w (EL.vals O.the-type O′.the-laws w) → Is P.the-row p (LL.vals P.the-type P′.the-laws p) → ent 𝓤 (sem 𝓤 H A ftrue) (To-reporting .pre (to-reporting w p))
+  goes-reporting : Given 𝓤 H A → (w : Order) (p : Notes) → Is O.the-row w (EL.vals O.the-type O′.the-laws w) → Is P.the-row p (LL.vals P.the-type P′.the-laws p) → ent 𝓤 (sem 𝓤 H A ftrue) (To-reporting .pre (to-reporting w p))
   goes-reporting W w p g-w g-p =
       qed W (‵ ftrue ∷ []) ∵ owned ! P.the-row (Is P.the-row) (LL.makes P.the-type P′.the-plain 𝓤 H A) p _ g-p $ fjoin ! $ owned ! O.the-row (Is O.the-row) (EL.makes O.the-type O′.the-plain 𝓤 H A) w _ g-w $ fjoin ! $ nothing ! $ join ! $ nothing ! $ move ! (1 ∷ 0 ∷ []) $ join ! $ done !
 
@@ -210,10 +210,10 @@ module _ {M : Type 1} (𝓤 : URA M) (H : Heap 𝓤) (A : Atoms 𝓤) (W : Given
         assigns ! (agg ! (and-then ! (load ! (from ! (stop !)) (look ! 4 refl)) (and-then ! (load ! (from ! (fld ! refl (stop !))) (look-in ! 22 (sub ! 1 refl (whole !)))) (no-more !)))) (from ! (stop !)) (init ! 2 refl (tt, (tt, (record { fits = room .0 }, tt)))) $
         use2 W (raw (To-carry-out 𝓤 H A mem run .pre (to-carry w))) (goes-carry w g-w) $
         calls-at ! (fmOf 𝓤 H (W .laws) 𝓣) (To-carry-out 𝓤 H A mem run) known-carry-out (to-carry w) (and-then ! (load ! (from ! (stop !)) (look ! 1 refl)) (and-then ! (load ! (from ! (stop !)) (look ! 13 refl)) (no-more !))) (λ v-p.
-        use1 W (later (some (λ (r : Told). ((‵ (flft κ q) ⊛ ‵ ftrue) ⊛ ‵ (P.the-row .own r (v-p ∷ []))) ⊛ raw (ensured 𝓤 H A carry-out.ended (carry-out.clauses 𝓤 H A mem run) (κ, tt) (x γ, (w, tt)) tt r)))) (id⊢ 𝓤 _) $ await ! tt $ pick ! (λ p.
+        use1 W (later (some (λ (r : Notes). ((‵ (flft κ q) ⊛ ‵ ftrue) ⊛ ‵ (P.the-row .own r (v-p ∷ []))) ⊛ raw (ensured 𝓤 H A carry-out.ended (carry-out.clauses 𝓤 H A mem run) (κ, tt) (x γ, (w, tt)) tt r)))) (id⊢ 𝓤 _) $ await ! tt $ pick ! (λ p.
         -- what `carry_out` ensures, at some last list
-        split ! $ move ! (1 ∷ []) $ use1 W (some (λ (zs : List Node × (Unit {0} × Unit {0})). ‵ (lasts carry-out.ended (κ, tt) (x γ, (w, tt)) zs) ⊛ raw (fact 𝓤 ((zs .0 ≡ carriedFrom w 0 xs) × (p ≡ notedFrom w noPairs 0 xs))))) (id⊢ 𝓤 _) $ pick ! (λ zs.
-        split ! $ move ! (1 ∷ []) $ heard ! ((zs .0 ≡ carriedFrom w 0 xs) × (p ≡ notedFrom w noPairs 0 xs)) (λ e. fsplit ! $ fsplit ! $ move ! (1 ∷ []) $ feqL ! (λ same.
+        split ! $ move ! (1 ∷ []) $ use1 W (some (λ (zs : List Node × (Unit {0} × Unit {0})). ‵ (lasts carry-out.ended (κ, tt) (x γ, (w, tt)) zs) ⊛ raw (fact 𝓤 ((zs .0 ≡ carriedFrom w 0 xs) × (p ≡ noticedFrom w noNotes 0 xs))))) (id⊢ 𝓤 _) $ pick ! (λ zs.
+        split ! $ move ! (1 ∷ []) $ heard ! ((zs .0 ≡ carriedFrom w 0 xs) × (p ≡ noticedFrom w noNotes 0 xs)) (λ e. fsplit ! $ fsplit ! $ move ! (1 ∷ []) $ feqL ! (λ same.
         move ! (2 ∷ []) $
         split ! $
         move ! (1 ∷ []) $

@@ -1,10 +1,9 @@
 -- `plan_run::opened_by` meets its contract, case by case. Assumes nothing.
 use borrow.Author.Needs.{needs}
 use mathlib.Core.Path.{sym, ap, _∙_}
+use Rattle.bench.specs.declared.Outcome.the-variants as outcome
 use Rattle.doors.specs.Doors.{Rows, setUpOf}
-use Rattle.plan_run.specs.declared.Report.{Report}
-use Rattle.plan_run.specs.declared.Report.the-variants as report
-use Rattle.plan_run.specs.Run.{switched, openedBy}
+use Rattle.plan_run.specs.Run.{openedAs, openedBy}
 use Rattle.plan_run.proofs.opened_by.Statement.{statement}
 use Rattle.plan_run.proofs.opened_by.Tie as tie
 
@@ -17,9 +16,6 @@ no-rows-requires c κs = search needs
 set-up-requires : tie.Need-set-up-requires
 set-up-requires c κs = search needs
 
-answer-report-requires : tie.Need-answer-report-requires
-answer-report-requires c κs = search needs
-
 enum-known-opening-2 : tie.Need-enum-known-opening-2
 enum-known-opening-2 c = search needs
 
@@ -28,16 +24,13 @@ no-rows-requires-2 c κs = search needs
 
 returns : tie.Need-returns
 returns c =
-    let e = c .before .before .before .before .before .opening .given in
-    let r = c .before .before .set-up .result in
-    ap (λ (x : Report). record { n = e .0 .0; rows = r .rows; report = x }) (c .answer-report .ensures)
-    ∙ ap (switched (e .0 .0)) (c .before .before .set-up .ensures ∙ ap (λ (x : Rows). setUpOf (e .0 .0) (e .0 .1 .0) x) (c .before .before .before .no-rows .ensures))
-    ∙ sym (ap openedBy (e .1))
+    let e = c .before .before .before .before .opening .given in
+    ap (openedAs (e .0 .0)) (c .before .set-up .ensures ∙ ap (λ (x : Rows). setUpOf (e .0 .0) (e .0 .1 .0) x) (c .before .before .no-rows .ensures)) ∙ sym (ap openedBy (e .1))
 
 returns-2 : tie.Need-returns-2
 returns-2 c =
     let e = c .before .before .opening2 .given in
-    ap (λ (x : Rows). record { n = 0; rows = x; report = report.Refused (e .0 .0) }) (c .no-rows2 .ensures) ∙ sym (ap openedBy (e .1))
+    ap (λ (x : Rows). record { n = 0; rows = x; outcome = outcome.Refused (e .0 .0) }) (c .no-rows2 .ensures) ∙ sym (ap openedBy (e .1))
 
 pub opened-by-spec : {M : Type 1} → statement M
 opened-by-spec =
@@ -46,7 +39,6 @@ opened-by-spec =
     enum-known-opening
     no-rows-requires
     set-up-requires
-    answer-report-requires
     enum-known-opening-2
     no-rows-requires-2
     returns

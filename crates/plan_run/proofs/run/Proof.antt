@@ -1,12 +1,15 @@
--- `plan_run::run` meets its contract: it runs what the line says. Assumes nothing.
+-- `plan_run::run` meets its contract: it does what the line says. Assumes nothing.
 use borrow.Author.Needs.{needs}
 use mathlib.Core.Path.{ap, _∙_}
-use Rattle.plan_run.specs.Run.{ranBy, ranOf}
+use Rattle.plan_run.specs.Run.{actOf, ranBy, ranOf}
 use Rattle.plan_run.proofs.run.Statement.{statement}
 use Rattle.plan_run.proofs.run.Tie as tie
 
 order-of-requires : tie.Need-order-of-requires
 order-of-requires c κs = search needs
+
+act-of-requires : tie.Need-act-of-requires
+act-of-requires c κs = search needs
 
 ran-by-requires : tie.Need-ran-by-requires
 ran-by-requires c κs = search needs
@@ -14,8 +17,8 @@ ran-by-requires c κs = search needs
 returns : tie.Need-returns
 unfolding ranOf
 returns c =
-    let a = c .before .before .before .args in
-    c .ran-by .ensures ∙ ap (ranBy (a .n) (a .rows)) (c .before .order-of .ensures)
+    let a = c .before .before .before .before .args in
+    c .ran-by .ensures ∙ ap (ranBy (a .n) (a .rows)) (c .before .act-of .ensures ∙ ap actOf (c .before .before .order-of .ensures))
 
 pub run-spec : {M : Type 1} → statement M
-run-spec = tie.close (tie.spec order-of-requires ran-by-requires returns)
+run-spec = tie.close (tie.spec order-of-requires act-of-requires ran-by-requires returns)

@@ -4,7 +4,7 @@ use mathlib.Core.Path.{sym, ap, _∙_}
 use Rattle.nodeset.proofs.Tests.{failed, passed, chosen, otherwise}
 use borrow.Author.Tests.{le-leb, lt-leb, lt-ltb, le-ltb}
 use Rattle.bench_walks.specs.declared.Order.{Order}
-use Rattle.message.specs.declared.Reading.{Reading}
+use Rattle.bench_walks.specs.declared.Turn.{Turn}
 use Rattle.bench_walks.specs.declared.Order.the-variants as order
 use Rattle.bench_walks.proofs.orders.slot_order.Statement.{statement}
 use Rattle.bench_walks.proofs.orders.slot_order.Tie as tie
@@ -27,11 +27,11 @@ returns-3 c = sym (chosen _ _ (passed (c .before .before .before .before .before
 returns-4 : tie.Need-returns-4
 returns-4 c = sym (chosen _ _ (passed (c .before .before .before .before .before .before .is-fine .ensures) (c .before .before .before .before .before .if1 .left)) ∙ chosen _ _ (passed (c .before .before .before .before .is-within .ensures) (c .before .before .before .if2 .left)) ∙ chosen _ _ (lt-ltb _ _ (c .before .if3 .left)) ∙ otherwise _ _ (lt-leb _ _ (c .if4 .taken)))
 
-said-by-requires : tie.Need-said-by-requires
-said-by-requires c κs = search needs
+turn-of-requires : tie.Need-turn-of-requires
+turn-of-requires c κs = search needs
 
 returns-5 : tie.Need-returns-5
-returns-5 c = ap {B = Order} (λ (h : Reading). order.Slot h (c .before .before .before .before .before .before .before .before .before .args .missed)) (c .said-by .ensures) ∙ sym (chosen _ _ (passed (c .before .before .before .before .before .before .before .is-fine .ensures) (c .before .before .before .before .before .before .if1 .left)) ∙ chosen _ _ (passed (c .before .before .before .before .before .is-within .ensures) (c .before .before .before .before .if2 .left)) ∙ chosen _ _ (lt-ltb _ _ (c .before .before .if3 .left)) ∙ chosen _ _ (le-leb _ _ (c .before .if4 .left)))
+returns-5 c = ap {B = Order} (λ (t : Turn). order.Slot t) (c .turn-of .ensures) ∙ sym (chosen _ _ (passed (c .before .before .before .before .before .before .before .is-fine .ensures) (c .before .before .before .before .before .before .if1 .left)) ∙ chosen _ _ (passed (c .before .before .before .before .before .is-within .ensures) (c .before .before .before .before .if2 .left)) ∙ chosen _ _ (lt-ltb _ _ (c .before .before .if3 .left)) ∙ chosen _ _ (le-leb _ _ (c .before .if4 .left)))
 
 pub slot-order-spec : {M : Type 1} → statement M
 slot-order-spec =
@@ -43,5 +43,5 @@ slot-order-spec =
     returns-2
     returns-3
     returns-4
-    said-by-requires
+    turn-of-requires
     returns-5)

@@ -1,55 +1,77 @@
--- `bench_walks::pairs::same_state` meets its contract: its tests are those of the definition. Assumes nothing.
+-- `bench_walks::pairs::same_state` meets its contract: in each state of the one record the definition is the test of that state of the other. Assumes nothing.
 use borrow.Author.Needs.{needs}
-use mathlib.Core.Path.{ap₂}
-use mathlib.Core.Bool.{_&&_, _||_}
+use mathlib.Core.Path.{_≡_, refl, sym, ap, _∙_}
+use mathlib.Core.Bool.{Bool, true, false, _||_}
+use Rattle.record.specs.declared.State.{State}
+use Rattle.bench.specs.Pairs.{sameState}
 use Rattle.bench_walks.proofs.pairs.same_state.Statement.{statement}
 use Rattle.bench_walks.proofs.pairs.same_state.Tie as tie
+
+or-none : (b : Bool) → (b || false) ≡ b
+or-none true = refl
+or-none false = refl
+
+enum-told : tie.Need-enum-told
+enum-told c = search needs
 
 is-member-requires : tie.Need-is-member-requires
 is-member-requires c κs = search needs
 
-is-member-requires-2 : tie.Need-is-member-requires-2
-is-member-requires-2 c κs = search needs
+enum-told-2 : tie.Need-enum-told-2
+enum-told-2 c = search needs
 
 is-listening-requires : tie.Need-is-listening-requires
 is-listening-requires c κs = search needs
 
-is-listening-requires-2 : tie.Need-is-listening-requires-2
-is-listening-requires-2 c κs = search needs
+enum-told-3 : tie.Need-enum-told-3
+enum-told-3 c = search needs
 
 is-following-requires : tie.Need-is-following-requires
 is-following-requires c κs = search needs
 
-is-following-requires-2 : tie.Need-is-following-requires-2
-is-following-requires-2 c κs = search needs
+enum-told-4 : tie.Need-enum-told-4
+enum-told-4 c = search needs
 
 is-knocking-requires : tie.Need-is-knocking-requires
 is-knocking-requires c κs = search needs
 
-is-knocking-requires-2 : tie.Need-is-knocking-requires-2
-is-knocking-requires-2 c κs = search needs
+enum-told-5 : tie.Need-enum-told-5
+enum-told-5 c = search needs
 
 is-out-requires : tie.Need-is-out-requires
 is-out-requires c κs = search needs
 
-is-out-requires-2 : tie.Need-is-out-requires-2
-is-out-requires-2 c κs = search needs
-
 returns : tie.Need-returns
-returns c = ap₂ _||_ (ap₂ _&&_ (c .before .before .before .before .before .before .before .before .before .is-member .ensures) (c .before .before .before .before .before .before .before .before .is-member2 .ensures)) (ap₂ _||_ (ap₂ _&&_ (c .before .before .before .before .before .before .before .is-listening .ensures) (c .before .before .before .before .before .before .is-listening2 .ensures)) (ap₂ _||_ (ap₂ _&&_ (c .before .before .before .before .before .is-following .ensures) (c .before .before .before .before .is-following2 .ensures)) (ap₂ _||_ (ap₂ _&&_ (c .before .before .before .is-knocking .ensures) (c .before .before .is-knocking2 .ensures)) (ap₂ _&&_ (c .before .is-out .ensures) (c .is-out2 .ensures)))))
+returns c = c .is-member .ensures ∙ sym (or-none _) ∙ sym (ap (λ (a : State). sameState a (c .before .before .before .args .b)) (c .before .enum-told .given .1))
+
+returns-2 : tie.Need-returns-2
+returns-2 c = c .is-listening .ensures ∙ sym (or-none _) ∙ sym (ap (λ (a : State). sameState a (c .before .before .before .args .b)) (c .before .enum-told2 .given .1))
+
+returns-3 : tie.Need-returns-3
+returns-3 c = c .is-following .ensures ∙ sym (or-none _) ∙ sym (ap (λ (a : State). sameState a (c .before .before .before .args .b)) (c .before .enum-told3 .given .1))
+
+returns-4 : tie.Need-returns-4
+returns-4 c = c .is-knocking .ensures ∙ sym (or-none _) ∙ sym (ap (λ (a : State). sameState a (c .before .before .before .args .b)) (c .before .enum-told4 .given .1))
+
+returns-5 : tie.Need-returns-5
+returns-5 c = search needs
 
 pub same-state-spec : {M : Type 1} → statement M
 same-state-spec =
     tie.close
     (tie.spec
+    enum-told
     is-member-requires
-    is-member-requires-2
+    enum-told-2
     is-listening-requires
-    is-listening-requires-2
+    enum-told-3
     is-following-requires
-    is-following-requires-2
+    enum-told-4
     is-knocking-requires
-    is-knocking-requires-2
+    enum-told-5
     is-out-requires
-    is-out-requires-2
-    returns)
+    returns
+    returns-2
+    returns-3
+    returns-4
+    returns-5)

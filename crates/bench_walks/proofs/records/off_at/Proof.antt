@@ -1,20 +1,19 @@
--- `bench_walks::records::off_at` meets its contract: its tests are those of the definition. Assumes nothing.
+-- `bench_walks::records::off_at` meets its contract: its test is that of the definition. Assumes nothing.
 use borrow.Author.Needs.{needs}
-use mathlib.Core.Path.{sym, ap, _∙_}
+use mathlib.Core.Path.{sym, _∙_}
 use Rattle.nodeset.proofs.Tests.{chosen, otherwise}
 use borrow.Author.Tests.{eq-eqb, ne-eqb}
-use Rattle.node.specs.declared.Stepped.{Stepped}
 use Rattle.bench_walks.proofs.records.off_at.Statement.{statement}
 use Rattle.bench_walks.proofs.records.off_at.Tie as tie
 
 returns : tie.Need-returns
 returns c = sym (otherwise _ _ (ne-eqb _ _ (c .if1 .taken)))
 
-off-requires : tie.Need-off-requires
-off-requires c κs = search needs
+out-for-requires : tie.Need-out-for-requires
+out-for-requires c κs = search needs
 
 returns-2 : tie.Need-returns-2
-returns-2 c = ap (λ (s : Stepped). s .node) (c .before .off .ensures) ∙ sym (chosen _ _ (eq-eqb _ _ (c .before .before .if1 .left)))
+returns-2 c = c .out-for .ensures ∙ sym (chosen _ _ (eq-eqb _ _ (c .before .if1 .left)))
 
 pub off-at-spec : {M : Type 1} → statement M
-off-at-spec = tie.close (tie.spec returns off-requires returns-2)
+off-at-spec = tie.close (tie.spec returns out-for-requires returns-2)

@@ -1,27 +1,27 @@
--- `bench_walks::records::step_at` meets its contract: its tests are those of the definition. Assumes nothing.
+-- `bench_walks::records::step_at` meets its contract: what its node hears and the record that is stepped are those of the definition. Assumes nothing.
 use borrow.Author.Needs.{needs}
-use mathlib.Core.Path.{sym, ap, _∙_}
-use Rattle.nodeset.proofs.Tests.{told, chosen, otherwise}
+use mathlib.Core.Path.{ap, _∙_}
 use Rattle.message.specs.declared.Reading.{Reading}
-use Rattle.node.specs.declared.Stepped.{Stepped}
-use Rattle.node.specs.Calls.{stepOf}
+use Rattle.record.specs.declared.Node.{Node}
+use Rattle.node.specs.Slot.{afterBy}
+use Rattle.bench_walks.specs.Orders.{heardAt}
 use Rattle.bench_walks.proofs.records.step_at.Statement.{statement}
 use Rattle.bench_walks.proofs.records.step_at.Tie as tie
 
-has-requires : tie.Need-has-requires
-has-requires c κs = search needs
+heard-at-requires : tie.Need-heard-at-requires
+heard-at-requires c κs = search needs
 
-step-requires : tie.Need-step-requires
-step-requires c κs = search needs
+numbered-requires : tie.Need-numbered-requires
+numbered-requires c κs = search needs
+
+after-slot-requires : tie.Need-after-slot-requires
+after-slot-requires c κs = search needs
 
 returns : tie.Need-returns
-returns c = ap (λ (s : Stepped). s .node) (c .before .step .ensures) ∙ ap (λ (h : Reading). stepOf h (c .before .before .before .before .args .v) .node) (sym (chosen _ _ (told (c .before .before .before .has .ensures) (c .before .before .if1 .taken))))
-
-step-requires-2 : tie.Need-step-requires-2
-step-requires-2 c κs = search needs
-
-returns-2 : tie.Need-returns-2
-returns-2 c = ap (λ (s : Stepped). s .node) (c .before .step2 .ensures) ∙ ap (λ (h : Reading). stepOf h (c .before .before .before .before .args .v) .node) (sym (otherwise _ _ (told (c .before .before .before .has .ensures) (c .before .before .if1 .left))))
+returns c =
+    let turn = c .before .before .before .before .args .turn in
+    let v = c .before .before .before .before .args .v in
+    c .after-slot .ensures ∙ ap (λ (h : Reading). afterBy (turn .lesson) (turn .sender) h (c .before .numbered .result)) (c .before .before .before .heard-at .ensures) ∙ ap (λ (w : Node). afterBy (turn .lesson) (turn .sender) (heardAt turn v) w) (c .before .numbered .ensures)
 
 pub step-at-spec : {M : Type 1} → statement M
-step-at-spec = tie.close (tie.spec has-requires step-requires returns step-requires-2 returns-2)
+step-at-spec = tie.close (tie.spec heard-at-requires numbered-requires after-slot-requires returns)

@@ -1,0 +1,42 @@
+-- `bench_walks::orders::turn_of` meets its contract: its parts are those of the definition. Assumes nothing.
+use borrow.Author.Needs.{needs}
+use Prim.Native.Nat.{ℕ, _+_}
+use mathlib.Core.Path.{ap, _∙_}
+use Rattle.bench.specs.declared.Fate.{Fate}
+use Rattle.message.specs.declared.Reading.{Reading}
+use Rattle.steps.specs.declared.Lesson.{Lesson}
+use Rattle.steps.specs.Lessons.{lessonOf}
+use Rattle.bench_walks.specs.declared.Turn.{Turn}
+use Rattle.bench_walks.specs.Orders.{fateBy}
+use Rattle.bench_walks.proofs.orders.turn_of.Statement.{statement}
+use Rattle.bench_walks.proofs.orders.turn_of.Tie as tie
+
+abbrev made : ℕ → ℕ → ℕ → Fate → Reading → Lesson → Turn
+made slots sender missed fate heard lesson = record { slot = slots + 1; sender = sender; fate = fate; heard = heard; missed = missed; lesson = lesson }
+
+fate-of-requires : tie.Need-fate-of-requires
+fate-of-requires c κs = search needs
+
+said-by-requires : tie.Need-said-by-requires
+said-by-requires c κs = search needs
+
+lesson-of-requires : tie.Need-lesson-of-requires
+lesson-of-requires c κs = search needs
+
+add-t8 : tie.Need-add-t8
+add-t8 c = search needs
+
+returns : tie.Need-returns
+returns c =
+    let a = c .before .before .before .before .before .args in
+    let s = a .s in
+    let fate = c .before .before .before .fate-of in
+    let said = c .before .before .said-by in
+    let told = c .before .lesson-of in
+    ap (λ (f : Fate). made (s .slots) (s .sender) (a .missed) f (said .result) (told .result)) (fate .ensures)
+    ∙ ap (λ (l : Lesson). made (s .slots) (s .sender) (a .missed) (fateBy (a .lost) (s .speaker)) (said .result) l) (told .ensures)
+    ∙ ap (λ (h : Reading). made (s .slots) (s .sender) (a .missed) (fateBy (a .lost) (s .speaker)) h (lessonOf (s .sender) h (s .speaker))) (said .ensures)
+
+pub turn-of-spec : {M : Type 1} → statement M
+turn-of-spec =
+    tie.close (tie.spec fate-of-requires said-by-requires lesson-of-requires add-t8 returns)

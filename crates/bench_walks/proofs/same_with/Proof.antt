@@ -1,0 +1,55 @@
+-- `bench_walks::same_with` meets its contract, case by case. Assumes nothing.
+use borrow.Author.Needs.{needs}
+use mathlib.Core.Path.{_≡_, refl, sym, ap, _∙_}
+use mathlib.Core.Bool.{true, false}
+use Rattle.nodeset.proofs.Tests.{failed, passed, chosen, otherwise}
+use Rattle.record.specs.declared.Node.{Node}
+use Rattle.record.specs.States.{isMember}
+use Rattle.bench.specs.declared.Listed.{Listed}
+use Rattle.bench.specs.declared.Listed.the-variants as listed
+use Rattle.bench_walks.specs.Orders.{sameWith}
+use Rattle.bench_walks.proofs.same_with.Statement.{statement}
+use Rattle.bench_walks.proofs.same_with.Tie as tie
+
+-- who is no member holds no list
+no-member : (l : Listed) (v : Node) → isMember (v .state) ≡ false → sameWith l v ≡ true
+no-member (listed.Set set) v e = otherwise _ _ e
+no-member listed.Nobody v e = refl
+no-member (listed.Refused cause) v e = refl
+
+is-member-requires : tie.Need-is-member-requires
+is-member-requires c κs = search needs
+
+returns : tie.Need-returns
+returns c = sym (no-member (c .before .before .args .list) (c .before .before .args .v) (failed (c .before .is-member .ensures) (c .if1 .taken)))
+
+enum-known-list : tie.Need-enum-known-list
+enum-known-list c = search needs
+
+enum-told : tie.Need-enum-told
+enum-told c = search needs
+
+enum-told-2 : tie.Need-enum-told-2
+enum-told-2 c = search needs
+
+returns-2 : tie.Need-returns-2
+returns-2 c = sym (ap (λ (l : Listed). sameWith l (c .before .before .before .before .before .before .args .v)) (c .before .before .list .given .1) ∙ chosen _ _ (passed (c .before .before .before .before .before .is-member .ensures) (c .before .before .before .before .if1 .left)))
+
+returns-3 : tie.Need-returns-3
+returns-3 c = sym (ap (λ (l : Listed). sameWith l (c .before .before .before .before .args .v)) (c .enum-told .given .1))
+
+returns-4 : tie.Need-returns-4
+returns-4 c = sym (ap (λ (l : Listed). sameWith l (c .before .before .before .before .args .v)) (c .enum-told2 .given .1))
+
+pub same-with-spec : {M : Type 1} → statement M
+same-with-spec =
+    tie.close
+    (tie.spec
+    is-member-requires
+    returns
+    enum-known-list
+    enum-told
+    enum-told-2
+    returns-2
+    returns-3
+    returns-4)

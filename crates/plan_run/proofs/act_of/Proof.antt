@@ -1,0 +1,59 @@
+-- `plan_run::act_of` meets its contract, case by case. Assumes nothing.
+use borrow.Author.Needs.{needs}
+use mathlib.Core.Path.{sym, ap}
+use Rattle.plan_run.specs.Run.{actOf}
+use Rattle.plan_run.proofs.act_of.Statement.{statement}
+use Rattle.plan_run.proofs.act_of.Tie as tie
+
+enum-told : tie.Need-enum-told
+enum-told c = search needs
+
+enum-told-2 : tie.Need-enum-told-2
+enum-told-2 c = search needs
+
+enum-known-order : tie.Need-enum-known-order
+enum-known-order c = search needs
+
+enum-known-order-2 : tie.Need-enum-known-order-2
+enum-known-order-2 c = search needs
+
+enum-known-order-3 : tie.Need-enum-known-order-3
+enum-known-order-3 c = search needs
+
+enum-known-order-4 : tie.Need-enum-known-order-4
+enum-known-order-4 c = search needs
+
+returns : tie.Need-returns
+returns c = search needs
+
+returns-2 : tie.Need-returns-2
+returns-2 c = search needs
+
+returns-3 : tie.Need-returns-3
+returns-3 c = sym (ap actOf (c .before .order .given .1))
+
+returns-4 : tie.Need-returns-4
+returns-4 c = sym (ap actOf (c .before .order2 .given .1))
+
+returns-5 : tie.Need-returns-5
+returns-5 c = sym (ap actOf (c .before .order3 .given .1))
+
+returns-6 : tie.Need-returns-6
+returns-6 c = sym (ap actOf (c .before .order4 .given .1))
+
+pub act-of-spec : {M : Type 1} → statement M
+act-of-spec =
+    tie.close
+    (tie.spec
+    enum-told
+    enum-told-2
+    enum-known-order
+    enum-known-order-2
+    enum-known-order-3
+    enum-known-order-4
+    returns
+    returns-2
+    returns-3
+    returns-4
+    returns-5
+    returns-6)
