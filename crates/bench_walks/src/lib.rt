@@ -15,10 +15,8 @@ use orders::set_up_order;
 use orders::slot_order;
 use pairs::kind_from;
 use pairs::same_state;
-use record::Cause;
 use record::Node;
 use record::State;
-use record::Window;
 use records::off_at;
 use records::place_of;
 use records::restart_at;
@@ -107,31 +105,11 @@ pub struct Report {
     pub notes: Notes,
 }
 
-// A record of no node.
-const NO_NODE: Node = Node {
-    n: 0,
-    k: 0,
-    own: 0,
-    slots: 0,
-    state: State::Out(Cause::SwitchedOff),
-    set: 0,
-    present: 0,
-    returning: 0,
-    return_heard: false,
-    listening: Window {
-        done: 0,
-        heard: 0,
-        shortest: 0,
-        return_seen: false,
-        last: 0,
-    },
-};
-
 // A survey of nothing.
 fn unseen(asked: u32) -> Survey
     ensures { λ r. ⌜ r ≡ unseen asked ⌝ }
 {
-    let v = NO_NODE;
+    let v = node::NO_NODE;
     begun(false, asked, v)
 }
 
