@@ -1,2 +1,3 @@
 pub mod agreement
 pub mod SlotKinds
+pub mod Computed

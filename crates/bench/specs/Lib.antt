@@ -4,4 +4,3 @@ pub mod Pairs
 pub mod Outcomes
 pub mod Runs
 pub mod Demand
-pub mod Computed

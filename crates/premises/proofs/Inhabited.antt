@@ -14,7 +14,7 @@ use Rattle.bench.specs.Table.{Table}
 use Rattle.bench.specs.Calls.{setUpOf}
 use Rattle.bench.specs.Runs.{tableAfter}
 use Rattle.bench.specs.Demand.{Premises, Claims, Demand3}
-use Rattle.bench.specs.Computed.{computed}
+use Rattle.bench.proofs.Computed.{computed}
 use Rattle.bench.proofs.agreement.Places.{Placed}
 use Rattle.bench.proofs.agreement.Runs.{start-placed}
 use Rattle.bench.proofs.agreement.Demanded.{demand3}

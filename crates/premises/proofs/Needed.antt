@@ -13,7 +13,7 @@ use Rattle.bench.specs.Table.{Table, slotsOf}
 use Rattle.bench.specs.Calls.{setUpOf, greatest}
 use Rattle.bench.specs.Runs.{Call, tableAfter}
 use Rattle.bench.specs.Demand.{Failed, isDecided, Premises}
-use Rattle.bench.specs.Computed.{computed}
+use Rattle.bench.proofs.Computed.{computed}
 use Rattle.bench.proofs.agreement.Places.{Placed}
 use Rattle.bench.proofs.agreement.Runs.{start-placed, run-length}
 use Rattle.bench.proofs.agreement.Throughout.{nothing-apart}
