@@ -1,37 +1,34 @@
 -- An order carried out (bench_walks' specs/Orders) is the call that asked for it (bench's specs/Calls): off, restart, set-up and slot. The survey decides as the table does
 -- (`Surveys.antt`), and in a sound table a record's own number is its place. In a slot each record goes by the lesson of the speaker's record,
 -- which is what it would find by itself (node's proofs/Taught). Assumes nothing.
-use Prim.Native.Nat.{ℕ, suc, _+_, _-_, _^_, _<_, _≤_}
+use Prim.Native.Nat.{ℕ, suc, _+_, _-_, _<_, _≤_}
 use mathlib.Core.Path.{_≡_, refl, sym, ap, ap₂, _∙_}
-use mathlib.Core.Bool.{Bool, true, false, cond, _&&_, _||_, true≢false}
+use mathlib.Core.Bool.{Bool, true, false, cond, _||_, true≢false}
 use mathlib.Core.List.{List, [], _∷_}
 use native.Mathlib.Omega.{arith}
 use native.Mathlib.Numerals.{add-one}
-use native.Mathlib.Nat.{lt-of-lt-of-le}
 use lib.Dec.{eqb, leb, ltb}
 use lib.ListN.{length, getD}
-use lib.Pow.{pow-mono}
 use borrow.Author.Tests.{eqb-true, ltb-true, lt-ltb}
 use Rattle.refusal.specs.declared.Refusal.{Refusal}
 use Rattle.refusal.specs.declared.Refusal.the-variants.{RingSize, SponsorCount, Unsound, OutputShort}
-use Rattle.nodeset.specs.Sets.{has, within, subset}
-use Rattle.nodeset.proofs.Tests.{by-cases, both, chosen}
+use Rattle.nodeset.specs.Sets.{has, within}
+use Rattle.nodeset.proofs.Tests.{by-cases, chosen}
 use Rattle.ring.specs.Ring.{ringSize, sponsorCount, nodeNumber, sender}
-use Rattle.ring.proofs.Ranges.{ring-size, node-number}
+use Rattle.ring.proofs.Ranges.{ring-size}
 use Rattle.ring.proofs.Senders.{sender-range}
 use Rattle.message.specs.declared.Reading.{Reading}
 use Rattle.record.specs.declared.Node.{Node}
 use Rattle.record.specs.declared.Cause.the-variants.{SwitchedOff}
 use Rattle.record.specs.States.{isOut}
 use Rattle.record.specs.Soundness.{sound, limit}
-use Rattle.record.proofs.Facts.{clauses}
 use Rattle.changes.specs.Changes.{starting, outFor, fresh}
 use Rattle.steps.specs.Steps.{isHeard}
 use Rattle.node.specs.declared.Stepped.{Stepped}
 use Rattle.node.specs.Slot.{afterSlot}
 use Rattle.node.specs.Calls as node
 use Rattle.node.specs.Calls.{noNode}
-use Rattle.node.proofs.Taught.{after-taught}
+use Rattle.node.proofs.Taught.{after-taught, sound-own, sound-marks}
 use Rattle.bench_walks.specs.declared.Asked.the-variants as asked
 use Rattle.bench_walks.specs.declared.Order.{Order}
 use Rattle.bench_walks.specs.declared.Order.the-variants as order
@@ -164,15 +161,6 @@ heard-said : (b : Bool) (r : Reading) → isHeard (cond b unheard r) ≡ true �
 heard-said true r e = absurd (true≢false (sym e))
 heard-said false r e = refl
 
--- the marks of a sound record are a u32
-marks-fit : (v : Node) → sound v ≡ true → v .present < 2 ^ 32
-marks-fit v e =
-    let c = clauses v e in
-    let most = ring-size (v .n) (c .ring) .1 in
-    let sets = both (within (v .n) (v .set)) (within (v .n) (v .present) && subset (v .present) (v .set)) (c .sets) .1 in
-    let marks = ltb-true (v .present) (2 ^ (v .n)) (both (within (v .n) (v .present)) (subset (v .present) (v .set)) sets .0) in
-    lt-of-lt-of-le marks (pow-mono {i = v .n} {j = 32} most)
-
 -- a record in its place does in a slot what the node call does
 module _ (lost : Bool) (missed : ℕ) (t : Table) (ok : tableSound t ≡ true) (s : Said 0 t) (below : slotsOf t < limit) where
   abbrev survey : Survey
@@ -200,7 +188,7 @@ module _ (lost : Bool) (missed : ℕ) (t : Table) (ok : tableSound t ≡ true) (
   unfolding speaker
   step-is j v u p =
       after-taught (turn .sender) (turn .heard) (heardAt turn v) (survey .speaker) (numbered (turn .slot) v) (heard-said (has missed (v .own)) (turn .heard))
-      (p .ring ∙ sym speaker-n) (p .sponsors ∙ sym speaker-k) (node-number (v .n) (v .own) (clauses v (p .good) .own) .0) (marks-fit v (p .good))
+      (p .ring ∙ sym speaker-n) (p .sponsors ∙ sym speaker-k) (sound-own v (p .good)) (sound-marks v (p .good))
       ∙ ap₂ (λ (x : ℕ) (r : Reading). afterSlot x r (numbered (turn .slot) v)) sender-at heard-at
       ∙ ap (λ (m : ℕ). afterSlot (sender (v .n) (v .slots + 1)) (heardBy lost missed t (suc j)) (numbered m v)) slot-at
       ∙ sym (ap (λ (d : Stepped). d .node) (step-done (heardBy lost missed t (suc j)) v (p .good) (omega (arith, below, p .slot))))
