@@ -73,10 +73,11 @@ fn time(programs: &Programs, size: (u32, u32, u64)) {
     let ratios: Vec<f64> = model.iter().zip(&tested).map(|(model, tested)| model / tested).collect();
     let shown: Vec<String> = ratios.iter().map(|ratio| format!("{ratio:.2}")).collect();
     let (n, k, slots) = size;
+    let (tested, model) = (median(tested), median(model));
     println!(
-        "| {n} | {k} | {slots} | {:.3} | {:.3} | {} | {:.2} |",
-        median(tested),
-        median(model),
+        "| {n} | {k} | {slots} | {tested:.3} | {model:.3} | {:.0} | {:.0} | {} | {:.2} |",
+        slots as f64 / tested,
+        slots as f64 / model,
         shown.join(" "),
         median(ratios)
     );
@@ -93,10 +94,12 @@ fn weigh(programs: &Programs, size: (u32, u32, u64)) {
 fn main() {
     let programs = programs();
     println!(
-        "Processor time in seconds, the median of {RUNS} runs; each ratio is model time / program time.\n"
+        "Processor time, the median of {RUNS} runs, and its slots per second; each ratio is model time / program time.\n"
     );
-    println!("| n | k | slots | program | model | ratios | median |");
-    println!("|---|---|---|---|---|---|---|");
+    println!(
+        "| n | k | slots | program, s | model, s | program, slots/s | model, slots/s | ratios | median |"
+    );
+    println!("|---|---|---|---|---|---|---|---|---|");
     for &size in TIMED {
         time(&programs, size);
     }
