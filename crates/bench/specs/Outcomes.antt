@@ -17,12 +17,13 @@ use Rattle.bench.specs.declared.Outcome.the-variants as outcome
 use Rattle.bench.specs.Table.{Table, slotsOf}
 use Rattle.bench.specs.Calls.{slotOf, listedOf, distanceOf, nextOf}
 
--- "`--------` if none".
+-- "`--------` if none". After a slot that ran neither the list nor the distance is refused (`sound-after`, bench_calls' proofs/Outcomes).
 abbrev pub shownOf : Listed → Shown
 shownOf (listed.Set set) = shown.Set set
 shownOf listed.Nobody = shown.Nobody
 shownOf (listed.Refused cause) = shown.Nobody
 
+-- "The greatest distance between sets of two members", as a number.
 abbrev pub nodesApart : Apart → ℕ
 nodesApart (apart.Nodes d) = d
 nodesApart (apart.Refused cause) = 0
@@ -33,6 +34,7 @@ sentOutcome (next.Slot sender fate) after =
     outcome.Slot (slotsOf after) sender fate (shownOf (listedOf after)) (nodesApart (distanceOf after))
 sentOutcome (next.Refused cause) after = outcome.Refused cause
 
+-- What a slot came to, refused or not.
 abbrev pub slotOutcome : Answer → Next → Table → Outcome
 slotOutcome answer.Done next after = sentOutcome next after
 slotOutcome (answer.Refused cause) next after = outcome.Refused cause

@@ -8,13 +8,13 @@ use native.Mathlib.Omega.{arith}
 use native.Mathlib.Numerals.{add-one}
 use lib.Dec.{eqb, leb, ltb}
 use lib.ListN.{length, getD, set, take, drop, length-set, length-replicate}
-use borrow.Author.Tests.{eqb-true, eqb-false, eq-eqb, ne-eqb, leb-true, leb-false, le-leb, lt-ltb}
+use borrow.Author.Tests.{eqb-true, eqb-false, ne-eqb, leb-true, leb-false, le-leb, lt-ltb}
 use Rattle.refusal.specs.declared.Refusal.{Refusal}
 use Rattle.refusal.specs.declared.Refusal.the-variants.{NodeNumber, Unsound, SlotLimit, OutputShort}
 use Rattle.nodeset.specs.Sets.{within}
 use Rattle.nodeset.specs.Sums.{sum, num}
 use Rattle.nodeset.proofs.Sums.{sum-none, sum-first, sum-same}
-use Rattle.nodeset.proofs.Tests.{by-cases, all, chosen}
+use Rattle.nodeset.proofs.Tests.{by-cases, all, chosen, eqb-swap}
 use Rattle.ring.specs.Ring.{nodeNumber}
 use Rattle.ring.proofs.Ranges.{ring-size, node-number}
 use Rattle.record.specs.declared.Node.{Node}
@@ -140,10 +140,6 @@ notes n k slots o p i (v ∷ t) e l m h =
 
 -- ---- how often a pair stands there
 
-same-tests : (a b : ℕ) → eqb a b ≡ eqb b a
-same-tests a b =
-    by-cases (eqb a b) (λ e. e ∙ sym (eq-eqb b a (sym (eqb-true a b e)))) (λ e. e ∙ sym (ne-eqb b a (λ f. eqb-false a b e (sym f))))
-
 abbrev tells-of : State → State → ℕ → Bool
 tells-of a b k = not (sameState a b) && eqb k (kindFrom a b)
 
@@ -215,7 +211,7 @@ module _ (n k slots : ℕ) (o : Order) where
       times-first x c o i v t
       ∙ ap₂ _+_ (ap (λ (a : Bool). num (not (same o i v) && (a && eqb (kind o i v) c))) b) (low x c (suc i) t (p .rest) (omega (arith, own, p .own)))
       ∙ plus-none (num (not (same o i v) && eqb (kind o i v) c))
-      ∙ ap (λ (a : Bool). num (not (same o i v) && a)) (same-tests (kind o i v) c)
+      ∙ ap (λ (a : Bool). num (not (same o i v) && a)) (eqb-swap (kind o i v) c)
       ∙ ap₂ (λ (a b : State). num (tells-of a b c)) (sym (at .0)) (sym (at .1)))
       (λ b. let other : v .own ≡ x → ⊥ = eqb-false (v .own) x b in
       let above : suc i < x = omega (arith, l, other, p .own) in

@@ -22,7 +22,7 @@ use Rattle.record.specs.declared.Node.{Node}
 use Rattle.record.specs.declared.Cause.the-variants.{SwitchedOff}
 use Rattle.record.specs.States.{isOut}
 use Rattle.record.specs.Soundness.{sound, limit}
-use Rattle.changes.specs.Changes.{starting, outFor, fresh}
+use Rattle.changes.specs.Changes.{starting, outFor, fresh, numbered}
 use Rattle.steps.specs.Steps.{isHeard}
 use Rattle.node.specs.declared.Stepped.{Stepped}
 use Rattle.node.specs.Slot.{afterSlot}
@@ -40,7 +40,7 @@ use Rattle.bench.specs.Calls.{Called, done, ifPassed, setUpOf, startTable, offO
 use Rattle.bench.proofs.agreement.Places.{sound-placed}
 use Rattle.bench.proofs.agreement.Counted.{step-done}
 use Rattle.bench_walks.specs.Survey.{surveyOf}
-use Rattle.bench_walks.specs.Orders.{ifGood, saidBy, turnOf, orderFor, heardAt, numbered, stepAt, carried, answerTo, reported, reportOf}
+use Rattle.bench_walks.specs.Orders.{ifGood, saidBy, turnOf, orderFor, heardAt, stepAt, carried, answerTo, reported, reportOf}
 use Rattle.bench_calls.proofs.Surveys.{Placed, placed, fine-table, Said, said}
 
 -- ---- each record

@@ -3,7 +3,6 @@
 // `bench_walks`.
 use bench::Apart;
 use bench::Changed;
-use bench::Fate;
 use bench::Listed;
 use bench::Next;
 use bench::Outcome;

@@ -1,5 +1,5 @@
--- Inner: what a call has each record of a table do, and the pairs of a walk. The laws in bench_calls' proofs/ tie it to bench's specs/Calls
--- and specs/Pairs.
+-- Inner: what a call has each record of a table do, and what is noticed as it is done: the pairs, and the list. The laws in bench_calls' proofs/ tie it to
+-- bench's specs/Calls, specs/Pairs and specs/Outcomes.
 use Prim.Native.Nat.{ℕ, zero, suc, _+_, _*_}
 use mathlib.Core.Bool.{Bool, true, cond, _&&_}
 use mathlib.Core.List.{List}
@@ -15,7 +15,7 @@ use Rattle.record.specs.declared.Node.{Node}
 use Rattle.record.specs.States.{isMember, isOut}
 use Rattle.record.specs.Soundness.{limit}
 use Rattle.record.specs.declared.Cause.the-variants.{SwitchedOff}
-use Rattle.changes.specs.Changes.{starting, outFor, fresh}
+use Rattle.changes.specs.Changes.{starting, outFor, fresh, numbered}
 use Rattle.steps.specs.Lessons.{lessonOf}
 use Rattle.sending.specs.Sending.{sends, bitsSent, returnSent}
 use Rattle.node.specs.declared.Answer.{Answer}
@@ -124,10 +124,6 @@ restartAt a v = cond (eqb (v .own) a) (fresh v) v
 -- What the record's node hears.
 abbrev pub heardAt : Turn → Node → Reading
 heardAt turn v = cond (has (turn .missed) (v .own)) unheard (turn .heard)
-
--- The record with a slot count.
-abbrev pub numbered : ℕ → Node → Node
-numbered slot v = record { n = v .n; k = v .k; own = v .own; slots = slot; state = v .state; set = v .set; present = v .present; returning = v .returning; «return_heard» = v .«return_heard»; listening = v .listening }
 
 abbrev pub stepAt : Turn → Node → Node
 stepAt turn v = afterBy (turn .lesson) (turn .sender) (heardAt turn v) (numbered (turn .slot) v)

@@ -51,7 +51,7 @@ listWith listed.Nobody v = cond (isMember (v .state)) (listed.Set (v .set)) list
 listWith (listed.Set set) v = listed.Set set
 listWith (listed.Refused cause) v = listed.Refused cause
 
--- With another speaker, and what one more record changes.
+-- With this speaker, and what one record changes.
 abbrev pub surveyWith : Survey → Node → Bool → State → Listed → Survey
 surveyWith s v fine state list = record {
   fine = fine;

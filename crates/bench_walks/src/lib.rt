@@ -113,7 +113,7 @@ fn unseen(asked: u32) -> Survey
     begun(false, asked, v)
 }
 
-// The same; the first record gives n, k and slots.
+// The survey with the record at index i, the first of which gives n, k and slots.
 fn surveyed(s: Survey, i: usize, v: Node) -> Survey
     ensures { λ r. ⌜ r ≡ surveyed s i v ⌝ }
 {
@@ -217,7 +217,7 @@ fn same_with(list: Listed, v: Node) -> bool
     }
 }
 
-// The list with one record more.
+// The list, and whether all members hold it, with one record more.
 fn sighted(sight: Sight, v: Node) -> Sight
     ensures { λ r. ⌜ r ≡ sighted sight v ⌝ }
 {

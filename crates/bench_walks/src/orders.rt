@@ -87,7 +87,7 @@ pub fn fate_of(lost: bool, v: Node) -> Fate
     Fate::Knock
 }
 
-// The slot that follows those of the table surveyed, of which there are fewer than a u64 counts.
+// The slot that follows those of the table surveyed. Requires that a u64 counts it.
 fn turn_of(lost: bool, missed: u32, s: Survey) -> Turn
     requires { ⌜ s .slots < 2 ^ 64 - 1 ⌝ }
     ensures { λ r. ⌜ r ≡ turnOf lost missed s ⌝ }

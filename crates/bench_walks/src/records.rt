@@ -1,4 +1,4 @@
-// What an order does to one record, by value. An order other than a refusal is one for a sound table,
+// What an order does to one record, by value. Off, Restart and Slot are ordered only of a sound table,
 // so the records are not tested again.
 use crate::Turn;
 use message::Reading;
@@ -6,7 +6,8 @@ use record::Cause;
 use record::Node;
 use refusal::Refusal;
 ghost use mathlib.Core.Path.{_≡_};
-ghost use Rattle.bench_walks.specs.Orders.{placeOf, offAt, restartAt, numbered, heardAt, stepAt};
+ghost use Rattle.changes.specs.Changes.{numbered};
+ghost use Rattle.bench_walks.specs.Orders.{placeOf, offAt, restartAt, heardAt, stepAt};
 
 // The number of the node at index i, of the first 32.
 pub fn place_of(i: usize) -> u32

@@ -88,7 +88,7 @@ pub fn state_of(x: u32, v: Node, other: State) -> State
     other
 }
 
-// The survey with another speaker, and what one more record changes.
+// The survey with this speaker, and what one record changes.
 fn survey_with(s: Survey, speaker: Node, fine: bool, state: State, list: Listed) -> Survey
     ensures { λ r. ⌜ r ≡ surveyWith s speaker fine state list ⌝ }
 {

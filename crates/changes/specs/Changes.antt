@@ -45,9 +45,13 @@ followingWith s v = record { n = v .n; k = v .k; own = v .own; slots = v .slots;
 unfoldable pub leave : Cause → Node → Node
 leave cause v = cond (isMember (v .state)) (outFor cause v) (fresh v)
 
+-- Another slot count.
+abbrev pub numbered : ℕ → Node → Node
+numbered slots v = record { n = v .n; k = v .k; own = v .own; slots = slots; state = v .state; set = v .set; present = v .present; returning = v .returning; «return_heard» = v .«return_heard»; listening = v .listening }
+
 -- One slot more on the count.
 abbrev pub counted : Node → Node
-counted v = record { n = v .n; k = v .k; own = v .own; slots = v .slots + 1; state = v .state; set = v .set; present = v .present; returning = v .returning; «return_heard» = v .«return_heard»; listening = v .listening }
+counted v = numbered (v .slots + 1) v
 
 abbrev pub withSet : ℕ → Node → Node
 withSet s v = record { n = v .n; k = v .k; own = v .own; slots = v .slots; state = v .state; set = s; present = v .present; returning = v .returning; «return_heard» = v .«return_heard»; listening = v .listening }

@@ -18,7 +18,7 @@ use Rattle.plan_run.specs.declared.Act.{Act}
 use Rattle.plan_run.specs.declared.Act.the-variants as act
 use Rattle.plan_run.specs.declared.Opened.{Opened}
 
--- "Then `ok`, `lost`, `miss a b` .. each run a slot; `off a` and `on a` switch or restart a node".
+-- "Then `ok`, `lost`, `miss a b` .. each run a slot": "message lost to all or not, and which nodes miss it" ("The bench").
 abbrev pub actOf : Order → Act
 actOf order.Ok = act.Slot false 0
 actOf order.Lost = act.Slot true 0
@@ -31,6 +31,7 @@ actOf (order.Refused cause) = act.Refuse cause
 abbrev pub refused : Rows → Refusal → Ran
 refused rows cause = record { rows = rows; outcome = outcome.Refused cause }
 
+-- "`off a` and `on a` switch or restart a node, no slot".
 abbrev pub ranBy : ℕ → Rows → Act → Ran
 ranBy n rows (act.Slot lost missed) = slotOf n lost missed rows
 ranBy n rows (act.Off a) = offOf n a rows

@@ -13,12 +13,13 @@ use Rattle.ring.specs.Ring.{ringSize, nodeNumber, sponsorCount, sender, 
 abbrev pub senderOf : ℕ → ℕ → Speaker
 senderOf n s = cond (ringSize n) (Speaker.Node (sender n s)) (Speaker.Refused RingSize)
 
--- What was found as a number, 0 where there is no member, and back.
+-- Inner: the number of the member found, 0 where there is none.
 abbrev pub memberIn : Found → ℕ
 memberIn (Found.Member m) = m
 memberIn Found.Nobody = 0
 memberIn (Found.Refused r) = 0
 
+-- Inner: the member of a number, nobody where it is 0.
 abbrev pub foundAs : ℕ → Found
 foundAs m = cond (eqb m 0) Found.Nobody (Found.Member m)
 

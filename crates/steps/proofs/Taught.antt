@@ -6,9 +6,9 @@ use mathlib.Core.Bool.{Bool, true, false, cond, not, _&&_}
 use native.Mathlib.Omega.{arith}
 use lib.Dec.{eqb}
 use lib.Bits.{or-zero-r}
-use borrow.Author.Tests.{eqb-true, eqb-false, eq-eqb, ne-eqb}
+use borrow.Author.Tests.{ne-eqb}
 use Rattle.nodeset.specs.Sets.{has, with, without, union, size}
-use Rattle.nodeset.proofs.Tests.{by-cases}
+use Rattle.nodeset.proofs.Tests.{eqb-swap}
 use Rattle.nodeset.proofs.Laws.{with-lt-32, union-with}
 use Rattle.ring.specs.declared.Found.{Found}
 use Rattle.ring.specs.declared.Found.the-variants as found
@@ -73,11 +73,11 @@ confirmed-same (suc j) s bits u v a b c d =
 
 -- ---- the lesson of one who holds the same set
 
-lesson : ℕ → ℕ → ℕ → Lesson
+abbrev pub lesson : ℕ → ℕ → ℕ → Lesson
 lesson set marks decided = record { set = set; marks = marks; decided = decided }
 
 pub lesson-same : (s : ℕ) (heard : Reading) (u v : Node) → v .n ≡ u .n → v .k ≡ u .k → v .set ≡ u .set → lessonOf s heard v ≡ lessonOf s heard u
-unfolding lessonOf lesson
+unfolding lessonOf
 lesson-same s heard u v a b c =
     let most : ks (v .k) (size (v .n) (v .set)) ≡ ks (u .k) (size (u .n) (u .set)) = ap₂ ks b (ap₂ size a c) in
     let marks : lessonOf s heard v .marks ≡ lessonOf s heard u .marks = ap (λ (j : ℕ). confirmed j s (bitsIn heard) (withMarks 0 false v)) most ∙ confirmed-same (ks (u .k) (size (u .n) (u .set))) s (bitsIn heard) (withMarks 0 false u) (withMarks 0 false v) a b c refl in
@@ -111,12 +111,6 @@ somebody s m w true true = refl
 somebody s m w true false = refl
 somebody s m w false true = refl
 somebody s m w false false = refl
-
-eqb-swap : (x y : ℕ) → eqb x y ≡ eqb y x
-eqb-swap x y =
-    by-cases (eqb x y)
-    (λ e. e ∙ sym (eq-eqb y x (sym (eqb-true x y e))))
-    (λ e. e ∙ sym (ne-eqb y x (λ p. eqb-false x y e (sym p))))
 
 departs-taught : (s : ℕ) (f : Found) (w : Node) → 1 ≤ w .own → departingBy true (memberIn f) s w ≡ departs s f w
 unfolding judged

@@ -1,5 +1,5 @@
 // One slot for a member, following or knocking node: a small function by value for each step. An
-// inner layer: it takes every record as it is; the calls of `node` test records first.
+// inner layer: it takes every record as it is; the calls of `node` and of the bench test records first.
 use message::Reading;
 use record::Cause;
 use record::Node;

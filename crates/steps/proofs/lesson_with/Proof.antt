@@ -5,15 +5,12 @@ use mathlib.Core.Path.{ap, ap₂, _∙_}
 use Rattle.nodeset.specs.Sets.{size}
 use Rattle.ring.specs.Ring.{ks}
 use Rattle.record.specs.declared.Node.{Node}
-use Rattle.steps.specs.declared.Lesson.{Lesson}
 use Rattle.steps.specs.Steps.{confirmed}
 use Rattle.ring.specs.Answers.{memberIn}
 use Rattle.steps.specs.Lessons.{lessonOf}
+use Rattle.steps.proofs.Taught.{lesson}
 use Rattle.steps.proofs.lesson_with.Statement.{statement}
 use Rattle.steps.proofs.lesson_with.Tie as tie
-
-abbrev lesson : ℕ → ℕ → ℕ → Lesson
-lesson set marks decided = record { set = set; marks = marks; decided = decided }
 
 abbrev allConfirmed : ℕ → ℕ → Node → ℕ
 allConfirmed s bits v = confirmed (ks (v .k) (size (v .n) (v .set))) s bits v
