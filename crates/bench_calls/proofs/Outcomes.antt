@@ -13,17 +13,14 @@ use Rattle.refusal.specs.declared.Refusal.{Refusal}
 use Rattle.refusal.specs.declared.Refusal.the-variants.{NodeNumber, Unsound, SlotLimit, OutputShort}
 use Rattle.nodeset.specs.Sets.{within, distance}
 use Rattle.nodeset.specs.Sums.{num}
-use Rattle.nodeset.proofs.Tests.{both, all, chosen}
+use Rattle.nodeset.proofs.Tests.{both, all}
 use Rattle.nodeset.proofs.Counts.{distance-same}
 use Rattle.ring.proofs.Ranges.{ring-size}
 use Rattle.record.specs.declared.Node.{Node}
 use Rattle.record.specs.States.{isMember}
 use Rattle.record.specs.Soundness.{limit}
 use Rattle.bench.specs.declared.Listed.the-variants as listed
-use Rattle.bench.specs.declared.Apart.the-variants as apart
 use Rattle.bench.specs.declared.Fate.{Fate}
-use Rattle.bench.specs.declared.Next.{Next}
-use Rattle.bench.specs.declared.Next.the-variants as next
 use Rattle.bench.specs.declared.Shown.{Shown}
 use Rattle.bench.specs.declared.Outcome.{Outcome}
 use Rattle.bench.specs.declared.Outcome.the-variants as outcome
@@ -36,9 +33,9 @@ use Rattle.bench_walks.specs.declared.Notes.{Notes}
 use Rattle.bench_walks.specs.declared.Report.{Report}
 use Rattle.bench_walks.specs.declared.Members.{Members}
 use Rattle.bench.specs.Table.{Table, recordOf, eachFrom, tableSound, slotsOf, speaker}
-use Rattle.bench.specs.Calls.{Called, listIn, listedOf, farthest, greatest, distanceOf, fateOf, nextOf, afterSlot}
+use Rattle.bench.specs.Calls.{Called, listIn, farthest, greatest, fateOf, afterSlot}
 use Rattle.bench.specs.Runs.{slot, callOf, isSlot}
-use Rattle.bench.specs.Outcomes.{Ended, shownOf, nodesApart, slotOutcome, endedOf}
+use Rattle.bench.specs.Outcomes.{Ended, shownOf, slotOutcome, endedOf}
 use Rattle.bench.proofs.agreement.Places.{Placed, sound-placed, placed-sound, slots-of-placed}
 use Rattle.bench.proofs.agreement.Accepted.{is-slot, slot-done}
 use Rattle.bench.proofs.agreement.Runs.{placed-call}
@@ -166,35 +163,28 @@ module _ (lost : Bool) (missed : ℕ) (t : Table) (ok : tableSound t ≡ true) (
   unfolding noNotes
   seen-is = sight-part ran noNotes 0 t
 
-  listed-after : seen .list ≡ listedOf after
-  listed-after = ap (λ (s : Sight). s .list) seen-is ∙ sight-list noSight after ∙ list-found after ∙ sym (chosen (listIn after) (listed.Refused Unsound) sound-after)
+  list-is : seen .list ≡ listIn after
+  list-is = ap (λ (s : Sight). s .list) seen-is ∙ sight-list noSight after ∙ list-found after
 
-  apart-after : membersOf (take (cond (seen .same) 0 (length after)) after) .greatest ≡ nodesApart (distanceOf after)
-  apart-after =
-      reached (seen .same) after sound-after (λ e. same-none (length after) after (sym (ap (λ (s : Sight). s .same) seen-is) ∙ e))
-      ∙ sym (ap nodesApart (chosen (apart.Nodes (greatest (length after) after)) (apart.Refused Unsound) sound-after))
+  apart-is : membersOf (take (cond (seen .same) 0 (length after)) after) .greatest ≡ greatest (length after) after
+  apart-is = reached (seen .same) after sound-after (λ e. same-none (length after) after (sym (ap (λ (s : Sight). s .same) seen-is) ∙ e))
 
-  next-is : nextOf lost t ≡ next.Slot (speaker t) (fateOf lost t)
-  next-is = chosen (next.Slot (speaker t) (fateOf lost t)) (next.Refused Unsound) ok
-
-  ran-is : outcomeBy (reportOf ran t) (membersOf (take (reachOf (reportOf ran t) (length after)) after)) ≡ slotOutcome (answerTo ran) (nextOf lost t) after
+  ran-is : outcomeBy (reportOf ran t) (membersOf (take (reachOf (reportOf ran t) (length after)) after)) ≡ slotOutcome lost t after (answerTo ran)
   unfolding reportOf reported
   ran-is =
       let s = said 0 t ok in
-      let shown-is : shownOf (seen .list) ≡ shownOf (listedOf after) = ap shownOf listed-after in
       let slot-is : surveyOf 0 t .slots + 1 ≡ slotsOf after = ap (λ (m : ℕ). m + 1) (s .slots) ∙ sym slots-after in
       let fate-is : fateBy lost (surveyOf 0 t .speaker) ≡ fateOf lost t = ap (fateBy lost) (s .spoken) ∙ fate-read lost t in
       ap₂ (λ (x : ℕ) (y : ℕ). outcome.Slot x y (fateBy lost (surveyOf 0 t .speaker)) (shownOf (seen .list)) (membersOf (take (cond (seen .same) 0 (length after)) after) .greatest)) slot-is (s .sender)
-      ∙ ap₂ (λ (f : Fate) (l : Shown). outcome.Slot (slotsOf after) (speaker t) f l (membersOf (take (cond (seen .same) 0 (length after)) after) .greatest)) fate-is shown-is
-      ∙ ap (λ (d : ℕ). outcome.Slot (slotsOf after) (speaker t) (fateOf lost t) (shownOf (listedOf after)) d) apart-after
-      ∙ sym (ap (λ (x : Next). slotOutcome (answerTo ran) x after) next-is)
+      ∙ ap₂ (λ (f : Fate) (l : Shown). outcome.Slot (slotsOf after) (speaker t) f l (membersOf (take (cond (seen .same) 0 (length after)) after) .greatest)) fate-is (ap shownOf list-is)
+      ∙ ap (λ (d : ℕ). outcome.Slot (slotsOf after) (speaker t) (fateOf lost t) (shownOf (listIn after)) d) apart-is
 
 -- ---- a slot, refused or not
 
 abbrev Ends : Bool → Table → Order → Type 0
 Ends lost t o =
     outcomeBy (reportOf o t) (membersOf (take (reachOf (reportOf o t) (length (carriedFrom o 0 t))) (carriedFrom o 0 t)))
-    ≡ slotOutcome (answerTo o) (nextOf lost t) (carriedFrom o 0 t)
+    ≡ slotOutcome lost t (carriedFrom o 0 t) (answerTo o)
 
 ends-if : (lost : Bool) (t : Table) (b : Bool) (cause : Refusal) (o : Order) → (b ≡ true → Ends lost t o) → Ends lost t (ifGood b cause o)
 unfolding reportOf reported
@@ -224,7 +214,7 @@ slot-ended lost missed t c zs p reach m r is-c (tables, reports) is-reach is-m i
     let is-p : p ≡ reportOf o t = reports ∙ ap (λ (w : Order). reportOf w t) is-o in
     let is-zs : zs ≡ carriedFrom o 0 t = tables ∙ ap (λ (w : Order). carriedFrom w 0 t) is-o in
     let is-outcome : r ≡ outcomeBy p (membersOf (take (reachOf p (length zs)) zs)) = is-r ∙ ap (outcomeBy p) (is-m ∙ ap (λ (k : ℕ). membersOf (take k zs)) is-reach) in
-    let ends : r ≡ slotOutcome (answerTo o) (nextOf lost t) (carriedFrom o 0 t) =
+    let ends : r ≡ slotOutcome lost t (carriedFrom o 0 t) (answerTo o) =
     is-outcome ∙ ap₂ (λ (q : Report) (u : Table). outcomeBy q (membersOf (take (reachOf q (length u)) u))) is-p is-zs ∙ slot-ends lost missed t in
     ap₂ {C = Ended} (λ u x. record { table = u; outcome = x }) is-zs ends
-    ∙ ap {B = Ended} (λ (called : Called). record { table = called .table; outcome = slotOutcome (called .answer) (nextOf lost t) (called .table) }) (slot-called lost missed 64 t)
+    ∙ ap {B = Ended} (λ (called : Called). record { table = called .table; outcome = slotOutcome lost t (called .table) (called .answer) }) (slot-called lost missed 64 t)

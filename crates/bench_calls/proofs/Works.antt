@@ -3,7 +3,7 @@
 -- which is what it would find by itself (node's proofs/Taught). Assumes nothing.
 use Prim.Native.Nat.{ℕ, suc, _+_, _-_, _<_, _≤_}
 use mathlib.Core.Path.{_≡_, refl, sym, ap, ap₂, _∙_}
-use mathlib.Core.Bool.{Bool, true, false, cond, _||_, true≢false}
+use mathlib.Core.Bool.{Bool, true, false, cond, _||_}
 use mathlib.Core.List.{List, [], _∷_}
 use native.Mathlib.Omega.{arith}
 use native.Mathlib.Numerals.{add-one}
@@ -23,12 +23,11 @@ use Rattle.record.specs.declared.Cause.the-variants.{SwitchedOff}
 use Rattle.record.specs.States.{isOut}
 use Rattle.record.specs.Soundness.{sound, limit}
 use Rattle.changes.specs.Changes.{starting, outFor, fresh, numbered}
-use Rattle.steps.specs.Steps.{isHeard}
 use Rattle.node.specs.declared.Stepped.{Stepped}
 use Rattle.node.specs.Slot.{afterSlot}
 use Rattle.node.specs.Calls as node
 use Rattle.node.specs.Calls.{noNode}
-use Rattle.node.proofs.Taught.{after-taught, sound-own, sound-marks}
+use Rattle.node.proofs.Taught.{after-taught, heard-told, sound-own, sound-marks}
 use Rattle.bench_walks.specs.declared.Asked.the-variants as asked
 use Rattle.bench_walks.specs.declared.Order.{Order}
 use Rattle.bench_walks.specs.declared.Order.the-variants as order
@@ -156,11 +155,6 @@ hears lost missed t i v e = ap (λ (w : Node). cond (has missed i) unheard (said
     go false true = refl
     go false false = refl
 
--- who hears anything hears what is said
-heard-said : (b : Bool) (r : Reading) → isHeard (cond b unheard r) ≡ true → cond b unheard r ≡ r
-heard-said true r e = absurd (true≢false (sym e))
-heard-said false r e = refl
-
 -- a record in its place does in a slot what the node call does
 module _ (lost : Bool) (missed : ℕ) (t : Table) (ok : tableSound t ≡ true) (s : Said 0 t) (below : slotsOf t < limit) where
   abbrev survey : Survey
@@ -187,7 +181,7 @@ module _ (lost : Bool) (missed : ℕ) (t : Table) (ok : tableSound t ≡ true) (
   step-is : (j : ℕ) (v : Node) (u : Table) → Placed (length t) (recordOf t 1 .k) (slotsOf t) (suc j) v u → stepAt turn v ≡ node.stepOf (heardBy lost missed t (suc j)) v .node
   unfolding speaker
   step-is j v u p =
-      after-taught (turn .sender) (turn .heard) (heardAt turn v) (survey .speaker) (numbered (turn .slot) v) (heard-said (has missed (v .own)) (turn .heard))
+      after-taught (turn .sender) (turn .heard) (heardAt turn v) (survey .speaker) (numbered (turn .slot) v) (heard-told (has missed (v .own)) (turn .heard) (turn .heard) (λ _. refl))
       (p .ring ∙ sym speaker-n) (p .sponsors ∙ sym speaker-k) (sound-own v (p .good)) (sound-marks v (p .good))
       ∙ ap₂ (λ (x : ℕ) (r : Reading). afterSlot x r (numbered (turn .slot) v)) sender-at heard-at
       ∙ ap (λ (m : ℕ). afterSlot (sender (v .n) (v .slots + 1)) (heardBy lost missed t (suc j)) (numbered m v)) slot-at

@@ -41,8 +41,8 @@ sound-marks v e =
 
 -- ---- the slot
 
--- what a node hears is the message, or nothing
-heard-told : (own : Bool) (heard told : Reading) → (isHeard told ≡ true → told ≡ heard)
+-- where a node hears a message or nothing, what it hears is the message
+pub heard-told : (own : Bool) (heard told : Reading) → (isHeard told ≡ true → told ≡ heard)
     → isHeard (cond own (reading.Refused MessageLength) told) ≡ true → cond own (reading.Refused MessageLength) told ≡ heard
 heard-told true heard told h e = absurd (true≢false (sym e))
 heard-told false heard told h e = h e

@@ -1,15 +1,11 @@
 -- `bench_walks::pairs::same_state` meets its contract: in each state of the one record the definition is the test of that state of the other. Assumes nothing.
 use borrow.Author.Needs.{needs}
-use mathlib.Core.Path.{_≡_, refl, sym, ap, _∙_}
-use mathlib.Core.Bool.{Bool, true, false, _||_}
+use mathlib.Core.Path.{sym, ap, _∙_}
+use mathlib.Core.Bool.{or-false}
 use Rattle.record.specs.declared.State.{State}
 use Rattle.bench.specs.Pairs.{sameState}
 use Rattle.bench_walks.proofs.pairs.same_state.Statement.{statement}
 use Rattle.bench_walks.proofs.pairs.same_state.Tie as tie
-
-or-none : (b : Bool) → (b || false) ≡ b
-or-none true = refl
-or-none false = refl
 
 enum-told : tie.Need-enum-told
 enum-told c = search needs
@@ -42,16 +38,16 @@ is-out-requires : tie.Need-is-out-requires
 is-out-requires c κs = search needs
 
 returns : tie.Need-returns
-returns c = c .is-member .ensures ∙ sym (or-none _) ∙ sym (ap (λ (a : State). sameState a (c .before .before .before .args .b)) (c .before .enum-told .given .1))
+returns c = c .is-member .ensures ∙ sym (or-false _) ∙ sym (ap (λ (a : State). sameState a (c .before .before .before .args .b)) (c .before .enum-told .given .1))
 
 returns-2 : tie.Need-returns-2
-returns-2 c = c .is-listening .ensures ∙ sym (or-none _) ∙ sym (ap (λ (a : State). sameState a (c .before .before .before .args .b)) (c .before .enum-told2 .given .1))
+returns-2 c = c .is-listening .ensures ∙ sym (or-false _) ∙ sym (ap (λ (a : State). sameState a (c .before .before .before .args .b)) (c .before .enum-told2 .given .1))
 
 returns-3 : tie.Need-returns-3
-returns-3 c = c .is-following .ensures ∙ sym (or-none _) ∙ sym (ap (λ (a : State). sameState a (c .before .before .before .args .b)) (c .before .enum-told3 .given .1))
+returns-3 c = c .is-following .ensures ∙ sym (or-false _) ∙ sym (ap (λ (a : State). sameState a (c .before .before .before .args .b)) (c .before .enum-told3 .given .1))
 
 returns-4 : tie.Need-returns-4
-returns-4 c = c .is-knocking .ensures ∙ sym (or-none _) ∙ sym (ap (λ (a : State). sameState a (c .before .before .before .args .b)) (c .before .enum-told4 .given .1))
+returns-4 c = c .is-knocking .ensures ∙ sym (or-false _) ∙ sym (ap (λ (a : State). sameState a (c .before .before .before .args .b)) (c .before .enum-told4 .given .1))
 
 returns-5 : tie.Need-returns-5
 returns-5 c = search needs
