@@ -21,12 +21,8 @@ use Rattle.node.specs.declared.Answer.the-variants.{Done, Refused}
 use Rattle.node.specs.Calls as node
 use Rattle.bench.specs.declared.Listed.{Listed}
 use Rattle.bench.specs.declared.Listed.the-variants as listed
-use Rattle.bench.specs.declared.Apart.{Apart}
-use Rattle.bench.specs.declared.Apart.the-variants as apart
 use Rattle.bench.specs.declared.Fate.{Fate}
 use Rattle.bench.specs.declared.Fate.the-variants as fate
-use Rattle.bench.specs.declared.Next.{Next}
-use Rattle.bench.specs.declared.Next.the-variants as next
 use Rattle.bench.specs.Table.{Table, recordOf, each, tableSound, ringOf, slotsOf, speaker}
 
 -- The table after a call, and what is answered.
@@ -108,17 +104,17 @@ restartOf a t =
     (ifPassed (isOut (recordOf t a .state)) NotOut t
     (done (afterRestart a t))))
 
--- ---- the list: 4
+-- ---- a look: 4
+
+unfoldable pub lookOf : Table → Called
+lookOf t = ifPassed (tableSound t) Unsound t (done t)
+
+-- ---- what is told of a table
 
 -- "The list is the set of the lowest-numbered member-state node".
 unfoldable pub listIn : Table → Listed
 listIn [] = listed.Nobody
 listIn (v ∷ t) = cond (isMember (v .state)) (listed.Set (v .set)) (listIn t)
-
-abbrev pub listedOf : Table → Listed
-listedOf t = cond (tableSound t) (listIn t) (listed.Refused Unsound)
-
--- ---- the distance: 4
 
 -- The greatest distance of a set from those of the members of a table.
 unfoldable pub farthest : ℕ → ℕ → Table → ℕ
@@ -130,17 +126,10 @@ unfoldable pub greatest : ℕ → Table → ℕ
 greatest n [] = 0
 greatest n (v ∷ t) = max (cond (isMember (v .state)) (farthest n (v .set) t) 0) (greatest n t)
 
-abbrev pub distanceOf : Table → Apart
-distanceOf t = cond (tableSound t) (apart.Nodes (greatest (ringOf t) t)) (apart.Refused Unsound)
-
--- ---- the next slot: 4
-
--- "Fate (`silent` if nothing is sent, also on a `lost` line; else `lost` if lost, a knock included; else `knock` or `sent`)" ("The bench program").
+-- What comes of the next slot's message: "fate (`silent` if nothing is sent, also on a `lost` line; else `lost` if lost, a knock included; else `knock` or
+-- `sent`)" ("The bench program").
 unfoldable pub fateOf : Bool → Table → Fate
 fateOf lost t =
     cond (transmits t)
     (cond lost fate.Lost (cond (isMember (recordOf t (speaker t) .state)) fate.Sent fate.Knock))
     fate.Silent
-
-abbrev pub nextOf : Bool → Table → Next
-nextOf lost t = cond (tableSound t) (next.Slot (speaker t) (fateOf lost t)) (next.Refused Unsound)

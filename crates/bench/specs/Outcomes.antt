@@ -1,42 +1,78 @@
--- What the bench program prints of a call (document 01, "The bench program"): "Each slot prints: slot, sender, fate .., the set of the lowest-numbered member ..,
--- the greatest distance between sets of two members". Sender and fate are those of the table before the slot, the others those of the table after it.
+-- What each call leaves and answers (document 01, "The bench" and "The bench program").
 use Prim.Native.Nat.{ℕ}
+use mathlib.Core.Path.{_≡_}
 use mathlib.Core.Bool.{Bool}
+use mathlib.Core.List.{List}
+use lib.ListN.{length}
 use Rattle.node.specs.declared.Answer.{Answer}
 use Rattle.node.specs.declared.Answer.the-variants as answer
-use Rattle.bench.specs.declared.Listed.{Listed}
-use Rattle.bench.specs.declared.Listed.the-variants as listed
-use Rattle.bench.specs.declared.Shown.{Shown}
-use Rattle.bench.specs.declared.Shown.the-variants as shown
+use Rattle.bench.specs.declared.Command.{Command}
+use Rattle.bench.specs.declared.Command.the-variants as command
 use Rattle.bench.specs.declared.Outcome.{Outcome}
 use Rattle.bench.specs.declared.Outcome.the-variants as outcome
+use Rattle.bench.specs.declared.Reply.{Reply}
 use Rattle.bench.specs.Table.{Table, ringOf, slotsOf, speaker}
-use Rattle.bench.specs.Calls.{slotOf, listIn, greatest, fateOf}
+use Rattle.bench.specs.Calls.{Called, setUpOf, slotOf, offOf, restartOf, lookOf, listIn, greatest, fateOf}
+use Rattle.bench.specs.Pairs.{pairsTold, SlotBytes}
 
--- "`--------` if none".
-abbrev pub shownOf : Listed → Shown
-shownOf (listed.Set set) = shown.Set set
-shownOf listed.Nobody = shown.Nobody
-shownOf (listed.Refused cause) = shown.Nobody
+-- The call that a command asks for, where so many bytes are lent for the pairs.
+abbrev pub calledOf : Command → ℕ → Table → Called
+calledOf (command.SetUp n k) room t = setUpOf n k t
+calledOf (command.Off a) room t = offOf a t
+calledOf (command.Restart a) room t = restartOf a t
+calledOf (command.Slot lost missed) room t = slotOf lost missed room t
+calledOf (command.Look lost) room t = lookOf t
 
--- What came of a slot with these tables before and after it.
+-- ---- what there is to print
+
+-- "Each slot prints: slot, sender, fate .., the set of the lowest-numbered member .., the greatest distance between sets of two members". Sender and fate are
+-- those of the table before the slot, the others those of the table after it.
 abbrev pub slotOutcome : Bool → Table → Table → Answer → Outcome
 slotOutcome lost before after answer.Done =
-    outcome.Slot (slotsOf after) (speaker before) (fateOf lost before) (shownOf (listIn after)) (greatest (ringOf after) after)
+    outcome.Slot (slotsOf after) (speaker before) (fateOf lost before) (listIn after) (greatest (ringOf after) after)
 slotOutcome lost before after (answer.Refused cause) = outcome.Refused cause
-
--- The table after a call, and what there is to print.
-pub record Ended : Type 0 where
-  pub table : Table
-  pub outcome : Outcome
-
--- A slot, with a buffer that is long enough for its pairs.
-unfoldable pub endedOf : Bool → ℕ → Table → Ended
-endedOf lost missed t =
-    let called = slotOf lost missed 64 t in
-    record { table = called .table; outcome = slotOutcome lost t (called .table) (called .answer) }
 
 -- "`off a` and `on a` switch or restart a node, no slot": nothing is printed of them, and nothing of line one.
 abbrev pub quietOutcome : Answer → Outcome
 quietOutcome answer.Done = outcome.Quiet
 quietOutcome (answer.Refused cause) = outcome.Refused cause
+
+-- A look leaves the table as it is: the slots done, the next slot's sender and fate, the list and the distance are all told of it.
+abbrev pub outcomeOf : Command → Table → Called → Outcome
+outcomeOf (command.SetUp n k) before called = quietOutcome (called .answer)
+outcomeOf (command.Off a) before called = quietOutcome (called .answer)
+outcomeOf (command.Restart a) before called = quietOutcome (called .answer)
+outcomeOf (command.Slot lost missed) before called = slotOutcome lost before (called .table) (called .answer)
+outcomeOf (command.Look lost) before called = slotOutcome lost before (called .table) (called .answer)
+
+-- ---- what is answered
+
+-- Pairs are told of slots alone.
+abbrev pub pairsOf : Command → Table → Called → ℕ
+pairsOf (command.SetUp n k) before called = 0
+pairsOf (command.Off a) before called = 0
+pairsOf (command.Restart a) before called = 0
+pairsOf (command.Slot lost missed) before called = pairsTold before called
+pairsOf (command.Look lost) before called = 0
+
+-- The table after a call, and the answer.
+pub record Ended : Type 0 where
+  pub table : Table
+  pub reply : Reply
+
+abbrev pub endedBy : Command → Table → Called → Ended
+endedBy c before called = record {
+  table = called .table;
+  reply = record { outcome = outcomeOf c before called; pairs = pairsOf c before called };
+}
+
+unfoldable pub endedOf : Command → ℕ → Table → Ended
+endedOf c room t = endedBy c t (calledOf c room t)
+
+-- The lent bytes after a call: no call but a slot changes one.
+abbrev pub BytesAfter : Command → Table → List ℕ → List ℕ → Type 0
+BytesAfter (command.SetUp n k) t out written = written ≡ out
+BytesAfter (command.Off a) t out written = written ≡ out
+BytesAfter (command.Restart a) t out written = written ≡ out
+BytesAfter (command.Slot lost missed) t out written = SlotBytes t (slotOf lost missed (length out) t) out written
+BytesAfter (command.Look lost) t out written = written ≡ out

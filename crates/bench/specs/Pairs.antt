@@ -12,8 +12,6 @@ use Rattle.record.specs.declared.State.{State}
 use Rattle.record.specs.States.{isMember, isListening, isFollowing, isKnocking, isOut}
 use Rattle.node.specs.declared.Answer.{Answer}
 use Rattle.node.specs.declared.Answer.the-variants as answer
-use Rattle.bench.specs.declared.Changed.{Changed}
-use Rattle.bench.specs.declared.Changed.the-variants as changed
 use Rattle.bench.specs.Table.{Table, recordOf, ringOf}
 use Rattle.bench.specs.Calls.{Called}
 
@@ -73,17 +71,17 @@ pub record Reported (before after : Table) (out written : List ℕ) : Type 0 whe
   pub tells : Tells before after pairs
   pub bytes : written ≡ bytesOf pairs ++ drop (2 * length pairs) out
 
--- "The number of pairs is returned."
-abbrev pub changedOf : Table → Called → Changed
-changedOf before called = go (called .answer)
+-- "The number of pairs is returned": none are told of a slot that is refused.
+abbrev pub pairsTold : Table → Called → ℕ
+pairsTold before called = go (called .answer)
   where
-    go : Answer → Changed
-    go answer.Done = changed.Pairs (changeCount before (called .table))
-    go (answer.Refused cause) = changed.Refused cause
+    go : Answer → ℕ
+    go answer.Done = changeCount before (called .table)
+    go (answer.Refused cause) = 0
 
 -- A slot that is refused changes no lent byte. (A slot that runs changes the states that it changes.)
-abbrev pub BytesAfter : Table → Called → List ℕ → List ℕ → Type 0
-BytesAfter before called out written = go (called .answer)
+abbrev pub SlotBytes : Table → Called → List ℕ → List ℕ → Type 0
+SlotBytes before called out written = go (called .answer)
   where
     go : Answer → Type 0
     go answer.Done = Reported before (called .table) out written

@@ -46,7 +46,6 @@ isSlot (restart a) t = false
 abbrev pub setIn : Listed → ℕ
 setIn (listed.Set s) = s
 setIn listed.Nobody = 0
-setIn (listed.Refused cause) = 0
 
 unfoldable pub listOf : Table → ℕ
 listOf t = setIn (listIn t)

@@ -1,24 +1,23 @@
-// What the calls of the bench answer (document 01, "The bench"); what each call does is specs/Calls
-// and specs/Pairs, and demand 3 specs/Demand. The code of the calls is in `bench_calls`.
+// What the calls of the bench are asked and what they answer (document 01, "The bench"); what each
+// call does is specs/Calls, specs/Pairs and specs/Outcomes, and demand 3 specs/Demand. The code is in
+// `bench_calls`.
 use refusal::Refusal;
 
-// What came of a slot: how many pairs tell its changes.
-pub enum Changed {
-    Pairs(u32),
-    Refused(Refusal),
+// A call over the table: set-up with n and k; off and restart of a node; a slot, whose message is
+// lost or not, and which these nodes miss; a look, which changes nothing and tells of the next slot's
+// message, lost or not.
+pub enum Command {
+    SetUp(u32, u32),
+    Off(u32),
+    Restart(u32),
+    Slot(bool, u32),
+    Look(bool),
 }
 
-// The set of the lowest-numbered member.
+// The set of the lowest-numbered member, if there is one.
 pub enum Listed {
     Set(u32),
     Nobody,
-    Refused(Refusal),
-}
-
-// The greatest distance between sets of two members.
-pub enum Apart {
-    Nodes(u32),
-    Refused(Refusal),
 }
 
 // What comes of a message: nothing is sent, it is lost, or it is heard, a knock or another.
@@ -29,22 +28,17 @@ pub enum Fate {
     Sent,
 }
 
-// The next slot's sender and what comes of its message.
-pub enum Next {
-    Slot(u32, Fate),
-    Refused(Refusal),
-}
-
-// The list as it is shown: its set, if there is a member.
-pub enum Shown {
-    Set(u32),
-    Nobody,
-}
-
 // What there is to print of a call: nothing, a slot (its number, sender, fate, and the list and the
-// distance after it), or why it is refused.
+// distance after it), or why it is refused. A look tells the slots done, the next slot's sender and
+// fate, and the list and the distance as they are.
 pub enum Outcome {
     Quiet,
-    Slot(u64, u32, Fate, Shown, u32),
+    Slot(u64, u32, Fate, Listed, u32),
     Refused(Refusal),
+}
+
+// What a call answers: what there is to print of it, and how many pairs tell a slot's changes.
+pub struct Reply {
+    pub outcome: Outcome,
+    pub pairs: u32,
 }

@@ -1,51 +1,71 @@
--- What there is to print of a slot: what was noticed while it was carried out (bench_walks' specs/Orders) is the list of the table after it, and where all members hold
--- that list the greatest distance is 0, so that only other tables are looked through for it (bench's specs/Outcomes). Assumes nothing.
-use Prim.Native.Nat.{ℕ, suc, _+_, _≤_, max}
+-- What each call leaves and answers (bench's specs/Outcomes) is what its order leaves and what is noted of it (bench_walks' specs/Orders). Of a slot and of a look: what was noted is the list of the
+-- table afterwards, and where all members hold that list the greatest distance is 0, so that only other tables are looked through for it. Assumes nothing.
+use Prim.Native.Nat.{ℕ, suc, _+_, _≤_, max, min}
 use mathlib.Core.Path.{_≡_, refl, sym, ap, ap₂, subst, _∙_}
 use mathlib.Core.Bool.{Bool, true, false, cond, _&&_, and-assoc, and-comm}
-use mathlib.Core.List.{[], _∷_}
+use mathlib.Core.List.{List, [], _∷_}
 use native.Mathlib.Omega.{arith}
 use lib.Dec.{eqb, leb, ltb}
 use lib.ListN.{length, take}
 use lib.Seq.{take-length}
 use borrow.Author.Tests.{eqb-true, ltb-true}
 use Rattle.refusal.specs.declared.Refusal.{Refusal}
-use Rattle.refusal.specs.declared.Refusal.the-variants.{NodeNumber, Unsound, SlotLimit, OutputShort}
-use Rattle.nodeset.specs.Sets.{within, distance}
+use Rattle.refusal.specs.declared.Refusal.the-variants.{RingSize, SponsorCount, NodeNumber, Unsound, SlotLimit, OutputShort, NotOut}
+use Rattle.nodeset.specs.Sets.{has, within, distance}
 use Rattle.nodeset.specs.Sums.{num}
-use Rattle.nodeset.proofs.Tests.{both, all}
+use Rattle.nodeset.proofs.Tests.{by-cases, both, all, chosen, otherwise}
 use Rattle.nodeset.proofs.Counts.{distance-same}
+use Rattle.ring.specs.Ring.{ringSize, sponsorCount, nodeNumber}
 use Rattle.ring.proofs.Ranges.{ring-size}
 use Rattle.record.specs.declared.Node.{Node}
 use Rattle.record.specs.States.{isMember}
 use Rattle.record.specs.Soundness.{limit}
+use Rattle.bench.specs.declared.Command.{Command}
+use Rattle.bench.specs.declared.Command.the-variants as command
+use Rattle.bench.specs.declared.Listed.{Listed}
 use Rattle.bench.specs.declared.Listed.the-variants as listed
 use Rattle.bench.specs.declared.Fate.{Fate}
-use Rattle.bench.specs.declared.Shown.{Shown}
 use Rattle.bench.specs.declared.Outcome.{Outcome}
 use Rattle.bench.specs.declared.Outcome.the-variants as outcome
-use Rattle.bench_walks.specs.declared.Asked.{Asked}
-use Rattle.bench_walks.specs.declared.Asked.the-variants as asked
+use Rattle.bench.specs.declared.Reply.{Reply}
 use Rattle.bench_walks.specs.declared.Order.{Order}
 use Rattle.bench_walks.specs.declared.Order.the-variants as order
+use Rattle.bench_walks.specs.declared.Survey.{Survey}
 use Rattle.bench_walks.specs.declared.Sight.{Sight}
 use Rattle.bench_walks.specs.declared.Notes.{Notes}
-use Rattle.bench_walks.specs.declared.Report.{Report}
 use Rattle.bench_walks.specs.declared.Members.{Members}
 use Rattle.bench.specs.Table.{Table, recordOf, eachFrom, tableSound, slotsOf, speaker}
-use Rattle.bench.specs.Calls.{Called, listIn, farthest, greatest, fateOf, afterSlot}
+use Rattle.bench.specs.Calls.{listIn, farthest, greatest, fateOf, transmits, afterSlot}
 use Rattle.bench.specs.Runs.{slot, callOf, isSlot}
-use Rattle.bench.specs.Outcomes.{Ended, shownOf, slotOutcome, endedOf}
+use Rattle.bench.specs.Outcomes.{Ended, slotOutcome, quietOutcome, outcomeOf, endedBy, endedOf, BytesAfter}
 use Rattle.bench.proofs.agreement.Places.{Placed, sound-placed, placed-sound, slots-of-placed}
 use Rattle.bench.proofs.agreement.Accepted.{is-slot, slot-done}
 use Rattle.bench.proofs.agreement.Runs.{placed-call}
 use Rattle.bench_walks.specs.Survey.{foldFrom, surveyOf, fineTable, noMembers, membersOf}
-use Rattle.bench_walks.specs.Orders.{ifGood, fateBy, turnOf, orderFor, carried, carriedFrom, sameWith, sighted, noSight, noticed, noNotes, noticedFrom, answerTo, reported, reportOf, reachOf, outcomeBy}
-use Rattle.bench_calls.proofs.Surveys.{list-after, list-found, fine-table, said}
-use Rattle.bench_calls.proofs.Works.{slot-table, slot-called}
-use Rattle.bench_calls.proofs.Readings.{fate-read, of-sound}
+use Rattle.bench_walks.specs.Orders.{ifGood, fateBy, turnOf, orderOf, orderFor, carried, carriedFrom, listWith, sameWith, sighted, noSight, noticed, noNotes, noticedFrom, notesOf, answerTo, reachOf, outcomeBy, replyBy, writtenBy}
+use Rattle.bench_walks.proofs.Partly.{take-least}
+use Rattle.bench_calls.proofs.Surveys.{fine-table, said}
+use Rattle.bench_calls.proofs.Works.{calledBy, slot-table, look-table, called-by}
+use Rattle.bench_calls.proofs.Readings.{of-sound}
+use Rattle.bench_calls.proofs.Reports.{pairs-told, bytes-told}
 
--- ---- the list that is noticed
+-- ---- the list that is noted
+
+abbrev list-after : Listed → Table → Listed
+list-after l [] = l
+list-after l (v ∷ t) = list-after (listWith l v) t
+
+list-stays : (set : ℕ) (t : Table) → list-after (listed.Set set) t ≡ listed.Set set
+list-stays set [] = refl
+list-stays set (v ∷ t) = list-stays set t
+
+list-found : (t : Table) → list-after listed.Nobody t ≡ listIn t
+unfolding listIn
+list-found [] = refl
+list-found (v ∷ t) =
+    by-cases (isMember (v .state))
+    (λ e. ap (λ (l : Listed). list-after l t) (chosen (listed.Set (v .set)) listed.Nobody e) ∙ list-stays (v .set) t ∙ sym (chosen (listed.Set (v .set)) (listIn t) e))
+    (λ e. ap (λ (l : Listed). list-after l t) (otherwise (listed.Set (v .set)) listed.Nobody e) ∙ list-found t ∙ sym (otherwise (listed.Set (v .set)) (listIn t) e))
 
 abbrev sightFrom : Sight → Table → Sight
 sightFrom s [] = s
@@ -108,113 +128,164 @@ same-none n (v ∷ t) e = go (isMember (v .state)) (same-none n t) e
     go true ih e = let h = sym (same-held true (v .set) t) ∙ e in ap₂ max (held-far n (v .set) t h) (held-greatest n (v .set) t h)
     go false ih e = ap (max 0) (ih e)
 
--- ---- the distance after a slot
+-- ---- what is told of the table that an order leaves, if that is sound
+
+-- the distance that is looked for
+abbrev apartBy : Order → Table → ℕ
+apartBy o t = membersOf (take (reachOf (notesOf o t)) (carriedFrom o 0 t)) .greatest
 
 no-members : (t : Table) → membersOf (take 0 t) .greatest ≡ 0
 unfolding membersOf noMembers foldFrom
 no-members [] = refl
 no-members (v ∷ t) = refl
 
-pub reach-fits : (p : Report) (n : ℕ) → reachOf p n ≤ n
-reach-fits p n = go (p .notes .sight .same)
-  where
-    go : (b : Bool) → cond b 0 n ≤ n
-    go true = omega arith
-    go false = omega arith
+-- 32 records are all of a sound table
+all-taken : (u : Table) → tableSound u ≡ true → take 32 u ≡ u
+all-taken u ok =
+    let most = ring-size (length u) (said u ok .ring) .1 in
+    sym (take-least 32 u) ∙ ap (λ (m : ℕ). take m u) (let e : min 32 (length u) ≡ length u = omega (arith, most) in e) ∙ take-length u
 
-reached : (b : Bool) (u : Table) → tableSound u ≡ true → (b ≡ true → greatest (length u) u ≡ 0) → membersOf (take (cond b 0 (length u)) u) .greatest ≡ greatest (length u) u
+reached : (b : Bool) (u : Table) → tableSound u ≡ true → (b ≡ true → greatest (length u) u ≡ 0) → membersOf (take (cond b 0 32) u) .greatest ≡ greatest (length u) u
 reached true u ok h = no-members u ∙ sym (h refl)
-reached false u ok h = ap (λ (w : Table). membersOf w .greatest) (take-length u) ∙ of-sound u ok
+reached false u ok h = ap (λ (w : Table). membersOf w .greatest) (all-taken u ok) ∙ of-sound u ok
 
--- ---- a slot that runs
+module _ (o : Order) (t : Table) where
+  seen-is : notesOf o t .sight ≡ sightFrom noSight (carriedFrom o 0 t)
+  unfolding notesOf noNotes
+  seen-is = sight-part o noNotes 0 t
 
-module _ (lost : Bool) (missed : ℕ) (t : Table) (ok : tableSound t ≡ true) (named : within (length t) missed ≡ true) (below : ltb (slotsOf t) limit ≡ true) where
-  abbrev ran : Order
-  ran = order.Slot (turnOf lost missed (surveyOf 0 t))
+  list-is : notesOf o t .sight .list ≡ listIn (carriedFrom o 0 t)
+  list-is = ap (λ (s : Sight). s .list) seen-is ∙ sight-list noSight (carriedFrom o 0 t) ∙ list-found (carriedFrom o 0 t)
 
-  abbrev after : Table
-  after = eachFrom (carried ran) 0 t
+  apart-is : tableSound (carriedFrom o 0 t) ≡ true → apartBy o t ≡ greatest (length (carriedFrom o 0 t)) (carriedFrom o 0 t)
+  apart-is ok = reached (notesOf o t .sight .same) (carriedFrom o 0 t) ok (λ e. same-none (length (carriedFrom o 0 t)) (carriedFrom o 0 t) (sym (ap (λ (s : Sight). s .same) seen-is) ∙ e))
 
-  table-is : after ≡ afterSlot lost missed t
-  table-is = slot-table lost missed t ok (ltb-true (slotsOf t) limit below)
+fate-read : (lost : Bool) (t : Table) → fateBy lost (recordOf t (speaker t)) ≡ fateOf lost t
+unfolding fateOf transmits
+fate-read lost t = refl
 
-  runs : isSlot (slot lost missed 64) t ≡ true
-  runs = is-slot lost missed 64 t ok ∙ all named (all below refl)
-
-  pos : 1 ≤ length t
-  pos = let r = ring-size (length t) (said 0 t ok .ring) .0 in omega (arith, r)
-
-  placed-after : Placed (length t) (recordOf t 1 .k) (slotsOf t + 1) after
-  placed-after =
-      let p = placed-call (length t) (recordOf t 1 .k) (slotsOf t) t pos (sound-placed t ok) (slot lost missed 64) in
-      subst (λ (u : Table). Placed (length t) (recordOf t 1 .k) (slotsOf t + 1) u) (slot-done lost missed 64 t runs ∙ sym table-is)
-      (subst (λ (b : Bool). Placed (length t) (recordOf t 1 .k) (slotsOf t + num b) (callOf (slot lost missed 64) t .table)) runs p)
-
-  sound-after : tableSound after ≡ true
-  sound-after = placed-sound (length t) (recordOf t 1 .k) (slotsOf t + 1) after pos placed-after
-
-  slots-after : slotsOf after ≡ slotsOf t + 1
-  slots-after = slots-of-placed (length t) (recordOf t 1 .k) (slotsOf t + 1) after pos placed-after
-
-  abbrev seen : Sight
-  seen = noticedFrom ran noNotes 0 t .sight
-
-  seen-is : seen ≡ sightFrom noSight after
-  unfolding noNotes
-  seen-is = sight-part ran noNotes 0 t
-
-  list-is : seen .list ≡ listIn after
-  list-is = ap (λ (s : Sight). s .list) seen-is ∙ sight-list noSight after ∙ list-found after
-
-  apart-is : membersOf (take (cond (seen .same) 0 (length after)) after) .greatest ≡ greatest (length after) after
-  apart-is = reached (seen .same) after sound-after (λ e. same-none (length after) after (sym (ap (λ (s : Sight). s .same) seen-is) ∙ e))
-
-  ran-is : outcomeBy (reportOf ran t) (membersOf (take (reachOf (reportOf ran t) (length after)) after)) ≡ slotOutcome lost t after (answerTo ran)
-  unfolding reportOf reported
-  ran-is =
-      let s = said 0 t ok in
-      let slot-is : surveyOf 0 t .slots + 1 ≡ slotsOf after = ap (λ (m : ℕ). m + 1) (s .slots) ∙ sym slots-after in
-      let fate-is : fateBy lost (surveyOf 0 t .speaker) ≡ fateOf lost t = ap (fateBy lost) (s .spoken) ∙ fate-read lost t in
-      ap₂ (λ (x : ℕ) (y : ℕ). outcome.Slot x y (fateBy lost (surveyOf 0 t .speaker)) (shownOf (seen .list)) (membersOf (take (cond (seen .same) 0 (length after)) after) .greatest)) slot-is (s .sender)
-      ∙ ap₂ (λ (f : Fate) (l : Shown). outcome.Slot (slotsOf after) (speaker t) f l (membersOf (take (cond (seen .same) 0 (length after)) after) .greatest)) fate-is (ap shownOf list-is)
-      ∙ ap (λ (d : ℕ). outcome.Slot (slotsOf after) (speaker t) (fateOf lost t) (shownOf (listIn after)) d) apart-is
+-- a slot's figures, part by part
+figures : {a a′ b b′ e e′ : ℕ} {f f′ : Fate} {l l′ : Listed} → a ≡ a′ → b ≡ b′ → f ≡ f′ → l ≡ l′ → e ≡ e′ → outcome.Slot a b f l e ≡ outcome.Slot a′ b′ f′ l′ e′
+figures {a} {a′} {b} {b′} {e} {e′} {f} {f′} {l} {l′} p q r s u =
+    ap₂ (λ (x y : ℕ). outcome.Slot x y f l e) p q ∙ ap₂ (λ (x : Fate) (y : Listed). outcome.Slot a′ b′ x y e) r s ∙ ap (λ (x : ℕ). outcome.Slot a′ b′ f′ l′ x) u
 
 -- ---- a slot, refused or not
 
 abbrev Ends : Bool → Table → Order → Type 0
-Ends lost t o =
-    outcomeBy (reportOf o t) (membersOf (take (reachOf (reportOf o t) (length (carriedFrom o 0 t))) (carriedFrom o 0 t)))
-    ≡ slotOutcome lost t (carriedFrom o 0 t) (answerTo o)
+Ends lost t o = outcomeBy o (notesOf o t .sight .list) (apartBy o t) ≡ slotOutcome lost t (carriedFrom o 0 t) (answerTo o)
 
 ends-if : (lost : Bool) (t : Table) (b : Bool) (cause : Refusal) (o : Order) → (b ≡ true → Ends lost t o) → Ends lost t (ifGood b cause o)
-unfolding reportOf reported
 ends-if lost t true cause o h = h refl
 ends-if lost t false cause o h = refl
 
-slot-ends : (lost : Bool) (missed : ℕ) (t : Table) → Ends lost t (orderFor (asked.Slot lost missed 64) t)
-unfolding orderFor
-slot-ends lost missed t =
-    ends-if lost t (fineTable (surveyOf 0 t) (length t)) Unsound _ (λ fine.
-    let ok = sym (fine-table 0 t) ∙ fine in
-    let s = said 0 t ok in
-    ends-if lost t (within (surveyOf 0 t .n) missed) NodeNumber _ (λ h.
-    ends-if lost t (ltb (surveyOf 0 t .slots) limit) SlotLimit _ (λ l.
-    ends-if lost t (leb 64 64) OutputShort (order.Slot (turnOf lost missed (surveyOf 0 t))) (λ r.
-    ran-is lost missed t ok (sym (ap (λ (m : ℕ). within m missed) (s .n)) ∙ h) (sym (ap (λ (m : ℕ). ltb m limit) (s .slots)) ∙ l)))))
+module _ (lost : Bool) (missed room : ℕ) (t : Table) (ok : tableSound t ≡ true) (named : within (length t) missed ≡ true) (below : ltb (slotsOf t) limit ≡ true) (fits : leb 64 room ≡ true) where
+  abbrev ran : Order
+  ran = order.Slot (turnOf lost missed (surveyOf t))
 
--- a slot, from the table that `work` leaves, its report, and what is looked through
-pub slot-ended : (lost : Bool) (missed : ℕ) (t : Table) (c : Asked) (zs : Table) (p : Report) (reach : ℕ) (m : Members) (r : Outcome)
-    → c ≡ asked.Slot lost missed 64 → (zs ≡ carriedFrom (orderFor c t) 0 t) × (p ≡ reportOf (orderFor c t) t)
-    → reach ≡ reachOf p (length zs) → m ≡ membersOf (take reach zs) → r ≡ outcomeBy p m
-    → _≡_ {A = Ended} (record { table = zs; outcome = r }) (endedOf lost missed t)
+  abbrev after : Table
+  after = carriedFrom ran 0 t
+
+  table-is : after ≡ afterSlot lost missed t
+  table-is = slot-table lost missed t ok (ltb-true (slotsOf t) limit below)
+
+  runs : isSlot (slot lost missed room) t ≡ true
+  runs = is-slot lost missed room t ok ∙ all named (all below fits)
+
+  pos : 1 ≤ length t
+  pos = let r = ring-size (length t) (said t ok .ring) .0 in omega (arith, r)
+
+  placed-after : Placed (length t) (recordOf t 1 .k) (slotsOf t + 1) after
+  placed-after =
+      let p = placed-call (length t) (recordOf t 1 .k) (slotsOf t) t pos (sound-placed t ok) (slot lost missed room) in
+      subst (λ (u : Table). Placed (length t) (recordOf t 1 .k) (slotsOf t + 1) u) (slot-done lost missed room t runs ∙ sym table-is)
+      (subst (λ (b : Bool). Placed (length t) (recordOf t 1 .k) (slotsOf t + num b) (callOf (slot lost missed room) t .table)) runs p)
+
+  slot-ran : Ends lost t ran
+  slot-ran =
+      let s = said t ok in
+      figures (ap (λ (m : ℕ). m + 1) (s .slots) ∙ sym (slots-of-placed (length t) (recordOf t 1 .k) (slotsOf t + 1) after pos placed-after)) (s .sender)
+      (ap (fateBy lost) (s .spoken) ∙ fate-read lost t) (list-is ran t) (apart-is ran t (placed-sound (length t) (recordOf t 1 .k) (slotsOf t + 1) after pos placed-after))
+
+slot-ends : (lost : Bool) (missed room : ℕ) (t : Table) → Ends lost t (orderFor (command.Slot lost missed) room t)
+unfolding orderFor
+slot-ends lost missed room t =
+    ends-if lost t (fineTable (surveyOf t) (length t)) Unsound _ (λ fine.
+    let ok = sym (fine-table t) ∙ fine in
+    let s = said t ok in
+    ends-if lost t (within (surveyOf t .n) missed) NodeNumber _ (λ h.
+    ends-if lost t (ltb (surveyOf t .slots) limit) SlotLimit _ (λ l.
+    ends-if lost t (leb 64 room) OutputShort (order.Slot (turnOf lost missed (surveyOf t))) (λ r.
+    slot-ran lost missed room t ok (sym (ap (λ (m : ℕ). within m missed) (s .n)) ∙ h) (sym (ap (λ (m : ℕ). ltb m limit) (s .slots)) ∙ l) r))))
+
+-- ---- a look: the table is as it was
+
+look-ends : (lost : Bool) (room : ℕ) (t : Table) → Ends lost t (orderFor (command.Look lost) room t)
+unfolding orderFor
+look-ends lost room t =
+    ends-if lost t (fineTable (surveyOf t) (length t)) Unsound looking (λ fine.
+    let ok = sym (fine-table t) ∙ fine in
+    let s = said t ok in
+    let same : carriedFrom looking 0 t ≡ t = look-table (surveyOf t .slots) (surveyOf t .sender) (fateBy lost (surveyOf t .speaker)) t in
+    figures (s .slots ∙ ap slotsOf (sym same)) (s .sender) (ap (fateBy lost) (s .spoken) ∙ fate-read lost t) (list-is looking t) (apart-is looking t (ap tableSound same ∙ ok)))
+  where
+    looking : Order
+    looking = order.Look (surveyOf t .slots) (surveyOf t .sender) (fateBy lost (surveyOf t .speaker))
+
+-- ---- a call of which nothing is printed but its refusal
+
+abbrev Quiet : Order → Type 0
+Quiet o = (list : Listed) (apart : ℕ) → outcomeBy o list apart ≡ quietOutcome (answerTo o)
+
+quiet-if : (b : Bool) (cause : Refusal) (o : Order) → Quiet o → Quiet (ifGood b cause o)
+quiet-if true cause o h list apart = h list apart
+quiet-if false cause o h list apart = refl
+
+set-up-quiet : (n k room : ℕ) (t : Table) → Quiet (orderFor (command.SetUp n k) room t)
+unfolding orderFor
+set-up-quiet n k room t = quiet-if (ringSize n) RingSize _ (quiet-if (sponsorCount n k) SponsorCount _ (quiet-if (eqb (length t) n) Unsound (order.Start n k) (λ list apart. refl)))
+
+off-quiet : (a room : ℕ) (t : Table) → Quiet (orderFor (command.Off a) room t)
+unfolding orderFor
+off-quiet a room t = quiet-if (fineTable (surveyOf t) (length t)) Unsound _ (quiet-if (nodeNumber (surveyOf t .n) a) NodeNumber (order.Off a) (λ list apart. refl))
+
+restart-quiet : (a room : ℕ) (t : Table) → Quiet (orderFor (command.Restart a) room t)
+unfolding orderFor
+restart-quiet a room t =
+    quiet-if (fineTable (surveyOf t) (length t)) Unsound _ (quiet-if (nodeNumber (surveyOf t .n) a) NodeNumber _ (quiet-if (has (surveyOf t .out) a) NotOut (order.Restart a) (λ list apart. refl)))
+
+-- ---- each call
+
+outcome-told : (c : Command) (room : ℕ) (t : Table) → let o = orderFor c room t in outcomeBy o (notesOf o t .sight .list) (apartBy o t) ≡ outcomeOf c t (calledBy o t)
+outcome-told (command.SetUp n k) room t = set-up-quiet n k room t _ _
+outcome-told (command.Off a) room t = off-quiet a room t _ _
+outcome-told (command.Restart a) room t = restart-quiet a room t _ _
+outcome-told (command.Slot lost missed) room t = slot-ends lost missed room t
+outcome-told (command.Look lost) room t = look-ends lost room t
+
+abbrev end : Table → Reply → Ended
+end u r = record { table = u; reply = r }
+
+-- what an order leaves, and what is answered
+abbrev done-by : Order → Table → Ended
+done-by o t = end (carriedFrom o 0 t) (replyBy o (notesOf o t) (membersOf (take (reachOf (notesOf o t)) (carriedFrom o 0 t))))
+
+is-ended : (c : Command) (t : Table) (out : List ℕ) → done-by (orderFor c (length out) t) t ≡ endedOf c (length out) t
 unfolding endedOf
-slot-ended lost missed t c zs p reach m r is-c (tables, reports) is-reach is-m is-r =
-    let o = orderFor (asked.Slot lost missed 64) t in
-    let is-o : orderFor c t ≡ o = ap (λ (a : Asked). orderFor a t) is-c in
-    let is-p : p ≡ reportOf o t = reports ∙ ap (λ (w : Order). reportOf w t) is-o in
-    let is-zs : zs ≡ carriedFrom o 0 t = tables ∙ ap (λ (w : Order). carriedFrom w 0 t) is-o in
-    let is-outcome : r ≡ outcomeBy p (membersOf (take (reachOf p (length zs)) zs)) = is-r ∙ ap (outcomeBy p) (is-m ∙ ap (λ (k : ℕ). membersOf (take k zs)) is-reach) in
-    let ends : r ≡ slotOutcome lost t (carriedFrom o 0 t) (answerTo o) =
-    is-outcome ∙ ap₂ (λ (q : Report) (u : Table). outcomeBy q (membersOf (take (reachOf q (length u)) u))) is-p is-zs ∙ slot-ends lost missed t in
-    ap₂ {C = Ended} (λ u x. record { table = u; outcome = x }) is-zs ends
-    ∙ ap {B = Ended} (λ (called : Called). record { table = called .table; outcome = slotOutcome lost t (called .table) (called .answer) }) (slot-called lost missed 64 t)
+is-ended c t out =
+    let o = orderFor c (length out) t in
+    ap₂ (λ (x : Outcome) (y : ℕ). end (carriedFrom o 0 t) (record { outcome = x; pairs = y })) (outcome-told c (length out) t) (pairs-told c t out) ∙ ap (endedBy c t) (called-by c (length out) t)
+
+is-order : (c : Command) (t : Table) (room : ℕ) (s : Survey) (o : Order) → s ≡ surveyOf (take (length t) t) → o ≡ orderOf c s (length t) room → o ≡ orderFor c room t
+unfolding orderFor
+is-order c t room s o is-s is-o = is-o ∙ ap (λ (v : Survey). orderOf c v (length t) room) (is-s ∙ ap surveyOf (take-length t))
+
+-- a call, from what its parts give
+pub call-run : (c : Command) (t : Table) (out : List ℕ) (s : Survey) (o : Order) (m : Notes) (zs : Table) (reach : ℕ) (ms : Members) (r : Reply) (ws : List ℕ)
+    → s ≡ surveyOf (take (length t) t) → o ≡ orderOf c s (length t) (length out) → (zs ≡ carriedFrom o 0 t) × (m ≡ notesOf o t) → reach ≡ reachOf m → ms ≡ membersOf (take reach zs)
+    → (r ≡ replyBy o m ms) × (ws ≡ writtenBy o m out) → (end zs r ≡ endedOf c (length out) t) × BytesAfter c t out ws
+call-run c t out s o m zs reach ms r ws is-s is-o (is-zs, is-m) is-reach is-ms (is-r, is-ws) =
+    let order-is = is-order c t (length out) s o is-s is-o in (
+      ap (end zs) (is-r ∙ ap (replyBy o m) (is-ms ∙ ap (λ (k : ℕ). membersOf (take k zs)) is-reach))
+          ∙ ap₂ (λ (u : Table) (p : Notes). end u (replyBy o p (membersOf (take (reachOf p) u)))) is-zs is-m ∙ ap (λ (x : Order). done-by x t) order-is ∙ is-ended c t out,
+      subst (BytesAfter c t out) (sym (is-ws ∙ ap (λ (p : Notes). writtenBy o p out) is-m ∙ ap (λ (x : Order). writtenBy x (notesOf x t) out) order-is)) (bytes-told c t out),
+    )

@@ -1,5 +1,5 @@
--- What is read from the survey of a table is what bench's specs/Calls says of the table: the list, the next slot and the greatest distance. Of the distance:
--- each member's set is compared with those of the members before it, which gives every two once. Assumes nothing.
+-- What is gathered of the members of a table is their greatest distance (bench's specs/Calls): each member's set is compared with those of the members before it, which gives
+-- every two once. Assumes nothing.
 use Prim.Native.Nat.{ℕ, zero, suc, _+_, _<_, _≤_, max}
 use mathlib.Core.Path.{_≡_, refl, sym, ap, ap₂, subst, _∙_}
 use mathlib.Core.Bool.{Bool, true, false, cond, _&&_}
@@ -7,44 +7,18 @@ use mathlib.Core.List.{List, [], _∷_}
 use native.Mathlib.Omega.{arith}
 use native.Mathlib.Numerals.{add-one}
 use lib.Dec.{ltb}
-use lib.ListN.{length, getD, set, take, replicate, length-set, length-replicate}
-use lib.Seq.{take-length}
+use lib.ListN.{length, getD, set, replicate, length-set, length-replicate}
 use borrow.Author.Tests.{lt-ltb}
 use Rattle.nodeset.specs.Sets.{distance}
 use Rattle.nodeset.proofs.Tests.{by-cases}
 use Rattle.ring.proofs.Ranges.{ring-size}
 use Rattle.record.specs.declared.Node.{Node}
 use Rattle.record.specs.States.{isMember}
-use Rattle.bench.specs.declared.Apart.the-variants as apart
-use Rattle.bench.specs.declared.Next.the-variants as next
 use Rattle.bench_walks.specs.declared.Members.{Members}
-use Rattle.bench.specs.Table.{Table, recordOf, placedFrom, tableSound, slotsOf, speaker}
-use Rattle.bench.specs.Calls.{listedOf, distanceOf, nextOf, fateOf, transmits, farthest, greatest}
-use Rattle.bench_walks.specs.Survey.{foldFrom, surveyOf, farFrom, memberSeen, gathered, noMembers, membersOf}
-use Rattle.bench_walks.specs.Orders.{listedBy, apartBy, fateBy, nextBy}
-use Rattle.bench_calls.proofs.Surveys.{placed, fine-table, said}
-
-decides : {X : Type 0} {b b′ : Bool} (x x′ y : X) → b ≡ b′ → (b′ ≡ true → x ≡ x′) → cond b x y ≡ cond b′ x′ y
-decides {X} {b} {b′} x x′ y e h = ap (λ (d : Bool). cond d x y) e ∙ go b′ h
-  where
-    go : (d : Bool) → (d ≡ true → x ≡ x′) → cond d x y ≡ cond d x′ y
-    go true k = k refl
-    go false k = refl
-
-pub list-read : (t : Table) → listedBy (surveyOf 0 t) (length t) ≡ listedOf t
-list-read t = decides _ _ _ (fine-table 0 t) (λ ok. said 0 t ok .list)
-
-pub fate-read : (lost : Bool) (t : Table) → fateBy lost (recordOf t (speaker t)) ≡ fateOf lost t
-unfolding fateOf transmits
-fate-read lost t = refl
-
-pub next-read : (lost : Bool) (t : Table) → nextBy lost (surveyOf 0 t) (length t) ≡ nextOf lost t
-next-read lost t =
-    decides _ _ _ (fine-table 0 t) (λ ok.
-    let s = said 0 t ok in
-    ap₂ next.Slot (s .sender) (ap (fateBy lost) (s .spoken) ∙ fate-read lost t))
-
--- ---- the distance
+use Rattle.bench.specs.Table.{Table, recordOf, placedFrom, tableSound, slotsOf}
+use Rattle.bench.specs.Calls.{farthest, greatest}
+use Rattle.bench_walks.specs.Survey.{foldFrom, farFrom, memberSeen, gathered, noMembers, membersOf}
+use Rattle.bench_calls.proofs.Surveys.{placed, said}
 
 set-other : (l : List ℕ) (c y j d : ℕ) → j < c → getD (set l c y) j d ≡ getD l j d
 set-other [] c y j d h = refl
@@ -158,7 +132,4 @@ placed-distance n k slots t e r =
     least x = omega arith
 
 pub of-sound : (t : Table) → tableSound t ≡ true → membersOf t .greatest ≡ greatest (length t) t
-of-sound t e = let s = said 0 t e in placed-distance (length t) (recordOf t 1 .k) (slotsOf t) t (s .rows) (ring-size (length t) (s .ring) .1)
-
-pub distance-read : (t : Table) → apartBy (surveyOf 0 t) (membersOf (take (length t) t)) (length t) ≡ distanceOf t
-distance-read t = decides _ _ _ (fine-table 0 t) (λ ok. ap apart.Nodes (ap (λ (u : Table). membersOf u .greatest) (take-length t) ∙ of-sound t ok))
+of-sound t e = let s = said t e in placed-distance (length t) (recordOf t 1 .k) (slotsOf t) t (s .rows) (ring-size (length t) (s .ring) .1)

@@ -1,5 +1,5 @@
 -- What `carry_out` notes (bench_walks' specs/Orders) is what bench's specs/Pairs asks of a slot: each node whose state changed stands once among the pairs, with its kind, the
--- number of pairs is that of the changes, and the bytes after them are as they were. For every order that is carried out on a sound table. Assumes nothing.
+-- number of pairs is that of the changes, and the bytes after them are as they were; and no other call tells pairs. Assumes nothing.
 use Prim.Native.Nat.{ℕ, zero, suc, _+_, _-_, _*_, _<_, _≤_}
 use mathlib.Core.Path.{_≡_, refl, sym, ap, ap₂, subst, _∙_}
 use mathlib.Core.Bool.{Bool, true, false, cond, not, _&&_}
@@ -10,33 +10,31 @@ use lib.Dec.{eqb, leb, ltb}
 use lib.ListN.{length, getD, set, take, drop, length-set, length-replicate}
 use borrow.Author.Tests.{eqb-true, eqb-false, ne-eqb, leb-true, leb-false, le-leb, lt-ltb}
 use Rattle.refusal.specs.declared.Refusal.{Refusal}
-use Rattle.refusal.specs.declared.Refusal.the-variants.{NodeNumber, Unsound, SlotLimit, OutputShort}
-use Rattle.nodeset.specs.Sets.{within}
+use Rattle.refusal.specs.declared.Refusal.the-variants.{RingSize, SponsorCount, NodeNumber, Unsound, SlotLimit, OutputShort, NotOut}
+use Rattle.nodeset.specs.Sets.{has, within}
 use Rattle.nodeset.specs.Sums.{sum, num}
 use Rattle.nodeset.proofs.Sums.{sum-none, sum-first, sum-same}
 use Rattle.nodeset.proofs.Tests.{by-cases, all, chosen, eqb-swap}
-use Rattle.ring.specs.Ring.{nodeNumber}
+use Rattle.ring.specs.Ring.{ringSize, sponsorCount, nodeNumber}
 use Rattle.ring.proofs.Ranges.{ring-size, node-number}
 use Rattle.record.specs.declared.Node.{Node}
 use Rattle.record.specs.declared.State.{State}
 use Rattle.record.specs.Soundness.{limit}
 use Rattle.node.specs.Calls.{noNode}
-use Rattle.bench_walks.specs.declared.Asked.{Asked}
-use Rattle.bench_walks.specs.declared.Asked.the-variants as asked
-use Rattle.bench_walks.specs.declared.Report.{Report}
-use Rattle.bench.specs.declared.Changed.{Changed}
+use Rattle.bench.specs.declared.Command.{Command}
+use Rattle.bench.specs.declared.Command.the-variants as command
 use Rattle.bench_walks.specs.declared.Order.{Order}
 use Rattle.bench_walks.specs.declared.Order.the-variants as order
 use Rattle.bench_walks.specs.declared.Told.{Told}
 use Rattle.bench_walks.specs.declared.Notes.{Notes}
-use Rattle.bench.specs.declared.Changed.the-variants as changed
 use Rattle.bench.specs.Table.{Table, recordOf, eachFrom, placedFrom, tableSound, slotsOf}
-use Rattle.bench.specs.Calls.{Called, slotOf}
-use Rattle.bench.specs.Pairs.{sameState, kindFrom, isChanged, kindOf, changeCount, Pair, bytesOf, times, Tells, Reported, changedOf, BytesAfter}
+use Rattle.bench.specs.Calls.{Called}
+use Rattle.bench.specs.Outcomes.{pairsOf, BytesAfter}
+use Rattle.bench.specs.Pairs.{sameState, kindFrom, isChanged, kindOf, changeCount, Pair, bytesOf, times, Tells, Reported, pairsTold, SlotBytes}
 use Rattle.bench_walks.specs.Survey.{foldFrom, surveyOf, fineTable}
-use Rattle.bench_walks.specs.Orders.{ifGood, turnOf, orderFor, carried, carriedFrom, pushed, noted, noPairs, noticed, noNotes, noticedFrom, reported, reportOf, changedBy, puts, writtenBy}
+use Rattle.bench_walks.specs.Orders.{ifGood, fateBy, turnOf, orderFor, carried, pushed, noted, noPairs, noticed, noNotes, noticedFrom, notesOf, pairsBy, bytesTold, puts, writtenBy}
 use Rattle.bench_calls.proofs.Surveys.{placed, fine-table, said}
-use Rattle.bench_calls.proofs.Works.{calledBy, slot-called}
+use Rattle.bench_calls.proofs.Works.{calledBy, called-by}
 
 -- ---- bytes
 
@@ -57,6 +55,15 @@ unfolding puts
 all-put b out zero h k = refl
 all-put b out (suc j) h k = ap (λ (l : List ℕ). set l j (getD b j 0)) (all-put b out j (omega (arith, h)) (omega (arith, k))) ∙ one-put j b out h k
 
+-- no pair is no byte
+none-written : (b out : List ℕ) → puts b (bytesTold 0 (length out)) out ≡ out
+unfolding puts
+none-written b out = ap (λ (j : ℕ). puts b j out) (go (leb 0 32 && leb 64 (length out)))
+  where
+    go : (c : Bool) → cond c (0 * 2) 0 ≡ 0
+    go true = refl
+    go false = refl
+
 -- ---- the pairs of an order, in rising order of nodes
 
 abbrev same : Order → ℕ → Node → Bool
@@ -65,15 +72,15 @@ same o i v = sameState (v .state) (carried o i v .state)
 abbrev kind : Order → ℕ → Node → ℕ
 kind o i v = kindFrom (v .state) (carried o i v .state)
 
-abbrev pairsOf : Order → ℕ → Table → List Pair
-pairsOf o i [] = []
-pairsOf o i (v ∷ t) = cond (same o i v) (pairsOf o (suc i) t) ((v .own, kind o i v) ∷ pairsOf o (suc i) t)
+abbrev changesOf : Order → ℕ → Table → List Pair
+changesOf o i [] = []
+changesOf o i (v ∷ t) = cond (same o i v) (changesOf o (suc i) t) ((v .own, kind o i v) ∷ changesOf o (suc i) t)
 
-few : (o : Order) (i : ℕ) (t : Table) → length (pairsOf o i t) ≤ length t
+few : (o : Order) (i : ℕ) (t : Table) → length (changesOf o i t) ≤ length t
 few o i [] = omega arith
 few o i (v ∷ t) = go (few o (suc i) t) (same o i v)
   where
-    go : length (pairsOf o (suc i) t) ≤ length t → (b : Bool) → length (cond b (pairsOf o (suc i) t) ((v .own, kind o i v) ∷ pairsOf o (suc i) t)) ≤ suc (length t)
+    go : length (changesOf o (suc i) t) ≤ length t → (b : Bool) → length (cond b (changesOf o (suc i) t) ((v .own, kind o i v) ∷ changesOf o (suc i) t)) ≤ suc (length t)
     go h true = omega (arith, h)
     go h false = omega (arith, h)
 
@@ -104,7 +111,7 @@ push-size : (p : Told) (x k : ℕ) → length (p .bytes) ≡ 64 → length (push
 push-size p x k h = length-set (set (p .bytes) (p .count * 2) x) (p .count * 2 + 1) k ∙ length-set (p .bytes) (p .count * 2) x ∙ h
 
 notes : (n k slots : ℕ) (o : Order) (p : Told) (i : ℕ) (t : Table) → placedFrom n k slots (suc i) t ≡ true → p .count ≤ i → i + length t ≤ 32 → length (p .bytes) ≡ 64
-    → Noted p (notedFrom o p i t) (pairsOf o i t)
+    → Noted p (notedFrom o p i t) (changesOf o i t)
 unfolding foldFrom noted bytesOf
 notes n k slots o p i [] e l m h = record { count = omega arith; size = h; bytes = sym (append-nil (take (p .count * 2) (p .bytes))) }
 notes n k slots o p i (v ∷ t) e l m h =
@@ -116,27 +123,27 @@ notes n k slots o p i (v ∷ t) e l m h =
     q = pushed p (v .own) (kind o i v)
 
     Goal : Bool → Type 0
-    Goal b = Noted p (notedFrom o (cond b p (cond (ltb (p .count) 32 && leb (v .own) 32) q p)) (suc i) t) (cond b (pairsOf o (suc i) t) ((v .own, kind o i v) ∷ pairsOf o (suc i) t))
+    Goal b = Noted p (notedFrom o (cond b p (cond (ltb (p .count) 32 && leb (v .own) 32) q p)) (suc i) t) (cond b (changesOf o (suc i) t) ((v .own, kind o i v) ∷ changesOf o (suc i) t))
 
     own-is : v .own ≡ suc i
     own-is = placed n k slots (suc i) v t e .own
 
     After : Type 0
-    After = (p′ : Told) → p′ .count ≤ suc i → length (p′ .bytes) ≡ 64 → Noted p′ (notedFrom o p′ (suc i) t) (pairsOf o (suc i) t)
+    After = (p′ : Told) → p′ .count ≤ suc i → length (p′ .bytes) ≡ 64 → Noted p′ (notedFrom o p′ (suc i) t) (changesOf o (suc i) t)
 
     test : (ltb (p .count) 32 && leb (v .own) 32) ≡ true
     test = all (lt-ltb (p .count) 32 (omega (arith, l, m))) (le-leb (v .own) 32 (omega (arith, own-is, m)))
 
-    with-it : Noted q (notedFrom o q (suc i) t) (pairsOf o (suc i) t) → Noted p (notedFrom o q (suc i) t) ((v .own, kind o i v) ∷ pairsOf o (suc i) t)
+    with-it : Noted q (notedFrom o q (suc i) t) (changesOf o (suc i) t) → Noted p (notedFrom o q (suc i) t) ((v .own, kind o i v) ∷ changesOf o (suc i) t)
     with-it later = record {
       count = let c = later .count in omega (arith, c);
       size = later .size;
-      bytes = later .bytes ∙ ap (λ (x : List ℕ). x ++ bytesOf (pairsOf o (suc i) t)) (push-bytes p (v .own) (kind o i v) (omega (arith, l, m)) h)
-          ∙ append-assoc (take (p .count * 2) (p .bytes)) (v .own ∷ kind o i v ∷ []) (bytesOf (pairsOf o (suc i) t));
+      bytes = later .bytes ∙ ap (λ (x : List ℕ). x ++ bytesOf (changesOf o (suc i) t)) (push-bytes p (v .own) (kind o i v) (omega (arith, l, m)) h)
+          ∙ append-assoc (take (p .count * 2) (p .bytes)) (v .own ∷ kind o i v ∷ []) (bytesOf (changesOf o (suc i) t));
     }
 
     changes : After → Goal false
-    changes ih = subst (λ (b : Bool). Noted p (notedFrom o (cond b q p) (suc i) t) ((v .own, kind o i v) ∷ pairsOf o (suc i) t)) (sym test) (with-it (ih q (omega (arith, l)) (push-size p (v .own) (kind o i v) h)))
+    changes ih = subst (λ (b : Bool). Noted p (notedFrom o (cond b q p) (suc i) t) ((v .own, kind o i v) ∷ changesOf o (suc i) t)) (sym test) (with-it (ih q (omega (arith, l)) (push-size p (v .own) (kind o i v) h)))
 
 -- ---- how often a pair stands there
 
@@ -145,12 +152,12 @@ tells-of a b k = not (sameState a b) && eqb k (kindFrom a b)
 
 -- the first record adds its own pair
 times-first : (x k : ℕ) (o : Order) (i : ℕ) (v : Node) (t : Table)
-    → times (x, k) (pairsOf o i (v ∷ t)) ≡ num (not (same o i v) && (eqb (v .own) x && eqb (kind o i v) k)) + times (x, k) (pairsOf o (suc i) t)
+    → times (x, k) (changesOf o i (v ∷ t)) ≡ num (not (same o i v) && (eqb (v .own) x && eqb (kind o i v) k)) + times (x, k) (changesOf o (suc i) t)
 unfolding times
 times-first x k o i v t = go (same o i v)
   where
-    go : (b : Bool) → times (x, k) (cond b (pairsOf o (suc i) t) ((v .own, kind o i v) ∷ pairsOf o (suc i) t))
-        ≡ num (not b && (eqb (v .own) x && eqb (kind o i v) k)) + times (x, k) (pairsOf o (suc i) t)
+    go : (b : Bool) → times (x, k) (cond b (changesOf o (suc i) t) ((v .own, kind o i v) ∷ changesOf o (suc i) t))
+        ≡ num (not b && (eqb (v .own) x && eqb (kind o i v) k)) + times (x, k) (changesOf o (suc i) t)
     go true = omega arith
     go false = refl
 
@@ -159,23 +166,23 @@ no-pair true c d e = ap (λ (a : Bool). num (a && d)) e
 no-pair false c d e = refl
 
 -- a pair of another node
-not-first : (x k : ℕ) (o : Order) (i : ℕ) (v : Node) (t : Table) → (v .own ≡ x → ⊥) → times (x, k) (pairsOf o i (v ∷ t)) ≡ times (x, k) (pairsOf o (suc i) t)
+not-first : (x k : ℕ) (o : Order) (i : ℕ) (v : Node) (t : Table) → (v .own ≡ x → ⊥) → times (x, k) (changesOf o i (v ∷ t)) ≡ times (x, k) (changesOf o (suc i) t)
 not-first x k o i v t h =
-    times-first x k o i v t ∙ ap (λ (m : ℕ). m + times (x, k) (pairsOf o (suc i) t)) (no-pair (not (same o i v)) (eqb (v .own) x) (eqb (kind o i v) k) (ne-eqb (v .own) x h))
-    ∙ none (times (x, k) (pairsOf o (suc i) t))
+    times-first x k o i v t ∙ ap (λ (m : ℕ). m + times (x, k) (changesOf o (suc i) t)) (no-pair (not (same o i v)) (eqb (v .own) x) (eqb (kind o i v) k) (ne-eqb (v .own) x h))
+    ∙ none (times (x, k) (changesOf o (suc i) t))
   where
     none : (m : ℕ) → 0 + m ≡ m
     none m = omega arith
 
 module _ (n k slots : ℕ) (o : Order) where
-  low : (x c i : ℕ) (t : Table) → placedFrom n k slots (suc i) t ≡ true → x ≤ i → times (x, c) (pairsOf o i t) ≡ 0
+  low : (x c i : ℕ) (t : Table) → placedFrom n k slots (suc i) t ≡ true → x ≤ i → times (x, c) (changesOf o i t) ≡ 0
   unfolding times
   low x c i [] e l = refl
   low x c i (v ∷ t) e l =
       let p = placed n k slots (suc i) v t e in
       not-first x c o i v t (λ h. omega (arith, h, l, p .own)) ∙ low x c (suc i) t (p .rest) (omega (arith, l))
 
-  high : (x c i : ℕ) (t : Table) → placedFrom n k slots (suc i) t ≡ true → i + length t < x → times (x, c) (pairsOf o i t) ≡ 0
+  high : (x c i : ℕ) (t : Table) → placedFrom n k slots (suc i) t ≡ true → i + length t < x → times (x, c) (changesOf o i t) ≡ 0
   unfolding times
   high x c i [] e l = refl
   high x c i (v ∷ t) e l =
@@ -201,7 +208,7 @@ module _ (n k slots : ℕ) (o : Order) where
       let z : x - suc i ≡ suc (x - suc (suc i)) = omega (arith, e) in
       (ap (λ (j : ℕ). getD (v ∷ t) j noNode .state) z, ap (λ (j : ℕ). getD (carried o i v ∷ eachFrom (carried o) (suc i) t) j noNode .state) z)
 
-  mid : (x c i : ℕ) (t : Table) → placedFrom n k slots (suc i) t ≡ true → suc i ≤ x → x ≤ i + length t → times (x, c) (pairsOf o i t) ≡ num (tells-of (was x i t) (is x i t) c)
+  mid : (x c i : ℕ) (t : Table) → placedFrom n k slots (suc i) t ≡ true → suc i ≤ x → x ≤ i + length t → times (x, c) (changesOf o i t) ≡ num (tells-of (was x i t) (is x i t) c)
   mid x c i [] e l m = absurd (let q : ⊥ = omega (arith, l, m) in q)
   mid x c i (v ∷ t) e l m =
       let p = placed n k slots (suc i) v t e in
@@ -225,7 +232,7 @@ module _ (n k slots : ℕ) (o : Order) where
   abbrev differ : ℕ → Table → ℕ → ℕ
   differ i t x = num (not (sameState (was x i t) (is x i t)))
 
-  counted : (i : ℕ) (t : Table) → length (pairsOf o i t) ≡ sum (differ i t) (suc i) (length t)
+  counted : (i : ℕ) (t : Table) → length (changesOf o i t) ≡ sum (differ i t) (suc i) (length t)
   counted i [] = sym (sum-none (differ i []) (suc i))
   counted i (v ∷ t) =
       length-first (same o i v) ∙ ap₂ _+_ (ap₂ (λ (a b : State). num (not (sameState a b))) (sym (at .0)) (sym (at .1)))
@@ -236,7 +243,7 @@ module _ (n k slots : ℕ) (o : Order) where
       at : (was (suc i) i (v ∷ t) ≡ v .state) × (is (suc i) i (v ∷ t) ≡ carried o i v .state)
       at = first-there (suc i) i v t refl
 
-      length-first : (b : Bool) → length (cond b (pairsOf o (suc i) t) ((v .own, kind o i v) ∷ pairsOf o (suc i) t)) ≡ num (not b) + length (pairsOf o (suc i) t)
+      length-first : (b : Bool) → length (cond b (changesOf o (suc i) t) ((v .own, kind o i v) ∷ changesOf o (suc i) t)) ≡ num (not b) + length (changesOf o (suc i) t)
       length-first true = omega arith
       length-first false = omega arith
 
@@ -245,7 +252,7 @@ module _ (n k slots : ℕ) (o : Order) where
 abbrev after : Order → Table → Table
 after o t = eachFrom (carried o) 0 t
 
-told-once : (n k slots : ℕ) (o : Order) (t : Table) → placedFrom n k slots 1 t ≡ true → Tells t (after o t) (pairsOf o 0 t)
+told-once : (n k slots : ℕ) (o : Order) (t : Table) → placedFrom n k slots 1 t ≡ true → Tells t (after o t) (changesOf o 0 t)
 unfolding isChanged kindOf recordOf
 told-once n k slots o t e x c =
     by-cases (nodeNumber (length t) x)
@@ -259,30 +266,22 @@ told-once n k slots o t e x c =
     above : leb 1 x ≡ true → nodeNumber (length t) x ≡ false → 0 + length t < x
     above one b = let z = leb-false x (length t) (sym (ap (λ (a : Bool). a && leb x (length t)) one) ∙ b) in omega (arith, z)
 
-told-count : (n k slots : ℕ) (o : Order) (t : Table) → length (pairsOf o 0 t) ≡ changeCount t (after o t)
+told-count : (n k slots : ℕ) (o : Order) (t : Table) → length (changesOf o 0 t) ≡ changeCount t (after o t)
 unfolding changeCount isChanged recordOf
 told-count n k slots o t =
     counted n k slots o 0 t
     ∙ sum-same (differ n k slots o 0 t) (λ x. num (nodeNumber (length t) x && not (sameState (was n k slots o x 0 t) (is n k slots o x 0 t)))) 1 (length t) (λ u l m.
     sym (ap (λ (a : Bool). num (a && not (sameState (was n k slots o u 0 t) (is n k slots o u 0 t)))) (all (le-leb 1 u l) (le-leb u (length t) (omega (arith, m))))))
 
--- an order that is carried out on a sound table, with room for its pairs
-abbrev pub Ready : Order → Table → ℕ → Type 0
-Ready (order.Refuse cause) t room = Unit {0}
-Ready (order.Start n k) t room = (tableSound t ≡ true) × (64 ≤ room)
-Ready (order.Off a) t room = (tableSound t ≡ true) × (64 ≤ room)
-Ready (order.Restart a) t room = (tableSound t ≡ true) × (64 ≤ room)
-Ready (order.Slot turn) t room = (tableSound t ≡ true) × (64 ≤ room)
-
 abbrev noted-of : Order → Table → Told
-noted-of o t = noticedFrom o noNotes 0 t .told
+noted-of o t = notesOf o t .told
 
 noted-is : (o : Order) (t : Table) → noted-of o t ≡ notedFrom o noPairs 0 t
-unfolding noNotes
+unfolding notesOf noNotes
 noted-is o t = told-part o noNotes 0 t
 
 abbrev written : Told → List ℕ → List ℕ
-written p out = puts (p .bytes) (cond (leb (p .count) 32 && leb 64 (length out)) (p .count * 2) 0) out
+written p out = puts (p .bytes) (bytesTold (p .count) (length out)) out
 
 no-pairs-size : length (noPairs .bytes) ≡ 64
 unfolding noPairs
@@ -294,13 +293,13 @@ no-pairs-count = refl
 
 done-told : (o : Order) (t : Table) (out : List ℕ) → (tableSound t ≡ true) × (64 ≤ length out) → (noted-of o t .count ≡ changeCount t (after o t)) × Reported t (after o t) out (written (noted-of o t) out)
 done-told o t out (sound, room) =
-    let s = said 0 t sound in
+    let s = said t sound in
     let n = length t in
     let k = recordOf t 1 .k in
     let slots = slotsOf t in
     let most = ring-size n (s .ring) .1 in
-    let all-noted : Noted noPairs (noted-of o t) (pairsOf o 0 t) = rw (noted-is o t) (notes n k slots o noPairs 0 t (s .rows) (omega (arith, no-pairs-count)) (omega (arith, most)) no-pairs-size) in
-    let ps = pairsOf o 0 t in
+    let all-noted : Noted noPairs (noted-of o t) (changesOf o 0 t) = rw (noted-is o t) (notes n k slots o noPairs 0 t (s .rows) (omega (arith, no-pairs-count)) (omega (arith, most)) no-pairs-size) in
+    let ps = changesOf o 0 t in
     let r = noted-of o t in
     let count-is : r .count ≡ length ps = all-noted .count ∙ ap (λ (m : ℕ). m + length ps) no-pairs-count ∙ zero-plus (length ps) in
     let at-most : r .count ≤ 32 = let h = few o 0 t in omega (arith, h, most, count-is) in
@@ -319,39 +318,70 @@ done-told o t out (sound, room) =
     zero-plus : (m : ℕ) → 0 + m ≡ m
     zero-plus m = omega arith
 
-pub slot-told : (o : Order) (t : Table) (out : List ℕ) → Ready o t (length out)
-    → (changedBy (reportOf o t) ≡ changedOf t (calledBy o t)) × BytesAfter t (calledBy o t) out (writtenBy (reportOf o t) out)
-unfolding reportOf reported puts
-slot-told (order.Refuse cause) t out h = (refl, refl)
-slot-told (order.Start n k) t out h = let d = done-told (order.Start n k) t out h in (ap changed.Pairs (d .0), d .1)
-slot-told (order.Off a) t out h = let d = done-told (order.Off a) t out h in (ap changed.Pairs (d .0), d .1)
-slot-told (order.Restart a) t out h = let d = done-told (order.Restart a) t out h in (ap changed.Pairs (d .0), d .1)
-slot-told (order.Slot turn) t out h = let d = done-told (order.Slot turn) t out h in (ap changed.Pairs (d .0), d .1)
+-- ---- a slot: its pairs are those of its changes
 
--- the order of a slot is one of these
-ready-if : (b : Bool) (cause : Refusal) (o : Order) (t : Table) (room : ℕ) → (b ≡ true → Ready o t room) → Ready (ifGood b cause o) t room
-ready-if true cause o t room h = h refl
-ready-if false cause o t room h = tt
+-- the answer and the bytes of an order that a slot gives
+abbrev SlotTold : Order → Table → List ℕ → Type 0
+SlotTold o t out = (pairsBy o (notesOf o t) ≡ pairsTold t (calledBy o t)) × SlotBytes t (calledBy o t) out (writtenBy o (notesOf o t) out)
 
-slot-ready : (lost : Bool) (missed room : ℕ) (t : Table) → Ready (orderFor (asked.Slot lost missed room) t) t room
+told-if : (b : Bool) (cause : Refusal) (o : Order) (t : Table) (out : List ℕ) → (b ≡ true → SlotTold o t out) → SlotTold (ifGood b cause o) t out
+told-if true cause o t out h = h refl
+told-if false cause o t out h = (refl, none-written (notesOf (order.Refuse cause) t .told .bytes) out)
+
+pub slot-told : (lost : Bool) (missed : ℕ) (t : Table) (out : List ℕ) → SlotTold (orderFor (command.Slot lost missed) (length out) t) t out
 unfolding orderFor
-slot-ready lost missed room t =
-    ready-if (fineTable (surveyOf 0 t) (length t)) Unsound _ t room (λ ok.
-    ready-if (within (surveyOf 0 t .n) missed) NodeNumber _ t room (λ h.
-    ready-if (ltb (surveyOf 0 t .slots) limit) SlotLimit _ t room (λ l.
-    ready-if (leb 64 room) OutputShort (order.Slot (turnOf lost missed (surveyOf 0 t))) t room (λ r.
-    (sym (fine-table 0 t) ∙ ok, leb-true 64 room r)))))
+slot-told lost missed t out =
+    told-if (fineTable (surveyOf t) (length t)) Unsound _ t out (λ ok.
+    told-if (within (surveyOf t .n) missed) NodeNumber _ t out (λ h.
+    told-if (ltb (surveyOf t .slots) limit) SlotLimit _ t out (λ l.
+    told-if (leb 64 (length out)) OutputShort (order.Slot (turnOf lost missed (surveyOf t))) t out (λ r.
+    done-told (order.Slot (turnOf lost missed (surveyOf t))) t out (sym (fine-table t) ∙ ok, leb-true 64 (length out) r)))))
 
--- a slot, from the table that `work` leaves and its report
-pub slot-run : (lost : Bool) (missed : ℕ) (t : Table) (out : List ℕ) (c : Asked) (zs : Table) (p : Report) (r : Changed) (ws : List ℕ)
-    → c ≡ asked.Slot lost missed (length out) → (zs ≡ carriedFrom (orderFor c t) 0 t) × (p ≡ reportOf (orderFor c t) t) → (r ≡ changedBy p) × (ws ≡ writtenBy p out)
-    → (zs ≡ slotOf lost missed (length out) t .table) × ((r ≡ changedOf t (slotOf lost missed (length out) t)) × BytesAfter t (slotOf lost missed (length out) t) out ws)
-slot-run lost missed t out c zs p r ws is-c (tables, reports) (answer, bytes) =
-    let o = orderFor (asked.Slot lost missed (length out)) t in
-    let is-o : orderFor c t ≡ o = ap (λ (a : Asked). orderFor a t) is-c in
-    let is-p : p ≡ reportOf o t = reports ∙ ap (λ (w : Order). reportOf w t) is-o in
-    let d = slot-told o t out (slot-ready lost missed (length out) t) in
-    subst (λ (called : Called). (zs ≡ called .table) × ((r ≡ changedOf t called) × BytesAfter t called out ws)) (slot-called lost missed (length out) t) (
-      tables ∙ ap (λ (w : Order). carriedFrom w 0 t) is-o,
-      (answer ∙ ap changedBy is-p ∙ d .0, subst (BytesAfter t (calledBy o t) out) (sym (bytes ∙ ap (λ (m : Report). writtenBy m out) is-p)) (d .1)),
-    )
+-- ---- the other calls: no pairs
+
+abbrev Silent : Order → Type 0
+Silent o = (m : Notes) → pairsBy o m ≡ 0
+
+silent-if : (b : Bool) (cause : Refusal) (o : Order) → Silent o → Silent (ifGood b cause o)
+silent-if true cause o h m = h m
+silent-if false cause o h m = refl
+
+silent-written : (c : Command) (t : Table) (out : List ℕ) → let o = orderFor c (length out) t in Silent o → writtenBy o (notesOf o t) out ≡ out
+silent-written c t out h =
+    let m = notesOf (orderFor c (length out) t) t in
+    ap (λ (k : ℕ). puts (m .told .bytes) (bytesTold k (length out)) out) (h m) ∙ none-written (m .told .bytes) out
+
+set-up-silent : (n k room : ℕ) (t : Table) → Silent (orderFor (command.SetUp n k) room t)
+unfolding orderFor
+set-up-silent n k room t = silent-if (ringSize n) RingSize _ (silent-if (sponsorCount n k) SponsorCount _ (silent-if (eqb (length t) n) Unsound (order.Start n k) (λ m. refl)))
+
+off-silent : (a room : ℕ) (t : Table) → Silent (orderFor (command.Off a) room t)
+unfolding orderFor
+off-silent a room t = silent-if (fineTable (surveyOf t) (length t)) Unsound _ (silent-if (nodeNumber (surveyOf t .n) a) NodeNumber (order.Off a) (λ m. refl))
+
+restart-silent : (a room : ℕ) (t : Table) → Silent (orderFor (command.Restart a) room t)
+unfolding orderFor
+restart-silent a room t =
+    silent-if (fineTable (surveyOf t) (length t)) Unsound _ (silent-if (nodeNumber (surveyOf t .n) a) NodeNumber _ (silent-if (has (surveyOf t .out) a) NotOut (order.Restart a) (λ m. refl)))
+
+look-silent : (lost : Bool) (room : ℕ) (t : Table) → Silent (orderFor (command.Look lost) room t)
+unfolding orderFor
+look-silent lost room t = silent-if (fineTable (surveyOf t) (length t)) Unsound (order.Look (surveyOf t .slots) (surveyOf t .sender) (fateBy lost (surveyOf t .speaker))) (λ m. refl)
+
+-- ---- each call
+
+pub pairs-told : (c : Command) (t : Table) (out : List ℕ) → let o = orderFor c (length out) t in pairsBy o (notesOf o t) ≡ pairsOf c t (calledBy o t)
+pairs-told (command.SetUp n k) t out = set-up-silent n k (length out) t _
+pairs-told (command.Off a) t out = off-silent a (length out) t _
+pairs-told (command.Restart a) t out = restart-silent a (length out) t _
+pairs-told (command.Slot lost missed) t out = slot-told lost missed t out .0
+pairs-told (command.Look lost) t out = look-silent lost (length out) t _
+
+pub bytes-told : (c : Command) (t : Table) (out : List ℕ) → let o = orderFor c (length out) t in BytesAfter c t out (writtenBy o (notesOf o t) out)
+bytes-told (command.SetUp n k) t out = silent-written (command.SetUp n k) t out (set-up-silent n k (length out) t)
+bytes-told (command.Off a) t out = silent-written (command.Off a) t out (off-silent a (length out) t)
+bytes-told (command.Restart a) t out = silent-written (command.Restart a) t out (restart-silent a (length out) t)
+bytes-told (command.Slot lost missed) t out =
+    let o = orderFor (command.Slot lost missed) (length out) t in
+    subst (λ (called : Called). SlotBytes t called out (writtenBy o (notesOf o t) out)) (called-by (command.Slot lost missed) (length out) t) (slot-told lost missed t out .1)
+bytes-told (command.Look lost) t out = silent-written (command.Look lost) t out (look-silent lost (length out) t)

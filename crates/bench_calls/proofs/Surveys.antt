@@ -1,5 +1,5 @@
 -- What the survey of a table (bench_walks' specs/Survey) says of it in the words of bench's specs/Table and specs/Calls: whether it is sound, and of a sound table n, slots,
--- the next sender and its record, the state of the node asked about, and the list. Each part of the survey is its own fold. Assumes nothing.
+-- the next sender and its record, and which nodes are out. Each part of the survey is its own fold. Assumes nothing.
 use Prim.Native.Nat.{ℕ, suc, _+_, _-_, _<_, _≤_}
 use mathlib.Core.Path.{_≡_, refl, sym, ap, ap₂, subst, _∙_}
 use mathlib.Core.Bool.{Bool, true, false, cond, _&&_, and-assoc, and-comm, true≢false}
@@ -9,21 +9,21 @@ use native.Mathlib.Omega.{arith}
 use lib.Dec.{eqb}
 use lib.ListN.{length, getD}
 use borrow.Author.Tests.{eqb-true, eqb-false, eq-eqb, ne-eqb}
+use Rattle.nodeset.specs.Sets.{has, with}
 use Rattle.nodeset.proofs.Tests.{by-cases, both, chosen, otherwise}
+use Rattle.nodeset.proofs.Bits.{has-none}
+use Rattle.nodeset.proofs.Laws.{has-with, has-with-other}
 use Rattle.ring.specs.Ring.{ringSize, nodeNumber, sender}
 use Rattle.ring.proofs.Ranges.{ring-size, node-number}
 use Rattle.ring.proofs.Senders.{sender-range}
 use Rattle.record.specs.declared.Node.{Node}
-use Rattle.record.specs.States.{isMember}
+use Rattle.record.specs.States.{isOut}
 use Rattle.record.specs.Soundness.{sound}
 use Rattle.record.proofs.Facts.{clauses}
 use Rattle.node.specs.Calls.{noNode}
-use Rattle.bench.specs.declared.Listed.{Listed}
-use Rattle.bench.specs.declared.Listed.the-variants as listed
 use Rattle.bench_walks.specs.declared.Survey.{Survey}
 use Rattle.bench.specs.Table.{Table, recordOf, inPlace, placedFrom, tableSound, slotsOf, speaker}
-use Rattle.bench.specs.Calls.{listIn}
-use Rattle.bench_walks.specs.Survey.{foldFrom, numberOf, senderAfter, begun, listWith, seen, surveyed, unseen, surveyOf, fineTable}
+use Rattle.bench_walks.specs.Survey.{foldFrom, numberOf, senderAfter, begun, outWith, seen, surveyed, unseen, surveyOf, fineTable}
 
 -- ---- the first record begins the survey, and then each is only seen
 
@@ -34,15 +34,15 @@ seen-later : (s : Survey) (i : ℕ) (t : Table) → foldFrom surveyed s (suc i) 
 unfolding foldFrom surveyed
 seen-later s i [] = refl
 seen-later s i (v ∷ t) =
-    ap (λ (c : Survey). foldFrom surveyed (seen c (suc i) v) (suc (suc i)) t) (otherwise (begun true (s .asked) v) s (no-zero i))
+    ap (λ (c : Survey). foldFrom surveyed (seen c (suc i) v) (suc (suc i)) t) (otherwise (begun true v) s (no-zero i))
     ∙ seen-later (seen s (suc i) v) (suc i) t
 
-abbrev looked : ℕ → Node → Table → Survey
-looked a v t = foldFrom seen (begun true a v) 0 (v ∷ t)
+abbrev looked : Node → Table → Survey
+looked v t = foldFrom seen (begun true v) 0 (v ∷ t)
 
-survey-is : (a : ℕ) (v : Node) (t : Table) → surveyOf a (v ∷ t) ≡ looked a v t
+survey-is : (v : Node) (t : Table) → surveyOf (v ∷ t) ≡ looked v t
 unfolding foldFrom surveyed surveyOf unseen
-survey-is a v t = seen-later (seen (begun true a v) 0 v) 0 t
+survey-is v t = seen-later (seen (begun true v) 0 v) 0 t
 
 -- ---- the parts of the survey
 
@@ -80,31 +80,14 @@ unfolding foldFrom
 speaker-is s i [] = refl
 speaker-is s i (v ∷ t) = speaker-is (seen s i v) (suc i) t
 
-state-is : (s : Survey) (i : ℕ) (t : Table) → foldFrom seen s i t .state ≡ found (λ v. v .state) (s .asked) (s .state) t
+abbrev outFrom : ℕ → Table → ℕ
+outFrom out [] = out
+outFrom out (v ∷ t) = outFrom (outWith out v) t
+
+out-is : (s : Survey) (i : ℕ) (t : Table) → foldFrom seen s i t .out ≡ outFrom (s .out) t
 unfolding foldFrom
-state-is s i [] = refl
-state-is s i (v ∷ t) = state-is (seen s i v) (suc i) t
-
-abbrev pub list-after : Listed → Table → Listed
-list-after l [] = l
-list-after l (v ∷ t) = list-after (listWith l v) t
-
-list-is : (s : Survey) (i : ℕ) (t : Table) → foldFrom seen s i t .list ≡ list-after (s .list) t
-unfolding foldFrom
-list-is s i [] = refl
-list-is s i (v ∷ t) = list-is (seen s i v) (suc i) t
-
-list-stays : (set : ℕ) (t : Table) → list-after (listed.Set set) t ≡ listed.Set set
-list-stays set [] = refl
-list-stays set (v ∷ t) = list-stays set t
-
-pub list-found : (t : Table) → list-after listed.Nobody t ≡ listIn t
-unfolding listIn
-list-found [] = refl
-list-found (v ∷ t) =
-    by-cases (isMember (v .state))
-    (λ e. ap (λ (l : Listed). list-after l t) (chosen (listed.Set (v .set)) listed.Nobody e) ∙ list-stays (v .set) t ∙ sym (chosen (listed.Set (v .set)) (listIn t) e))
-    (λ e. ap (λ (l : Listed). list-after l t) (otherwise (listed.Set (v .set)) listed.Nobody e) ∙ list-found t ∙ sym (otherwise (listed.Set (v .set)) (listIn t) e))
+out-is s i [] = refl
+out-is s i (v ∷ t) = out-is (seen s i v) (suc i) t
 
 -- ---- records in their places
 
@@ -148,26 +131,59 @@ module _ {X : Type 0} (g : Node → X) (n k slots : ℕ) where
       ∙ found-at (suc i) x d e t (p .rest) (omega (arith, l, not)) (omega (arith, m))
       ∙ ap (λ (j : ℕ). g (getD (v ∷ t) j e)) (let z : suc (x - suc i) ≡ x - i = omega (arith, l, not) in z))
 
+-- who is out
+module _ (n k slots : ℕ) where
+  with-other : (out x : ℕ) (v : Node) → (v .own ≡ x → ⊥) → has (outWith out v) x ≡ has out x
+  with-other out x v h = go (isOut (v .state))
+    where
+      go : (b : Bool) → has (cond b (with out (v .own)) out) x ≡ has out x
+      go true = has-with-other out (v .own) x h
+      go false = refl
+
+  out-before : (i x out : ℕ) (t : Table) → placedFrom n k slots i t ≡ true → x < i → has (outFrom out t) x ≡ has out x
+  out-before i x out [] e l = refl
+  out-before i x out (v ∷ t) e l =
+      let p = placed n k slots i v t e in
+      out-before (suc i) x (outWith out v) t (p .rest) (omega (arith, l)) ∙ with-other out x v (λ h. omega (arith, h, l, p .own))
+
+  with-own : (out x : ℕ) (v : Node) → v .own ≡ x → 1 ≤ x → x ≤ 32 → has out x ≡ false → has (outWith out v) x ≡ isOut (v .state)
+  with-own out x v own low high none = go (isOut (v .state))
+    where
+      go : (b : Bool) → has (cond b (with out (v .own)) out) x ≡ b
+      go true = ap (λ (y : ℕ). has (with out y) x) own ∙ has-with out x low high
+      go false = none
+
+  out-at : (i x out : ℕ) (t : Table) → placedFrom n k slots i t ≡ true → 1 ≤ i → i ≤ x → x < i + length t → x ≤ 32 → has out x ≡ false → has (outFrom out t) x ≡ isOut (getD t (x - i) noNode .state)
+  out-at i x out [] e one l m top none = absurd (let q : ⊥ = omega (arith, l, m) in q)
+  out-at i x out (v ∷ t) e one l m top none =
+      let p = placed n k slots i v t e in
+      by-cases (eqb i x)
+      (λ q. let is : i ≡ x = eqb-true i x q in
+      out-before (suc i) x (outWith out v) t (p .rest) (omega (arith, is)) ∙ with-own out x v (omega (arith, is, p .own)) (omega (arith, one, is)) top none
+      ∙ ap (λ (j : ℕ). isOut (getD (v ∷ t) j noNode .state)) (let z : 0 ≡ x - i = omega (arith, is) in z))
+      (λ q. let not : i ≡ x → ⊥ = eqb-false i x q in
+      out-at (suc i) x (outWith out v) t (p .rest) (omega arith) (omega (arith, l, not)) (omega (arith, m)) top (with-other out x v (λ f. not (omega (arith, f, p .own))) ∙ none)
+      ∙ ap (λ (j : ℕ). isOut (getD (v ∷ t) j noNode .state)) (let z : suc (x - suc i) ≡ x - i = omega (arith, l, not) in z))
+
 -- ---- a table and its survey
 
-pub fine-table : (a : ℕ) (t : Table) → fineTable (surveyOf a t) (length t) ≡ tableSound t
+pub fine-table : (t : Table) → fineTable (surveyOf t) (length t) ≡ tableSound t
 unfolding tableSound surveyOf foldFrom unseen
-fine-table a [] = refl
-fine-table a (v ∷ t) =
-    ap (λ (s : Survey). fineTable s (suc (length t))) (survey-is a v t)
-    ∙ ap₂ (λ (f : Bool) (n : ℕ). f && eqb n (suc (length t))) (fine-is (begun true a v) 0 (v ∷ t)) (n-is (begun true a v) 0 (v ∷ t))
+fine-table [] = refl
+fine-table (v ∷ t) =
+    ap (λ (s : Survey). fineTable s (suc (length t))) (survey-is v t)
+    ∙ ap₂ (λ (f : Bool) (n : ℕ). f && eqb n (suc (length t))) (fine-is (begun true v) 0 (v ∷ t)) (n-is (begun true v) 0 (v ∷ t))
     ∙ and-comm (placedFrom (v .n) (v .k) (v .slots) 1 (v ∷ t)) (eqb (v .n) (suc (length t)))
 
 -- what the survey of a sound table says
-pub record Said (a : ℕ) (t : Table) : Type 0 where
+pub record Said (t : Table) : Type 0 where
   pub ring : ringSize (length t) ≡ true
   pub rows : placedFrom (length t) (recordOf t 1 .k) (slotsOf t) 1 t ≡ true
-  pub n : surveyOf a t .n ≡ length t
-  pub slots : surveyOf a t .slots ≡ slotsOf t
-  pub sender : surveyOf a t .sender ≡ speaker t
-  pub spoken : surveyOf a t .speaker ≡ recordOf t (speaker t)
-  pub state : nodeNumber (length t) a ≡ true → surveyOf a t .state ≡ recordOf t a .state
-  pub list : surveyOf a t .list ≡ listIn t
+  pub n : surveyOf t .n ≡ length t
+  pub slots : surveyOf t .slots ≡ slotsOf t
+  pub sender : surveyOf t .sender ≡ speaker t
+  pub spoken : surveyOf t .speaker ≡ recordOf t (speaker t)
+  pub out : (a : ℕ) → nodeNumber (length t) a ≡ true → has (surveyOf t .out) a ≡ isOut (recordOf t a .state)
 
 -- the sender of a record of a ring
 sender-after : (v : Node) → ringSize (v .n) ≡ true → senderAfter v ≡ sender (v .n) (v .slots + 1)
@@ -179,14 +195,18 @@ there : {X : Type 0} (g : Node → X) (n k slots x : ℕ) (d : X) (t : Table) �
 unfolding recordOf
 there g n k slots x d t h l m = found-at g n k slots 1 x d noNode t h l (omega (arith, m))
 
+there-is : (t : Table) (a : ℕ) → getD t (a - 1) noNode ≡ recordOf t a
+unfolding recordOf
+there-is t a = refl
+
 first-is : (v : Node) (t : Table) → recordOf (v ∷ t) 1 ≡ v
 unfolding recordOf
 first-is v t = refl
 
-pub said : (a : ℕ) (t : Table) → tableSound t ≡ true → Said a t
+pub said : (t : Table) → tableSound t ≡ true → Said t
 unfolding tableSound slotsOf speaker
-said a [] e = absurd (true≢false (sym e))
-said a (v ∷ t) e =
+said [] e = absurd (true≢false (sym e))
+said (v ∷ t) e =
     let c = both (eqb (v .n) (suc (length t))) (placedFrom (v .n) (v .k) (v .slots) 1 (v ∷ t)) e in
     let n-is′ : v .n ≡ suc (length t) = eqb-true (v .n) (suc (length t)) (c .0) in
     let p = placed (v .n) (v .k) (v .slots) 1 v t (c .1) in
@@ -197,13 +217,15 @@ said a (v ∷ t) e =
     record {
       ring = subst (λ (m : ℕ). ringSize m ≡ true) n-is′ ring-v;
       rows = subst (λ (w : Node). placedFrom (suc (length t)) (w .k) (w .slots) 1 (v ∷ t) ≡ true) (sym first) (subst (λ (m : ℕ). placedFrom m (v .k) (v .slots) 1 (v ∷ t) ≡ true) n-is′ (c .1));
-      n = ap (λ (s : Survey). s .n) (survey-is a v t) ∙ n-is (begun true a v) 0 (v ∷ t) ∙ n-is′;
-      slots = ap (λ (s : Survey). s .slots) (survey-is a v t) ∙ slots-is (begun true a v) 0 (v ∷ t) ∙ sym (ap (λ (w : Node). w .slots) first);
-      sender = ap (λ (s : Survey). s .sender) (survey-is a v t) ∙ sender-is (begun true a v) 0 (v ∷ t) ∙ sender-after v ring-v ∙ speaks;
-      spoken = ap (λ (s : Survey). s .speaker) (survey-is a v t) ∙ speaker-is (begun true a v) 0 (v ∷ t)
+      n = ap (λ (s : Survey). s .n) (survey-is v t) ∙ n-is (begun true v) 0 (v ∷ t) ∙ n-is′;
+      slots = ap (λ (s : Survey). s .slots) (survey-is v t) ∙ slots-is (begun true v) 0 (v ∷ t) ∙ sym (ap (λ (w : Node). w .slots) first);
+      sender = ap (λ (s : Survey). s .sender) (survey-is v t) ∙ sender-is (begun true v) 0 (v ∷ t) ∙ sender-after v ring-v ∙ speaks;
+      spoken = ap (λ (s : Survey). s .speaker) (survey-is v t) ∙ speaker-is (begun true v) 0 (v ∷ t)
           ∙ there (λ w. w) (v .n) (v .k) (v .slots) (senderAfter v) v (v ∷ t) (c .1) (omega (arith, range .0, sender-after v ring-v)) (omega (arith, range .1, sender-after v ring-v, n-is′))
           ∙ ap (recordOf (v ∷ t)) (sender-after v ring-v ∙ speaks);
-      state = λ h. ap (λ (s : Survey). s .state) (survey-is a v t) ∙ state-is (begun true a v) 0 (v ∷ t)
-          ∙ there (λ w. w .state) (v .n) (v .k) (v .slots) a (v .state) (v ∷ t) (c .1) (node-number _ a h .0) (node-number _ a h .1);
-      list = ap (λ (s : Survey). s .list) (survey-is a v t) ∙ list-is (begun true a v) 0 (v ∷ t) ∙ list-found (v ∷ t);
+      out = λ a h.
+          let m = node-number (suc (length t)) a h in
+          let r = ring-size (v .n) ring-v in
+          ap (λ (s : Survey). has (s .out) a) (survey-is v t) ∙ ap (λ (x : ℕ). has x a) (out-is (begun true v) 0 (v ∷ t))
+          ∙ out-at (v .n) (v .k) (v .slots) 1 a 0 (v ∷ t) (c .1) (omega arith) (m .0) (omega (arith, m .1)) (omega (arith, m .1, r .1, n-is′)) (has-none a) ∙ ap (λ (w : Node). isOut (w .state)) (there-is (v ∷ t) a);
     }

@@ -28,26 +28,38 @@ use Rattle.node.specs.Slot.{afterSlot}
 use Rattle.node.specs.Calls as node
 use Rattle.node.specs.Calls.{noNode}
 use Rattle.node.proofs.Taught.{after-taught, heard-told, sound-own, sound-marks}
-use Rattle.bench_walks.specs.declared.Asked.the-variants as asked
+use Rattle.bench.specs.declared.Command.{Command}
+use Rattle.bench.specs.declared.Command.the-variants as command
 use Rattle.bench_walks.specs.declared.Order.{Order}
 use Rattle.bench_walks.specs.declared.Order.the-variants as order
 use Rattle.bench_walks.specs.declared.Turn.{Turn}
 use Rattle.bench_walks.specs.declared.Survey.{Survey}
+use Rattle.bench.specs.declared.Fate.{Fate}
 use Rattle.bench.specs.Table.{Table, eachFrom, placedFrom, tableSound, slotsOf, recordOf, speaker}
 use Rattle.bench.specs.Calls as bench
-use Rattle.bench.specs.Calls.{Called, done, ifPassed, setUpOf, startTable, offOf, afterOff, restartOf, afterRestart, slotOf, heardBy, spoken, transmits, unheard}
+use Rattle.bench.specs.Calls.{Called, done, ifPassed, setUpOf, startTable, offOf, afterOff, restartOf, afterRestart, slotOf, heardBy, spoken, transmits, unheard, lookOf}
+use Rattle.bench.specs.Outcomes.{calledOf}
 use Rattle.bench.proofs.agreement.Places.{sound-placed}
 use Rattle.bench.proofs.agreement.Counted.{step-done}
-use Rattle.bench_walks.specs.Survey.{surveyOf}
-use Rattle.bench_walks.specs.Orders.{ifGood, saidBy, turnOf, orderFor, heardAt, stepAt, carried, answerTo, reported, reportOf}
+use Rattle.bench_walks.specs.Survey.{surveyOf, fineTable}
+use Rattle.bench_walks.specs.Orders.{ifGood, saidBy, turnOf, orderFor, heardAt, stepAt, carried, fateBy, answerTo}
 use Rattle.bench_calls.proofs.Surveys.{Placed, placed, fine-table, Said, said}
 
 -- ---- each record
 
-refused-table : (cause : Refusal) (i : ℕ) (t : Table) → eachFrom (carried (order.Refuse cause)) i t ≡ t
-unfolding eachFrom carried
-refused-table cause i [] = refl
-refused-table cause i (v ∷ t) = ap {B = List Node} (λ r. v ∷ r) (refused-table cause (suc i) t)
+-- an order that leaves each record as it is leaves the table
+kept-table : (o : Order) → ((i : ℕ) (v : Node) → carried o i v ≡ v) → (i : ℕ) (t : Table) → eachFrom (carried o) i t ≡ t
+unfolding eachFrom
+kept-table o h i [] = refl
+kept-table o h i (v ∷ t) = ap₂ {C = List Node} (λ w r. w ∷ r) (h i v) (kept-table o h (suc i) t)
+
+refused-table : (cause : Refusal) (t : Table) → eachFrom (carried (order.Refuse cause)) 0 t ≡ t
+unfolding carried
+refused-table cause t = kept-table (order.Refuse cause) (λ i v. refl) 0 t
+
+pub look-table : (slots sender : ℕ) (fate : Fate) (t : Table) → eachFrom (carried (order.Look slots sender fate)) 0 t ≡ t
+unfolding carried
+look-table slots sender fate t = kept-table (order.Look slots sender fate) (λ i v. refl) 0 t
 
 -- two ways to make a table anew are one where they agree on each record in its place
 by-own : (n k slots : ℕ) (w : ℕ → Node) (f g : ℕ → Node → Node) → ((j : ℕ) (v : Node) (u : Table) → Placed n k slots (suc j) v u → v ≡ w j → f j v ≡ g (suc j) v)
@@ -79,7 +91,7 @@ abbrev pub calledBy : Order → Table → Called
 calledBy o t = record { table = eachFrom (carried o) 0 t; answer = answerTo o }
 
 refuses : (cause : Refusal) (t : Table) → calledBy (order.Refuse cause) t ≡ ifPassed false cause t (done t)
-refuses cause t = ap (λ (u : Table). ifPassed false cause u (done u)) (refused-table cause 0 t)
+refuses cause t = ap (λ (u : Table). ifPassed false cause u (done u)) (refused-table cause t)
 
 -- one test after the other
 passes : {b b′ : Bool} (cause : Refusal) (o : Order) (t : Table) (c : Called) → b ≡ b′ → (b′ ≡ true → calledBy o t ≡ c) → calledBy (ifGood b cause o) t ≡ ifPassed b′ cause t c
@@ -93,11 +105,11 @@ off-node : (v : Node) → sound v ≡ true → outFor SwitchedOff v ≡ node.off
 unfolding node.offOf
 off-node v e = rw e
 
-pub off-called : (a : ℕ) (t : Table) → calledBy (orderFor (asked.Off a) t) t ≡ offOf a t
+off-called : (a room : ℕ) (t : Table) → calledBy (orderFor (command.Off a) room t) t ≡ offOf a t
 unfolding orderFor offOf carried
-off-called a t =
-    passes _ _ t _ (fine-table 0 t) (λ ok.
-    let s = said 0 t ok in
+off-called a room t =
+    passes _ _ t _ (fine-table t) (λ ok.
+    let s = said t ok in
     passes _ _ t _ (ap (λ (m : ℕ). nodeNumber m a) (s .n)) (λ h. ap done (tables (s .rows))))
   where
     tables : placedFrom (length t) (recordOf t 1 .k) (slotsOf t) 1 t ≡ true → eachFrom (carried (order.Off a)) 0 t ≡ afterOff a t
@@ -109,13 +121,13 @@ restart-node : (v : Node) → sound v ≡ true → isOut (v .state) ≡ true →
 unfolding node.restartOf
 restart-node v e out = rw (e, out)
 
-pub restart-called : (a : ℕ) (t : Table) → calledBy (orderFor (asked.Restart a) t) t ≡ restartOf a t
+restart-called : (a room : ℕ) (t : Table) → calledBy (orderFor (command.Restart a) room t) t ≡ restartOf a t
 unfolding orderFor restartOf carried
-restart-called a t =
-    passes _ _ t _ (fine-table a t) (λ ok.
-    let s = said a t ok in
+restart-called a room t =
+    passes _ _ t _ (fine-table t) (λ ok.
+    let s = said t ok in
     passes _ _ t _ (ap (λ (m : ℕ). nodeNumber m a) (s .n)) (λ h.
-    passes _ _ t _ (ap isOut (s .state h)) (λ out. ap done (tables (s .rows) out))))
+    passes _ _ t _ (s .out a h) (λ out. ap done (tables (s .rows) out))))
   where
     one : (j : ℕ) (v : Node) → sound v ≡ true → isOut (recordOf t a .state) ≡ true → v ≡ recordOf t (suc j) → cond (eqb (suc j) a) (fresh v) v ≡ cond (eqb (suc j) a) (node.restartOf v .node) v
     one j v good out is =
@@ -129,9 +141,9 @@ restart-called a t =
         by-record (recordOf t 1 .k) (slotsOf t) (carried (order.Restart a)) (λ i v. cond (eqb i a) (node.restartOf v .node) v) t rows
         (λ j v u p is. ap (λ (i : ℕ). cond (eqb i a) (fresh v) v) (p .own) ∙ one j v (p .good) out is)
 
-pub set-up-called : (n k : ℕ) (t : Table) → calledBy (orderFor (asked.SetUp n k) t) t ≡ setUpOf n k t
+set-up-called : (n k room : ℕ) (t : Table) → calledBy (orderFor (command.SetUp n k) room t) t ≡ setUpOf n k t
 unfolding orderFor setUpOf carried
-set-up-called n k t =
+set-up-called n k room t =
     passes {b = ringSize n} RingSize (ifGood (sponsorCount n k) SponsorCount (ifGood (eqb (length t) n) Unsound (order.Start n k))) t _ refl (λ ring.
     passes {b = sponsorCount n k} SponsorCount (ifGood (eqb (length t) n) Unsound (order.Start n k)) t _ refl (λ sponsors.
     passes {b = eqb (length t) n} Unsound (order.Start n k) t _ refl (λ size. ap done (tables ring size))))
@@ -156,9 +168,9 @@ hears lost missed t i v e = ap (λ (w : Node). cond (has missed i) unheard (said
     go false false = refl
 
 -- a record in its place does in a slot what the node call does
-module _ (lost : Bool) (missed : ℕ) (t : Table) (ok : tableSound t ≡ true) (s : Said 0 t) (below : slotsOf t < limit) where
+module _ (lost : Bool) (missed : ℕ) (t : Table) (ok : tableSound t ≡ true) (s : Said t) (below : slotsOf t < limit) where
   abbrev survey : Survey
-  survey = surveyOf 0 t
+  survey = surveyOf t
 
   abbrev turn : Turn
   turn = turnOf lost missed survey
@@ -197,23 +209,32 @@ module _ (lost : Bool) (missed : ℕ) (t : Table) (ok : tableSound t ≡ true) (
       heard-at = ap (λ (i : ℕ). cond (has missed i) unheard (turn .heard)) (p .own) ∙ hears lost missed t (suc j) (survey .speaker) (s .spoken)
 
 pub slot-table : (lost : Bool) (missed : ℕ) (t : Table) → tableSound t ≡ true → slotsOf t < limit
-    → eachFrom (carried (order.Slot (turnOf lost missed (surveyOf 0 t)))) 0 t ≡ bench.afterSlot lost missed t
+    → eachFrom (carried (order.Slot (turnOf lost missed (surveyOf t)))) 0 t ≡ bench.afterSlot lost missed t
 unfolding carried bench.afterSlot
 slot-table lost missed t ok below =
-    let s = said 0 t ok in
-    by-record (recordOf t 1 .k) (slotsOf t) (carried (order.Slot (turnOf lost missed (surveyOf 0 t)))) (λ i v. node.stepOf (heardBy lost missed t i) v .node) t (s .rows)
+    let s = said t ok in
+    by-record (recordOf t 1 .k) (slotsOf t) (carried (order.Slot (turnOf lost missed (surveyOf t)))) (λ i v. node.stepOf (heardBy lost missed t i) v .node) t (s .rows)
     (λ j v u p is. step-is lost missed t ok s below j v u p)
 
-pub slot-called : (lost : Bool) (missed room : ℕ) (t : Table) → calledBy (orderFor (asked.Slot lost missed room) t) t ≡ slotOf lost missed room t
+slot-called : (lost : Bool) (missed room : ℕ) (t : Table) → calledBy (orderFor (command.Slot lost missed) room t) t ≡ slotOf lost missed room t
 unfolding orderFor slotOf
 slot-called lost missed room t =
-    passes _ _ t _ (fine-table 0 t) (λ ok.
-    let s = said 0 t ok in
+    passes _ _ t _ (fine-table t) (λ ok.
+    let s = said t ok in
     passes _ _ t _ (ap (λ (m : ℕ). within m missed) (s .n)) (λ h.
     passes _ _ t _ (ap (λ (m : ℕ). ltb m limit) (s .slots)) (λ l.
-    passes {b = leb 64 room} OutputShort (order.Slot (turnOf lost missed (surveyOf 0 t))) t _ refl (λ r. ap done (slot-table lost missed t ok (ltb-true (slotsOf t) limit l))))))
+    passes {b = leb 64 room} OutputShort (order.Slot (turnOf lost missed (surveyOf t))) t _ refl (λ r. ap done (slot-table lost missed t ok (ltb-true (slotsOf t) limit l))))))
 
--- the answer of a report
-pub answered : (o : Order) (t : Table) → answerTo (reportOf o t .order) ≡ answerTo o
-unfolding reportOf reported
-answered o t = refl
+look-called : (lost : Bool) (room : ℕ) (t : Table) → calledBy (orderFor (command.Look lost) room t) t ≡ lookOf t
+unfolding orderFor lookOf
+look-called lost room t =
+    passes {b = fineTable (surveyOf t) (length t)} Unsound (order.Look (surveyOf t .slots) (surveyOf t .sender) (fateBy lost (surveyOf t .speaker))) t _ (fine-table t)
+    (λ ok. ap done (look-table (surveyOf t .slots) (surveyOf t .sender) (fateBy lost (surveyOf t .speaker)) t))
+
+-- the call that a command asks for
+pub called-by : (c : Command) (room : ℕ) (t : Table) → calledBy (orderFor c room t) t ≡ calledOf c room t
+called-by (command.SetUp n k) room t = set-up-called n k room t
+called-by (command.Off a) room t = off-called a room t
+called-by (command.Restart a) room t = restart-called a room t
+called-by (command.Slot lost missed) room t = slot-called lost missed room t
+called-by (command.Look lost) room t = look-called lost room t

@@ -58,6 +58,7 @@ fn unreadable(rows: [Node; 32]) -> Ran {
     Ran {
         rows,
         outcome: Outcome::Refused(Refusal::PlanLine),
+        pairs: 0,
     }
 }
 
@@ -92,6 +93,7 @@ fn run_lines(
     let mut ran = Ran {
         rows,
         outcome: Outcome::Quiet,
+        pairs: 0,
     };
     let mut number: u64 = 1;
     while number < u64::MAX {

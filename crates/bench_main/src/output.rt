@@ -1,7 +1,7 @@
 // Standard output, line by line, through a buffer. `held` is the number of bytes that wait in it.
 use bench::Fate;
+use bench::Listed;
 use bench::Outcome;
-use bench::Shown;
 use plan_text::Written;
 
 // The bytes that every line fits into.
@@ -48,7 +48,7 @@ fn print_slot(
     slot: u64,
     sender: u32,
     fate: Fate,
-    shown: Shown,
+    shown: Listed,
     distance: u32,
 ) -> usize {
     let held = with_room(buffer, held);

@@ -1,3 +1,6 @@
 pub mod Partly
 pub mod Shared
 pub mod Numbers
+pub mod Again
+pub mod Calls
+pub mod Folds

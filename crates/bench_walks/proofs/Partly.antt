@@ -1,7 +1,7 @@
--- Where a walk over a table stands when i records are done: what is folded over them (fold-none, fold-next, take-all), and the table of which they are made anew
+-- Where a walk over a table stands when i records are done: what is folded over them (fold-none, fold-next, take-all, take-least), and the table of which they are made anew
 -- (partly and its laws). Assumes nothing.
 use mathlib.Core.Path.{_≡_, refl, sym, ap, _∙_}
-use Prim.Native.Nat.{ℕ, zero, suc, _+_, _<_}
+use Prim.Native.Nat.{ℕ, zero, suc, _+_, _<_, min}
 use native.Mathlib.Nat.{not-suc-le-zero, le-of-suc-le-suc}
 use native.Mathlib.Numerals.{add-one}
 use native.Mathlib.Omega.{arith}
@@ -37,6 +37,13 @@ module _ {S : Type 0} (f : S → ℕ → Node → S) where
 pub take-all : {X : Type 0} (xs : List X) → take (length xs) xs ≡ xs
 take-all [] = refl
 take-all {X} (x ∷ xs) = ap {B = List X} (λ r. x ∷ r) (take-all xs)
+
+-- more than all is all
+pub take-least : {X : Type 0} (k : ℕ) (xs : List X) → take (min k (length xs)) xs ≡ take k xs
+take-least zero xs = ap (λ (m : ℕ). take m xs) (let e : min 0 (length xs) ≡ 0 = omega arith in e)
+take-least {X} (suc k) [] = ap (λ (m : ℕ). take {A = X} m []) (let e : min (suc k) 0 ≡ 0 = omega arith in e)
+take-least {X} (suc k) (x ∷ xs) =
+    ap (λ (m : ℕ). take m (x ∷ xs)) (let e : min (suc k) (suc (length xs)) ≡ suc (min k (length xs)) = omega arith in e) ∙ ap {B = List X} (λ r. x ∷ r) (take-least k xs)
 
 module _ (f : ℕ → Node → Node) where
   abbrev pub partlyFrom : ℕ → ℕ → List Node → List Node

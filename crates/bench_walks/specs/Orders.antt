@@ -1,5 +1,5 @@
--- Inner: what a call has each record of a table do, and what is noticed as it is done: the pairs, and the list. The laws in bench_calls' proofs/ tie it to
--- bench's specs/Calls, specs/Pairs and specs/Outcomes.
+-- Inner: what a call has each record of a table do, and what is noted as it is done: the pairs, and the list. The laws in bench_calls' proofs/ tie it
+-- to bench's specs/Calls, specs/Pairs and specs/Outcomes.
 use Prim.Native.Nat.{ℕ, zero, suc, _+_, _*_}
 use mathlib.Core.Bool.{Bool, true, cond, _&&_}
 use mathlib.Core.List.{List}
@@ -12,7 +12,7 @@ use Rattle.ring.specs.Ring.{ringSize, sponsorCount, nodeNumber}
 use Rattle.message.specs.declared.Reading.{Reading}
 use Rattle.message.specs.declared.Reading.the-variants as reading
 use Rattle.record.specs.declared.Node.{Node}
-use Rattle.record.specs.States.{isMember, isOut}
+use Rattle.record.specs.States.{isMember}
 use Rattle.record.specs.Soundness.{limit}
 use Rattle.record.specs.declared.Cause.the-variants.{SwitchedOff}
 use Rattle.changes.specs.Changes.{starting, outFor, fresh, numbered}
@@ -21,43 +21,29 @@ use Rattle.sending.specs.Sending.{sends, bitsSent, returnSent}
 use Rattle.node.specs.declared.Answer.{Answer}
 use Rattle.node.specs.declared.Answer.the-variants as answer
 use Rattle.node.specs.Slot.{afterBy}
-use Rattle.bench_walks.specs.declared.Asked.{Asked}
-use Rattle.bench_walks.specs.declared.Asked.the-variants as asked
+use Rattle.bench.specs.declared.Command.{Command}
+use Rattle.bench.specs.declared.Command.the-variants as command
 use Rattle.bench_walks.specs.declared.Order.{Order}
 use Rattle.bench_walks.specs.declared.Order.the-variants as order
 use Rattle.bench_walks.specs.declared.Turn.{Turn}
 use Rattle.bench_walks.specs.declared.Told.{Told}
 use Rattle.bench_walks.specs.declared.Sight.{Sight}
 use Rattle.bench_walks.specs.declared.Notes.{Notes}
-use Rattle.bench_walks.specs.declared.Report.{Report}
-use Rattle.bench_walks.specs.declared.Survey.{Survey}
+use Rattle.bench_walks.specs.declared.Members.{Members}
 use Rattle.bench.specs.declared.Listed.{Listed}
 use Rattle.bench.specs.declared.Listed.the-variants as listed
-use Rattle.bench.specs.declared.Apart.{Apart}
-use Rattle.bench.specs.declared.Apart.the-variants as apart
+use Rattle.bench_walks.specs.declared.Survey.{Survey}
 use Rattle.bench.specs.declared.Fate.{Fate}
 use Rattle.bench.specs.declared.Fate.the-variants as fate
 use Rattle.bench.specs.declared.Outcome.{Outcome}
 use Rattle.bench.specs.declared.Outcome.the-variants as outcome
-use Rattle.bench.specs.declared.Next.{Next}
-use Rattle.bench.specs.declared.Next.the-variants as next
-use Rattle.bench.specs.declared.Changed.{Changed}
-use Rattle.bench.specs.declared.Changed.the-variants as changed
-use Rattle.bench_walks.specs.declared.Members.{Members}
 use Rattle.bench.specs.Table.{Table, eachFrom}
 use Rattle.bench.specs.Calls.{unheard}
 use Rattle.bench.specs.Pairs.{sameState, kindFrom}
-use Rattle.bench.specs.Outcomes.{shownOf}
-use Rattle.bench_walks.specs.Survey.{foldFrom, surveyOf, fineTable, listWith}
+use Rattle.bench.specs.declared.Reply.{Reply}
+use Rattle.bench_walks.specs.Survey.{foldFrom, surveyOf, fineTable}
 
 -- ---- orders
-
--- The node that is asked about.
-abbrev pub askedNode : Asked → ℕ
-askedNode (asked.SetUp n k) = 0
-askedNode (asked.Off a) = 0
-askedNode (asked.Restart a) = a
-askedNode (asked.Slot lost missed room) = 0
 
 -- An order where a test holds, else the refusal.
 abbrev pub ifGood : Bool → Refusal → Order → Order
@@ -71,7 +57,7 @@ offOrder a s size = ifGood (fineTable s size) Unsound (ifGood (nodeNumber (s .n)
 
 abbrev pub restartOrder : ℕ → Survey → ℕ → Order
 restartOrder a s size =
-    ifGood (fineTable s size) Unsound (ifGood (nodeNumber (s .n) a) NodeNumber (ifGood (isOut (s .state)) NotOut (order.Restart a)))
+    ifGood (fineTable s size) Unsound (ifGood (nodeNumber (s .n) a) NodeNumber (ifGood (has (s .out) a) NotOut (order.Restart a)))
 
 -- What the speaker says, where it is heard.
 abbrev pub saidBy : Bool → Node → Reading
@@ -100,14 +86,18 @@ slotOrder lost missed room s size =
     (ifGood (leb 64 room) OutputShort
     (order.Slot (turnOf lost missed s)))))
 
-abbrev pub orderOf : Asked → Survey → ℕ → Order
-orderOf (asked.SetUp n k) s size = setUpOrder n k size
-orderOf (asked.Off a) s size = offOrder a s size
-orderOf (asked.Restart a) s size = restartOrder a s size
-orderOf (asked.Slot lost missed room) s size = slotOrder lost missed room s size
+abbrev pub lookOrder : Bool → Survey → ℕ → Order
+lookOrder lost s size = ifGood (fineTable s size) Unsound (order.Look (s .slots) (s .sender) (fateBy lost (s .speaker)))
 
-unfoldable pub orderFor : Asked → Table → Order
-orderFor a t = orderOf a (surveyOf (askedNode a) t) (length t)
+abbrev pub orderOf : Command → Survey → ℕ → ℕ → Order
+orderOf (command.SetUp n k) s size room = setUpOrder n k size
+orderOf (command.Off a) s size room = offOrder a s size
+orderOf (command.Restart a) s size room = restartOrder a s size
+orderOf (command.Slot lost missed) s size room = slotOrder lost missed room s size
+orderOf (command.Look lost) s size room = lookOrder lost s size
+
+unfoldable pub orderFor : Command → ℕ → Table → Order
+orderFor c room t = orderOf c (surveyOf t) (length t) room
 
 -- ---- carrying an order out
 
@@ -134,6 +124,7 @@ carried (order.Start n k) i v = starting n k (placeOf i)
 carried (order.Off a) i v = offAt a v
 carried (order.Restart a) i v = restartAt a v
 carried (order.Slot turn) i v = stepAt turn v
+carried (order.Look slots sender fate) i v = v
 
 abbrev pub carriedFrom : Order → ℕ → Table → Table
 carriedFrom o i t = eachFrom (carried o) i t
@@ -153,10 +144,13 @@ noPairs = record { count = 0; bytes = replicate 64 0 }
 
 -- ---- the list, and whether all members hold it
 
+abbrev pub listWith : Listed → Node → Listed
+listWith listed.Nobody v = cond (isMember (v .state)) (listed.Set (v .set)) listed.Nobody
+listWith (listed.Set set) v = listed.Set set
+
 abbrev pub sameWith : Listed → Node → Bool
 sameWith (listed.Set set) v = cond (isMember (v .state)) (eqb set (v .set)) true
 sameWith listed.Nobody v = true
-sameWith (listed.Refused cause) v = true
 
 unfoldable pub sighted : Sight → Node → Sight
 sighted s v = record { list = listWith (s .list) v; same = s .same && sameWith (s .list) v }
@@ -175,7 +169,10 @@ noNotes = record { told = noPairs; sight = noSight }
 abbrev pub noticedFrom : Order → Notes → ℕ → Table → Notes
 noticedFrom o m i t = foldFrom (λ m i v. noticed m v (carried o i v)) m i t
 
--- ---- reports
+unfoldable pub notesOf : Order → Table → Notes
+notesOf o t = noticedFrom o noNotes 0 t
+
+-- ---- what is answered
 
 abbrev pub answerTo : Order → Answer
 answerTo (order.Refuse cause) = answer.Refused cause
@@ -183,60 +180,41 @@ answerTo (order.Start n k) = answer.Done
 answerTo (order.Off a) = answer.Done
 answerTo (order.Restart a) = answer.Done
 answerTo (order.Slot turn) = answer.Done
+answerTo (order.Look slots sender fate) = answer.Done
 
-unfoldable pub reported : Order → Notes → Report
-reported o m = record { order = o; notes = m }
+-- How many records are to be looked through for the distance: none where all members hold one set.
+abbrev pub reachOf : Notes → ℕ
+reachOf m = cond (m .sight .same) 0 32
 
-unfoldable pub reportOf : Order → Table → Report
-reportOf o t = reported o (noticedFrom o noNotes 0 t)
+-- What there is to print.
+abbrev pub outcomeBy : Order → Listed → ℕ → Outcome
+outcomeBy (order.Refuse cause) list apart = outcome.Refused cause
+outcomeBy (order.Start n k) list apart = outcome.Quiet
+outcomeBy (order.Off a) list apart = outcome.Quiet
+outcomeBy (order.Restart a) list apart = outcome.Quiet
+outcomeBy (order.Slot turn) list apart = outcome.Slot (turn .slot) (turn .sender) (turn .fate) list apart
+outcomeBy (order.Look slots sender fate) list apart = outcome.Slot slots sender fate list apart
 
--- ---- what is read from a survey of a table of so many records
+-- Pairs are told of a slot alone.
+abbrev pub pairsBy : Order → Notes → ℕ
+pairsBy (order.Refuse cause) m = 0
+pairsBy (order.Start n k) m = 0
+pairsBy (order.Off a) m = 0
+pairsBy (order.Restart a) m = 0
+pairsBy (order.Slot turn) m = m .told .count
+pairsBy (order.Look slots sender fate) m = 0
 
-abbrev pub listedBy : Survey → ℕ → Listed
-listedBy s size = cond (fineTable s size) (s .list) (listed.Refused Unsound)
+abbrev pub replyBy : Order → Notes → Members → Reply
+replyBy o m ms = record { outcome = outcomeBy o (m .sight .list) (ms .greatest); pairs = pairsBy o m }
 
-abbrev pub apartBy : Survey → Members → ℕ → Apart
-apartBy s m size = cond (fineTable s size) (apart.Nodes (m .greatest)) (apart.Refused Unsound)
-
-abbrev pub nextBy : Bool → Survey → ℕ → Next
-nextBy lost s size = cond (fineTable s size) (next.Slot (s .sender) (fateBy lost (s .speaker))) (next.Refused Unsound)
-
--- ---- what is told of a slot
-
-abbrev pub bytesTold : Report → ℕ → ℕ
-bytesTold report room = go (answerTo (report .order))
-  where
-    go : Answer → ℕ
-    go answer.Done = cond (leb (report .notes .told .count) 32 && leb 64 room) (report .notes .told .count * 2) 0
-    go (answer.Refused cause) = 0
-
-abbrev pub changedBy : Report → Changed
-changedBy report = go (answerTo (report .order))
-  where
-    go : Answer → Changed
-    go answer.Done = changed.Pairs (report .notes .told .count)
-    go (answer.Refused cause) = changed.Refused cause
+-- The bytes of so many pairs, where they fit.
+abbrev pub bytesTold : ℕ → ℕ → ℕ
+bytesTold count room = cond (leb count 32 && leb 64 room) (count * 2) 0
 
 -- The first so many of the bytes, stored.
 unfoldable pub puts : List ℕ → ℕ → List ℕ → List ℕ
 puts bytes zero out = out
 puts bytes (suc j) out = set (puts bytes j out) j (getD bytes j 0)
 
-abbrev pub writtenBy : Report → List ℕ → List ℕ
-writtenBy report out = puts (report .notes .told .bytes) (bytesTold report (length out)) out
-
--- ---- what there is to print of a slot
-
--- How many records are to be looked through for the distance: none where all members hold one set.
-abbrev pub reachOf : Report → ℕ → ℕ
-reachOf report size = cond (report .notes .sight .same) 0 size
-
-abbrev pub outcomeBy : Report → Members → Outcome
-outcomeBy report m = go (report .order)
-  where
-    go : Order → Outcome
-    go (order.Slot turn) = outcome.Slot (turn .slot) (turn .sender) (turn .fate) (shownOf (report .notes .sight .list)) (m .greatest)
-    go (order.Refuse cause) = outcome.Refused cause
-    go (order.Start n k) = outcome.Quiet
-    go (order.Off a) = outcome.Quiet
-    go (order.Restart a) = outcome.Quiet
+abbrev pub writtenBy : Order → Notes → List ℕ → List ℕ
+writtenBy o m out = puts (m .told .bytes) (bytesTold (pairsBy o m) (length out)) out

@@ -4,16 +4,13 @@ use mathlib.Core.Bool.{Bool, true, false, cond, _&&_}
 use mathlib.Core.List.{List, [], _∷_}
 use lib.Dec.{eqb, ltb}
 use lib.ListN.{getD, set, replicate}
-use Rattle.nodeset.specs.Sets.{distance}
+use Rattle.nodeset.specs.Sets.{with, distance}
 use Rattle.ring.specs.Answers.{senderOf}
 use Rattle.ring.specs.declared.Speaker.{Speaker}
 use Rattle.ring.specs.declared.Speaker.the-variants as speaker
 use Rattle.record.specs.declared.Node.{Node}
-use Rattle.record.specs.declared.State.{State}
-use Rattle.record.specs.States.{isMember}
+use Rattle.record.specs.States.{isMember, isOut}
 use Rattle.node.specs.Calls.{noNode}
-use Rattle.bench.specs.declared.Listed.{Listed}
-use Rattle.bench.specs.declared.Listed.the-variants as listed
 use Rattle.bench_walks.specs.declared.Survey.{Survey}
 use Rattle.bench_walks.specs.declared.Members.{Members}
 use Rattle.bench.specs.Table.{Table, inPlace}
@@ -32,61 +29,46 @@ unfoldable pub senderAfter : Node → ℕ
 senderAfter v = numberOf (senderOf (v .n) (v .slots + 1))
 
 -- Before any record is seen: n, k and slots are those of v.
-abbrev pub begun : Bool → ℕ → Node → Survey
-begun fine asked v = record {
+abbrev pub begun : Bool → Node → Survey
+begun fine v = record {
   fine = fine;
   n = v .n;
   k = v .k;
   slots = v .slots;
   sender = senderAfter v;
   speaker = v;
-  asked = asked;
-  state = v .state;
-  list = listed.Nobody;
+  out = 0;
 }
 
--- The list, with one record more.
-abbrev pub listWith : Listed → Node → Listed
-listWith listed.Nobody v = cond (isMember (v .state)) (listed.Set (v .set)) listed.Nobody
-listWith (listed.Set set) v = listed.Set set
-listWith (listed.Refused cause) v = listed.Refused cause
+-- The nodes that are out, with one record more.
+abbrev pub outWith : ℕ → Node → ℕ
+outWith out v = cond (isOut (v .state)) (with out (v .own)) out
 
--- With this speaker, and what one record changes.
-abbrev pub surveyWith : Survey → Node → Bool → State → Listed → Survey
-surveyWith s v fine state list = record {
-  fine = fine;
+-- With the record at index i.
+abbrev pub seen : Survey → ℕ → Node → Survey
+seen s i v = record {
+  fine = s .fine && inPlace (s .n) (s .k) (s .slots) (i + 1) v;
   n = s .n;
   k = s .k;
   slots = s .slots;
   sender = s .sender;
-  speaker = v;
-  asked = s .asked;
-  state = state;
-  list = list;
+  speaker = cond (eqb (v .own) (s .sender)) v (s .speaker);
+  out = outWith (s .out) v;
 }
-
--- With the record at index i.
-abbrev pub seen : Survey → ℕ → Node → Survey
-seen s i v =
-    surveyWith s
-    (cond (eqb (v .own) (s .sender)) v (s .speaker))
-    (s .fine && inPlace (s .n) (s .k) (s .slots) (i + 1) v)
-    (cond (eqb (v .own) (s .asked)) (v .state) (s .state))
-    (listWith (s .list) v)
 
 -- The first record gives n, k and slots.
 unfoldable pub surveyed : Survey → ℕ → Node → Survey
-surveyed s i v = seen (cond (eqb i 0) (begun true (s .asked) v) s) i v
+surveyed s i v = seen (cond (eqb i 0) (begun true v) s) i v
 
 abbrev pub surveyFrom : Survey → ℕ → Table → Survey
 surveyFrom s i t = foldFrom surveyed s i t
 
 -- Of an empty table nothing is fine.
-unfoldable pub unseen : ℕ → Survey
-unseen asked = begun false asked noNode
+unfoldable pub unseen : Survey
+unseen = begun false noNode
 
-unfoldable pub surveyOf : ℕ → Table → Survey
-surveyOf asked t = surveyFrom (unseen asked) 0 t
+unfoldable pub surveyOf : Table → Survey
+surveyOf t = surveyFrom unseen 0 t
 
 -- A table is sound by its survey and its length.
 abbrev pub fineTable : Survey → ℕ → Bool

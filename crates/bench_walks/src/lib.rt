@@ -1,14 +1,16 @@
-// The inner functions of the bench (document 01, "The bench"). The walks over the table (look_over,
-// look_through, carry_out, work) have no branches; what they decide and do to a record stands in
-// the functions by value.
+// Inner: the walks over the bench's table (document 01, "The bench"): one looks it over, one has each
+// record do what is ordered, one gathers the members' sets. They have no branches; what they decide, do
+// to a record and note of it stands in the functions by value.
 pub mod orders;
 mod pairs;
 mod records;
 mod surveys;
 
+use bench::Command;
 use bench::Fate;
 use bench::Listed;
 use message::Reading;
+use orders::look_order;
 use orders::off_order;
 use orders::restart_order;
 use orders::set_up_order;
@@ -16,7 +18,6 @@ use orders::slot_order;
 use pairs::kind_from;
 use pairs::same_state;
 use record::Node;
-use record::State;
 use records::off_at;
 use records::place_of;
 use records::restart_at;
@@ -24,16 +25,15 @@ use records::step_at;
 use refusal::Refusal;
 use steps::Lesson;
 use surveys::begun;
-use surveys::list_with;
 use surveys::seen;
 ghost use mathlib.Core.Path.{_≡_};
-ghost use Prim.Native.Nat.{_<_, _≤_, max};
-ghost use lib.ListN.{length, take};
+ghost use Prim.Native.Nat.{_<_, _≤_, max, min};
+ghost use lib.ListN.{take};
 ghost use Rattle.bench_walks.specs.Survey.{surveyed, unseen, surveyOf, fineTable, farFrom, memberSeen, gathered, noMembers, membersOf};
-ghost use Rattle.bench_walks.specs.Orders.{askedNode, orderOf, carried, carriedFrom, pushed, noted, noPairs, sameWith, sighted, noticed, noNotes, noticedFrom, reported, reportOf, orderFor};
+ghost use Rattle.bench_walks.specs.Orders.{orderOf, carried, carriedFrom, pushed, noted, noPairs, listWith, sameWith, sighted, noticed, noNotes, notesOf};
 
 // What a look over a table finds: whether each record stands in its place; n, k and slots of the
-// first; the next sender's number and record; the state of the node asked about; the list.
+// first; the next sender's number and record; the nodes that are out.
 pub struct Survey {
     pub fine: bool,
     pub n: u32,
@@ -41,9 +41,7 @@ pub struct Survey {
     pub slots: u64,
     pub sender: u32,
     pub speaker: Node,
-    pub asked: u32,
-    pub state: State,
-    pub list: Listed,
+    pub out: u32,
 }
 
 // The sets of the members, and the greatest distance of two of them.
@@ -51,14 +49,6 @@ pub struct Members {
     pub count: u32,
     pub sets: [u32; 32],
     pub greatest: u32,
-}
-
-// A call that changes the table; a slot's last number is the length of the lent buffer.
-pub enum Asked {
-    SetUp(u32, u32),
-    Off(u32),
-    Restart(u32),
-    Slot(bool, u32, usize),
 }
 
 // A slot that is to run: its number and sender, what comes of the message, what is read of it, which
@@ -72,13 +62,15 @@ pub struct Turn {
     pub lesson: Lesson,
 }
 
-// What each record is to do.
+// What each record is to do. A look, which has it do nothing, holds what is told of the next slot: the
+// slots before it, its sender, what comes of its message.
 pub enum Order {
     Refuse(Refusal),
     Start(u32, u32),
     Off(u32),
     Restart(u32),
     Slot(Turn),
+    Look(u64, u32, Fate),
 }
 
 // Pairs of a node and a kind.
@@ -93,31 +85,25 @@ pub struct Sight {
     pub same: bool,
 }
 
-// What is noticed while an order is carried out: whose state changed, and the list afterwards.
+// What is noted while an order is carried out: whose state changed, and the list afterwards.
 pub struct Notes {
     pub told: Told,
     pub sight: Sight,
 }
 
-// What a call that changes the table did, and what was noticed.
-pub struct Report {
-    pub order: Order,
-    pub notes: Notes,
-}
-
 // A survey of nothing.
-fn unseen(asked: u32) -> Survey
-    ensures { λ r. ⌜ r ≡ unseen asked ⌝ }
+fn unseen() -> Survey
+    ensures { λ r. ⌜ r ≡ unseen ⌝ }
 {
     let v = node::NO_NODE;
-    begun(false, asked, v)
+    begun(false, v)
 }
 
 // The survey with the record at index i, the first of which gives n, k and slots.
 fn surveyed(s: Survey, i: usize, v: Node) -> Survey
     ensures { λ r. ⌜ r ≡ surveyed s i v ⌝ }
 {
-    let before = if i == 0 { begun(true, s.asked, v) } else { s };
+    let before = if i == 0 { begun(true, v) } else { s };
     seen(before, i, v)
 }
 
@@ -128,27 +114,16 @@ pub fn is_fine(s: Survey, size: usize) -> bool
     s.fine & (s.n as usize == size)
 }
 
-// The node that is asked about; 0 where none is.
-fn asked_node(asked: Asked) -> u32
-    ensures { λ r. ⌜ r ≡ askedNode asked ⌝ }
+// What a command has a table of so many records do, where so many bytes are lent for the pairs.
+pub fn order_of(command: Command, s: Survey, size: usize, room: usize) -> Order
+    ensures { λ r. ⌜ r ≡ orderOf command s size room ⌝ }
 {
-    match asked {
-        Asked::SetUp(_, _) => 0,
-        Asked::Off(_) => 0,
-        Asked::Restart(a) => a,
-        Asked::Slot(_, _, _) => 0,
-    }
-}
-
-// What a call has a table of so many records do.
-fn order_of(asked: Asked, s: Survey, size: usize) -> Order
-    ensures { λ r. ⌜ r ≡ orderOf asked s size ⌝ }
-{
-    match asked {
-        Asked::SetUp(n, k) => set_up_order(n, k, size),
-        Asked::Off(a) => off_order(a, s, size),
-        Asked::Restart(a) => restart_order(a, s, size),
-        Asked::Slot(lost, missed, room) => slot_order(lost, missed, room, s, size),
+    match command {
+        Command::SetUp(n, k) => set_up_order(n, k, size),
+        Command::Off(a) => off_order(a, s, size),
+        Command::Restart(a) => restart_order(a, s, size),
+        Command::Slot(lost, missed) => slot_order(lost, missed, room, s, size),
+        Command::Look(lost) => look_order(lost, s, size),
     }
 }
 
@@ -162,6 +137,7 @@ fn carried(order: Order, i: usize, v: Node) -> Node
         Order::Off(a) => off_at(a, v),
         Order::Restart(a) => restart_at(a, v),
         Order::Slot(turn) => step_at(turn, v),
+        Order::Look(_, _, _) => v,
     }
 }
 
@@ -202,6 +178,23 @@ fn no_pairs() -> Told
     }
 }
 
+// The list, with one record more.
+fn list_with(list: Listed, v: Node) -> Listed
+    ensures { λ r. ⌜ r ≡ listWith list v ⌝ }
+{
+    let state = v.state;
+    match list {
+        Listed::Nobody => {
+            if record::is_member(state) {
+                Listed::Set(v.set)
+            } else {
+                Listed::Nobody
+            }
+        }
+        Listed::Set(set) => Listed::Set(set),
+    }
+}
+
 // Whether a record is no member, or holds the list as far as it is known.
 fn same_with(list: Listed, v: Node) -> bool
     ensures { λ r. ⌜ r ≡ sameWith list v ⌝ }
@@ -213,7 +206,6 @@ fn same_with(list: Listed, v: Node) -> bool
     match list {
         Listed::Set(set) => set == v.set,
         Listed::Nobody => true,
-        Listed::Refused(_) => true,
     }
 }
 
@@ -310,35 +302,35 @@ fn no_members() -> Members
     }
 }
 
-// What came of an order.
-fn reporting(order: Order, notes: Notes) -> Report
-    ensures { λ r. ⌜ r ≡ reported order notes ⌝ }
+// The smaller number.
+fn smaller(a: usize, b: usize) -> usize
+    ensures { λ r. ⌜ r ≡ min a b ⌝ }
 {
-    Report { order, notes }
+    if a < b { a } else { b }
 }
 
-// Looks over the table.
-pub fn look_over(table: &[Node], asked: u32) -> Survey
-    ensures { λ r. ⌜ r ≡ surveyOf asked (now (table .entry)) ⌝ }
+// Looks over the first so many records, or over all if there are fewer.
+pub fn look_over(table: &[Node], reach: usize) -> Survey
+    ensures { λ r. ⌜ r ≡ surveyOf (take reach (now (table .entry))) ⌝ }
 {
-    let mut s = unseen(asked);
+    let end = smaller(reach, table.len());
+    let mut s = unseen();
     let mut i = 0;
-    while i < table.len() {
+    while i < end {
         s = surveyed(s, i, table[i]);
         i += 1;
     }
     s
 }
 
-// Gathers the members' sets of the first so many records. An inner function: requires that there are
-// so many.
+// Gathers the members' sets of the first so many records, or of all if there are fewer.
 pub fn look_through(table: &[Node], reach: usize) -> Members
-    requires { ⌜ reach ≤ length (now table) ⌝ }
     ensures { λ r. ⌜ r ≡ membersOf (take reach (now (table .entry))) ⌝ }
 {
+    let end = smaller(reach, table.len());
     let mut m = no_members();
     let mut i = 0;
-    while i < reach {
+    while i < end {
         m = gathered(m, i, table[i]);
         i += 1;
     }
@@ -346,9 +338,8 @@ pub fn look_through(table: &[Node], reach: usize) -> Members
 }
 
 // Has each record do what is ordered, and notes what comes of it.
-fn carry_out(table: &mut [Node], order: Order) -> Notes
-    ensures { λ r. ⌜ (now (table .exit) ≡ carriedFrom order 0 (now (table .entry)))
-        × (r ≡ noticedFrom order noNotes 0 (now (table .entry))) ⌝ }
+pub fn carry_out(table: &mut [Node], order: Order) -> Notes
+    ensures { λ r. ⌜ (now (table .exit) ≡ carriedFrom order 0 (now (table .entry))) × (r ≡ notesOf order (now (table .entry))) ⌝ }
 {
     let mut notes = no_notes();
     let mut i = 0;
@@ -360,16 +351,4 @@ fn carry_out(table: &mut [Node], order: Order) -> Notes
         i += 1;
     }
     notes
-}
-
-// A call that changes the table: a look over it, an order, and the order carried out.
-pub fn work(table: &mut [Node], asked: Asked) -> Report
-    ensures { λ r. ⌜ (now (table .exit) ≡ carriedFrom (orderFor asked (now (table .entry))) 0 (now (table .entry)))
-        × (r ≡ reportOf (orderFor asked (now (table .entry))) (now (table .entry))) ⌝ }
-{
-    let about = asked_node(asked);
-    let s = look_over(table, about);
-    let order = order_of(asked, s, table.len());
-    let notes = carry_out(table, order);
-    reporting(order, notes)
 }

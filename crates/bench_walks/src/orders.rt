@@ -9,7 +9,7 @@ use record::Node;
 use refusal::Refusal;
 ghost use mathlib.Core.Path.{_≡_};
 ghost use Prim.Native.Nat.{_<_, _^_, _-_};
-ghost use Rattle.bench_walks.specs.Orders.{setUpOrder, offOrder, restartOrder, saidBy, fateBy, turnOf, slotOrder};
+ghost use Rattle.bench_walks.specs.Orders.{setUpOrder, offOrder, restartOrder, saidBy, fateBy, turnOf, slotOrder, lookOrder};
 
 pub fn set_up_order(n: u32, k: u32, size: usize) -> Order
     ensures { λ r. ⌜ r ≡ setUpOrder n k size ⌝ }
@@ -41,14 +41,13 @@ pub fn off_order(a: u32, s: Survey, size: usize) -> Order
 pub fn restart_order(a: u32, s: Survey, size: usize) -> Order
     ensures { λ r. ⌜ r ≡ restartOrder a s size ⌝ }
 {
-    let state = s.state;
     if !is_fine(s, size) {
         return Order::Refuse(Refusal::Unsound);
     }
     if !ring::is_node_number(s.n, a) {
         return Order::Refuse(Refusal::NodeNumber);
     }
-    if !record::is_out(state) {
+    if !nodeset::has(s.out, a) {
         return Order::Refuse(Refusal::NotOut);
     }
     Order::Restart(a)
@@ -123,4 +122,15 @@ pub fn slot_order(lost: bool, missed: u32, room: usize, s: Survey, size: usize) 
     }
     let turn = turn_of(lost, missed, s);
     Order::Slot(turn)
+}
+
+pub fn look_order(lost: bool, s: Survey, size: usize) -> Order
+    ensures { λ r. ⌜ r ≡ lookOrder lost s size ⌝ }
+{
+    let speaker = s.speaker;
+    if !is_fine(s, size) {
+        return Order::Refuse(Refusal::Unsound);
+    }
+    let fate = fate_of(lost, speaker);
+    Order::Look(s.slots, s.sender, fate)
 }

@@ -6,9 +6,10 @@ use mathlib.Core.List.{List}
 use lib.ListN.{replicate}
 use Rattle.refusal.specs.declared.Refusal.{Refusal}
 use Rattle.node.specs.Calls.{noNode}
+use Rattle.bench.specs.declared.Command.the-variants as command
 use Rattle.bench.specs.declared.Outcome.the-variants as outcome
 use Rattle.doors.specs.declared.Ran.{Ran}
-use Rattle.doors.specs.Doors.{Rows, setUpOf, slotOf, offOf, restartOf}
+use Rattle.doors.specs.Doors.{Rows, callOf}
 use Rattle.plan_line.specs.declared.Opening.{Opening}
 use Rattle.plan_line.specs.declared.Opening.the-variants as opening
 use Rattle.plan_line.specs.declared.Order.{Order}
@@ -18,24 +19,23 @@ use Rattle.plan_run.specs.declared.Act.{Act}
 use Rattle.plan_run.specs.declared.Act.the-variants as act
 use Rattle.plan_run.specs.declared.Opened.{Opened}
 
--- "Then `ok`, `lost`, `miss a b` .. each run a slot": "message lost to all or not, and which nodes miss it" ("The bench").
+-- "Then `ok`, `lost`, `miss a b` .. each run a slot; `off a` and `on a` switch or restart a node, no slot". A slot takes: "message lost to all or not, and which
+-- nodes miss it" ("The bench").
 abbrev pub actOf : Order → Act
-actOf order.Ok = act.Slot false 0
-actOf order.Lost = act.Slot true 0
-actOf (order.Miss missed) = act.Slot false missed
-actOf (order.Off a) = act.Off a
-actOf (order.On a) = act.Restart a
+actOf order.Ok = act.Call (command.Slot false 0)
+actOf order.Lost = act.Call (command.Slot true 0)
+actOf (order.Miss missed) = act.Call (command.Slot false missed)
+actOf (order.Off a) = act.Call (command.Off a)
+actOf (order.On a) = act.Call (command.Restart a)
 actOf (order.Refused cause) = act.Refuse cause
 
 -- A line that is refused changes nothing.
 abbrev pub refused : Rows → Refusal → Ran
-refused rows cause = record { rows = rows; outcome = outcome.Refused cause }
+refused rows cause = record { rows = rows; outcome = outcome.Refused cause; pairs = 0 }
 
--- "`off a` and `on a` switch or restart a node, no slot".
+-- With room for all pairs.
 abbrev pub ranBy : ℕ → Rows → Act → Ran
-ranBy n rows (act.Slot lost missed) = slotOf n lost missed rows
-ranBy n rows (act.Off a) = offOf n a rows
-ranBy n rows (act.Restart a) = restartOf n a rows
+ranBy n rows (act.Call c) = callOf n c 64 rows
 ranBy n rows (act.Refuse cause) = refused rows cause
 
 unfoldable pub ranOf : ℕ → Rows → List ℕ → Ran
@@ -51,7 +51,7 @@ openedAs n r = record { n = n; rows = r .rows; outcome = r .outcome }
 
 -- "Line one: n, space, k."
 abbrev pub openedBy : Opening → Opened
-openedBy (opening.Ring n k) = openedAs n (setUpOf n k noRows)
+openedBy (opening.Ring n k) = openedAs n (callOf n (command.SetUp n k) 64 noRows)
 openedBy (opening.Refused cause) = openedAs 0 (refused noRows cause)
 
 unfoldable pub openedOf : List ℕ → Opened

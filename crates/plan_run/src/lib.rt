@@ -1,5 +1,6 @@
 // What a plan line does to a plan's bench (document 01, "The bench program"): the bench is 32 rows
-// by value, of which the first n are its table; the calls are those of `doors`.
+// by value, of which the first n are its table; the call is that of `doors`.
+use bench::Command;
 use bench::Outcome;
 use doors::Ran;
 use plan_line::Opening;
@@ -9,11 +10,9 @@ use refusal::Refusal;
 ghost use mathlib.Core.Path.{_≡_};
 ghost use Rattle.plan_run.specs.Run.{actOf, ranBy, ranOf, noRows, openedBy, openedOf};
 
-// What a line has the bench do. Whatever says that a slot is to run, it is run in one place.
+// What a line has the bench do.
 pub enum Act {
-    Slot(bool, u32),
-    Off(u32),
-    Restart(u32),
+    Call(Command),
     Refuse(Refusal),
 }
 
@@ -29,25 +28,28 @@ fn act_of(order: Order) -> Act
     ensures { λ r. ⌜ r ≡ actOf order ⌝ }
 {
     match order {
-        Order::Ok => Act::Slot(false, 0),
-        Order::Lost => Act::Slot(true, 0),
-        Order::Miss(missed) => Act::Slot(false, missed),
-        Order::Off(a) => Act::Off(a),
-        Order::On(a) => Act::Restart(a),
+        Order::Ok => Act::Call(Command::Slot(false, 0)),
+        Order::Lost => Act::Call(Command::Slot(true, 0)),
+        Order::Miss(missed) => Act::Call(Command::Slot(false, missed)),
+        Order::Off(a) => Act::Call(Command::Off(a)),
+        Order::On(a) => Act::Call(Command::Restart(a)),
         Order::Refused(cause) => Act::Refuse(cause),
     }
 }
 
+// A call whose pairs nobody asks for.
 fn ran_by(n: u32, rows: [Node; 32], act: Act) -> Ran
     ensures { λ r. ⌜ r ≡ ranBy n rows act ⌝ }
 {
     match act {
-        Act::Slot(lost, missed) => doors::slot(rows, n, lost, missed),
-        Act::Off(a) => doors::off(rows, n, a),
-        Act::Restart(a) => doors::restart(rows, n, a),
+        Act::Call(command) => {
+            let mut pairs = [0u8; 64];
+            doors::call(&mut pairs, rows, n, command)
+        }
         Act::Refuse(cause) => Ran {
             rows,
             outcome: Outcome::Refused(cause),
+            pairs: 0,
         },
     }
 }
@@ -72,7 +74,8 @@ fn opened_by(opening: Opening) -> Opened
 {
     match opening {
         Opening::Ring(n, k) => {
-            let ran = doors::set_up(no_rows(), n, k);
+            let mut pairs = [0u8; 64];
+            let ran = doors::call(&mut pairs, no_rows(), n, Command::SetUp(n, k));
             let rows = ran.rows;
             let outcome = ran.outcome;
             Opened { n, rows, outcome }

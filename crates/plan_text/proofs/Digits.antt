@@ -11,8 +11,8 @@ use borrow.Author.Tests.{lt-ltb, le-ltb}
 use Rattle.plan_text.specs.Text.{decimal, digits, fateText, glyph, numberThen, places, shownText}
 use Rattle.bench.specs.declared.Fate.{Fate}
 use Rattle.bench.specs.declared.Fate.the-variants.{Silent, Lost, Knock, Sent}
-use Rattle.bench.specs.declared.Shown.{Shown}
-use Rattle.bench.specs.declared.Shown.the-variants.{Set, Nobody}
+use Rattle.bench.specs.declared.Listed.{Listed}
+use Rattle.bench.specs.declared.Listed.the-variants.{Set, Nobody}
 
 pub places-stop : (m x : ℕ) → x < 10 → places m x ≡ 1
 unfolding places
@@ -67,6 +67,6 @@ fate-short Lost = omega arith
 fate-short Knock = omega arith
 fate-short Sent = omega arith
 
-pub shown-short : (shown : Shown) → length (shownText shown) ≤ 9
+pub shown-short : (shown : Listed) → length (shownText shown) ≤ 9
 shown-short (Set set) = omega (arith, length-append (digits 16 8 set) (32 ∷ []), length-digits 16 8 set)
 shown-short Nobody = omega arith

@@ -8,8 +8,8 @@ use lib.ListN.{length, take, drop}
 use Rattle.refusal.specs.declared.Refusal.the-variants.{OutputShort}
 use Rattle.bench.specs.declared.Fate.{Fate}
 use Rattle.bench.specs.declared.Fate.the-variants.{Silent, Lost, Knock, Sent}
-use Rattle.bench.specs.declared.Shown.{Shown}
-use Rattle.bench.specs.declared.Shown.the-variants.{Set, Nobody}
+use Rattle.bench.specs.declared.Listed.{Listed}
+use Rattle.bench.specs.declared.Listed.the-variants.{Set, Nobody}
 use Rattle.plan_text.specs.declared.Written.{Written}
 use Rattle.plan_text.specs.declared.Written.the-variants.{Bytes, Refused}
 
@@ -47,12 +47,12 @@ fateText Knock = 107 ∷ 110 ∷ 111 ∷ 99 ∷ 107 ∷ 32 ∷ []
 fateText Sent = 115 ∷ 101 ∷ 110 ∷ 116 ∷ 32 ∷ []
 
 -- "The set of the lowest-numbered member as eight hexadecimal digits (node 1 is the lowest bit; `--------` if none)"
-abbrev pub shownText : Shown → List ℕ
+abbrev pub shownText : Listed → List ℕ
 shownText (Set set) = digits 16 8 set ++ (32 ∷ [])
 shownText Nobody = 45 ∷ 45 ∷ 45 ∷ 45 ∷ 45 ∷ 45 ∷ 45 ∷ 45 ∷ 32 ∷ []
 
 -- "Each slot prints: slot, sender, fate .., the set .., the greatest distance"; 10 is the line feed.
-unfoldable pub slotText : ℕ → ℕ → Fate → Shown → ℕ → List ℕ
+unfoldable pub slotText : ℕ → ℕ → Fate → Listed → ℕ → List ℕ
 slotText slot sender fate shown distance =
     numberThen 32 slot ++ numberThen 32 sender ++ fateText fate ++ shownText shown ++ numberThen 10 distance
 

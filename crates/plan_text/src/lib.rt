@@ -1,6 +1,6 @@
 // The lines that the bench program prints (document 01, "The bench program"), written into lent bytes at a place.
 use bench::Fate;
-use bench::Shown;
+use bench::Listed;
 use refusal::Refusal;
 ghost use mathlib.Core.Path.{_≡_};
 ghost use Prim.Native.Nat.{_+_, _≤_, _<_};
@@ -107,11 +107,11 @@ fn put_fate(out: &mut [u8], at: usize, fate: Fate) -> usize
 }
 
 // Puts a set, or that there is none, and a space.
-fn put_shown(out: &mut [u8], at: usize, shown: Shown) -> usize
+fn put_shown(out: &mut [u8], at: usize, shown: Listed) -> usize
     requires { ⌜ at + 9 ≤ length (now out) ⌝ }
     ensures { λ r. ⌜ PutAt r at (shownText shown) (now (out .entry)) (now (out .exit)) ⌝ }
 {
-    let Shown::Set(set) = shown else {
+    let Listed::Set(set) = shown else {
         return put_word(out, at, b"-------- ");
     };
     put_hex(out, at, set);
@@ -136,7 +136,7 @@ pub fn slot_line(
     slot: u64,
     sender: u32,
     fate: Fate,
-    shown: Shown,
+    shown: Listed,
     distance: u32,
 ) -> Written
     ensures { λ r. ⌜ (r, now (out .exit)) ≡ writtenOf (slotText slot sender fate shown distance) at (now (out .entry)) ⌝ }

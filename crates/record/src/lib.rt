@@ -128,11 +128,11 @@ fn numbers_sound(v: Node) -> bool
             & (ring::is_node_number(v.n, v.own) & (v.slots <= LIMIT)))
 }
 
+// Marks that are in the set hold only numbers that the set holds.
 fn sets_sound(v: Node) -> bool
     ensures { λ r. ⌜ r ≡ setsSound v ⌝ }
 {
-    nodeset::is_within(v.n, v.set)
-        & (nodeset::is_within(v.n, v.present) & nodeset::is_subset(v.present, v.set))
+    nodeset::is_within(v.n, v.set) & nodeset::is_subset(v.present, v.set)
 }
 
 fn returning_sound(v: Node) -> bool

@@ -2,7 +2,7 @@
 -- proof"). A row is what is asked of a definition that the contracts cite, and what is answered; the rows stand in document 01's order under its sentences.
 use Prim.Native.Nat.{ℕ}
 use mathlib.Core.Path.{_≡_}
-use mathlib.Core.Bool.{Bool, true, false}
+use mathlib.Core.Bool.{true, false}
 use mathlib.Core.List.{List, [], _∷_, foldr, map, reverse}
 use lib.ListN.{replicate}
 use Rattle.refusal.specs.Causes.{numberOf}
@@ -19,15 +19,13 @@ use Rattle.record.specs.declared.Node.{Node}
 use Rattle.record.specs.declared.State.{State}
 use Rattle.record.specs.declared.State.the-variants as state
 use Rattle.record.specs.States.{causeNumber}
-use Rattle.bench.specs.declared.Listed.{Listed}
 use Rattle.bench.specs.declared.Listed.the-variants as listed
-use Rattle.bench.specs.declared.Apart.{Apart}
-use Rattle.bench.specs.declared.Apart.the-variants as apart
 use Rattle.bench.specs.declared.Fate.the-variants as fate
-use Rattle.bench.specs.declared.Next.{Next}
-use Rattle.bench.specs.declared.Next.the-variants as next
-use Rattle.bench.specs.Table.{Table, recordOf, slotsOf}
-use Rattle.bench.specs.Calls.{setUpOf, listedOf, distanceOf, nextOf}
+use Rattle.bench.specs.declared.Outcome.{Outcome}
+use Rattle.bench.specs.declared.Outcome.the-variants.{Slot}
+use Rattle.bench.specs.Table.{Table, recordOf, ringOf}
+use Rattle.bench.specs.Calls.{setUpOf, greatest}
+use Rattle.bench.specs.Outcomes.{slotOutcome}
 use Rattle.bench.specs.Runs.{Call, slot, off, restart, callOf, tableAfter, entry}
 
 -- ---- rows
@@ -94,24 +92,21 @@ after n k lent plan = tableAfter (setUpOf n k lent .table) (reverse plan)
 abbrev pub failures : ℕ → ℕ → Table → List Call → ℕ → ℕ
 failures n k lent plan m = sum (λ u. entry (setUpOf n k lent .table) (reverse plan) u .failures) 1 m
 
--- "Each slot prints: slot, sender, fate .., the set of the lowest-numbered member .., the greatest distance between sets of two members" ("The bench program"):
--- the slot count after the slot, the sender and the fate as told before it, the set and the distance as told after it.
-abbrev pub Line : Type 0
-Line = ℕ × Next × Listed × Apart
-
-abbrev pub lineOf : Bool → Table → Table → Line
-lineOf isLost before t = (slotsOf t, nextOf isLost before, listedOf t, distanceOf t)
-
-abbrev pub linesFrom : Table → List Call → List Line
+-- "Each slot prints: slot, sender, fate .., the set of the lowest-numbered member .., the greatest distance between sets of two members" ("The bench program").
+abbrev pub linesFrom : Table → List Call → List Outcome
 linesFrom t [] = []
 linesFrom t (slot isLost missed room ∷ plan) =
-    let u = callOf (slot isLost missed room) t .table in
-    lineOf isLost t u ∷ linesFrom u plan
+    let called = callOf (slot isLost missed room) t in
+    slotOutcome isLost t (called .table) (called .answer) ∷ linesFrom (called .table) plan
 linesFrom t (off a ∷ plan) = linesFrom (callOf (off a) t .table) plan
 linesFrom t (restart a ∷ plan) = linesFrom (callOf (restart a) t .table) plan
 
-abbrev pub lines : ℕ → ℕ → Table → List Call → List Line
+abbrev pub lines : ℕ → ℕ → Table → List Call → List Outcome
 lines n k lent plan = linesFrom (setUpOf n k lent .table) plan
+
+-- The greatest distance between sets of two members.
+abbrev pub apart : Table → ℕ
+apart t = greatest (ringOf t) t
 
 -- ---- plans, and the listing
 
@@ -119,12 +114,12 @@ lines n k lent plan = linesFrom (setUpOf n k lent .table) plan
 abbrev pub slotTwoLost : List Call
 slotTwoLost = ok ∷ lost ∷ ok ∷ ok ∷ []
 
-abbrev pub listing : List Line
+abbrev pub listing : List Outcome
 listing =
-    (1, next.Slot 1 fate.Sent, listed.Set 0x0000000f, apart.Nodes 0)
-    ∷ (2, next.Slot 2 fate.Lost, listed.Set 0x0000000f, apart.Nodes 0)
-    ∷ (3, next.Slot 3 fate.Sent, listed.Set 0x0000000f, apart.Nodes 0)
-    ∷ (4, next.Slot 4 fate.Sent, listed.Set 0x0000000d, apart.Nodes 0)
+    Slot 1 1 fate.Sent (listed.Set 0x0000000f) 0
+    ∷ Slot 2 2 fate.Lost (listed.Set 0x0000000f) 0
+    ∷ Slot 3 3 fate.Sent (listed.Set 0x0000000f) 0
+    ∷ Slot 4 4 fate.Sent (listed.Set 0x0000000d) 0
     ∷ []
 
 -- "node 3 alone misses slot 2"
@@ -179,7 +174,7 @@ examples lent =
     ∷ (told (after 4 2 lent slotFourLost) 3 gives holds (these (1 ∷ 3 ∷ 4 ∷ [])))
     ∷ (told (after 4 2 lent slotFourLost) 1 gives holds allFour)
     ∷ (told (after 4 2 lent slotFourLost) 2 gives out 1)
-    ∷ (distanceOf (after 4 2 lent slotFourLost) gives apart.Nodes 1)
+    ∷ (apart (after 4 2 lent slotFourLost) gives 1)
     -- "n = 4, k = 3, nodes 1 and 2 off from the start: 1 leaves at slot 4, 2 at slot 8."
     ∷ (tellings (after 4 3 lent (twoOff 3)) gives out 4 ∷ out 4 ∷ replicate 2 (holds allFour))
     ∷ (tellings (after 4 3 lent (twoOff 4)) gives out 4 ∷ out 4 ∷ replicate 2 (holds (these (2 ∷ 3 ∷ 4 ∷ []))))

@@ -37,6 +37,9 @@ enum-known-order-4 c = search needs
 step-at-requires : tie.Need-step-at-requires
 step-at-requires c κs = search needs
 
+enum-told-2 : tie.Need-enum-told-2
+enum-told-2 c = search needs
+
 returns : tie.Need-returns
 unfolding carried
 returns c = sym (ap (λ (o : Order). carried o (c .before .before .args .i) (c .before .before .args .v)) (c .enum-told .given .1))
@@ -57,6 +60,10 @@ returns-5 : tie.Need-returns-5
 unfolding carried
 returns-5 c = c .step-at .ensures ∙ sym (ap (λ (o : Order). carried o (c .before .before .before .before .args .i) (c .before .before .before .before .args .v)) (c .before .before .order4 .given .1))
 
+returns-6 : tie.Need-returns-6
+unfolding carried
+returns-6 c = sym (ap (λ (o : Order). carried o (c .before .before .args .i) (c .before .before .args .v)) (c .enum-told2 .given .1))
+
 pub carried-spec : {M : Type 1} → statement M
 carried-spec =
     tie.close
@@ -71,8 +78,10 @@ carried-spec =
     restart-at-requires
     enum-known-order-4
     step-at-requires
+    enum-told-2
     returns
     returns-2
     returns-3
     returns-4
-    returns-5)
+    returns-5
+    returns-6)

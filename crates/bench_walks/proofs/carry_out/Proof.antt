@@ -62,7 +62,7 @@ use Rattle.bench_walks.proofs.Notes.Laws as P′
 use Rattle.bench_walks.proofs.Order as O
 use Rattle.bench_walks.proofs.Order.Laws as O′
 use Rattle.bench_walks.specs.Survey.{foldFrom}
-use Rattle.bench_walks.specs.Orders.{carried, noticed, noNotes}
+use Rattle.bench_walks.specs.Orders.{carried, noticed, noNotes, notesOf}
 use Rattle.bench_walks.proofs.Partly.{fold-none, fold-next, take-all, partly, partly-length, partly-at, partly-next, partly-all}
 use Rattle.bench_walks.proofs.no_notes as no-notes
 use Rattle.bench_walks.proofs.no_notes.Symbol as no-notes-def
@@ -194,6 +194,7 @@ module _ {M : Type 1} (𝓤 : URA M) (H : Heap 𝓤) (A : Atoms 𝓤) (W : Given
   Post = walkOf 𝓤 H A this.ended stayed (this.clauses 𝓤 H A mem run) .post (((κ, tt), (q, tt), tt, (x xs, (order, tt)), (s ∷ [], (as-order ∷ [], tt))), tt)
 
   exits : ent 𝓤 (⋆ 𝓤 H A (‵ (fobs γ (codedHoleys T.the-row .code (heres T.the-row zs))) ∷ ‵ (fbor κ (Held T.the-row (length zs) b o γ)) ∷ ‵ (flft κ q) ∷ ‵ (P.the-row .own (acc n) (at (acc n) ∷ [])) ∷ [])) (Post (at (acc n)))
+  unfolding notesOf
   exits =
       qed W (‵ (fobs γ (codedHoleys T.the-row .code (heres T.the-row zs))) ∷ ‵ (fbor κ (Held T.the-row (length zs) b o γ)) ∷ ‵ (flft κ q) ∷ ‵ (P.the-row .own (acc n) (at (acc n) ∷ [])) ∷ []) ∵
       suffices ! _ (ends-at 𝓤 H A this.ended stayed (this.clauses 𝓤 H A mem run) W (((κ, tt), (q, tt), tt, (x xs, (order, tt)), (s ∷ [], (as-order ∷ [], tt))), tt) (at (acc n)) (acc n) (zs, (tt, tt)) (partly-length f n xs, (tt, tt))) $

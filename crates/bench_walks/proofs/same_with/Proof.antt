@@ -15,7 +15,6 @@ use Rattle.bench_walks.proofs.same_with.Tie as tie
 no-member : (l : Listed) (v : Node) → isMember (v .state) ≡ false → sameWith l v ≡ true
 no-member (listed.Set set) v e = otherwise _ _ e
 no-member listed.Nobody v e = refl
-no-member (listed.Refused cause) v e = refl
 
 is-member-requires : tie.Need-is-member-requires
 is-member-requires c κs = search needs
@@ -29,17 +28,11 @@ enum-known-list c = search needs
 enum-told : tie.Need-enum-told
 enum-told c = search needs
 
-enum-told-2 : tie.Need-enum-told-2
-enum-told-2 c = search needs
-
 returns-2 : tie.Need-returns-2
 returns-2 c = sym (ap (λ (l : Listed). sameWith l (c .before .before .before .before .before .before .args .v)) (c .before .before .list .given .1) ∙ chosen _ _ (passed (c .before .before .before .before .before .is-member .ensures) (c .before .before .before .before .if1 .left)))
 
 returns-3 : tie.Need-returns-3
 returns-3 c = sym (ap (λ (l : Listed). sameWith l (c .before .before .before .before .args .v)) (c .enum-told .given .1))
-
-returns-4 : tie.Need-returns-4
-returns-4 c = sym (ap (λ (l : Listed). sameWith l (c .before .before .before .before .args .v)) (c .enum-told2 .given .1))
 
 pub same-with-spec : {M : Type 1} → statement M
 same-with-spec =
@@ -49,7 +42,5 @@ same-with-spec =
     returns
     enum-known-list
     enum-told
-    enum-told-2
     returns-2
-    returns-3
-    returns-4)
+    returns-3)

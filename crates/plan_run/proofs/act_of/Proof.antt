@@ -24,10 +24,10 @@ enum-known-order-4 : tie.Need-enum-known-order-4
 enum-known-order-4 c = search needs
 
 returns : tie.Need-returns
-returns c = search needs
+returns c = sym (ap actOf (c .enum-told .given .1))
 
 returns-2 : tie.Need-returns-2
-returns-2 c = search needs
+returns-2 c = sym (ap actOf (c .enum-told2 .given .1))
 
 returns-3 : tie.Need-returns-3
 returns-3 c = sym (ap actOf (c .before .order .given .1))

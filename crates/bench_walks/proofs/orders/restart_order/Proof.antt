@@ -17,14 +17,14 @@ is-node-number-requires c κs = search needs
 returns-2 : tie.Need-returns-2
 returns-2 c = sym (chosen _ _ (passed (c .before .before .before .is-fine .ensures) (c .before .before .if1 .left)) ∙ otherwise _ _ (failed (c .before .is-node-number .ensures) (c .if2 .taken)))
 
-is-out-requires : tie.Need-is-out-requires
-is-out-requires c κs = search needs
+has-requires : tie.Need-has-requires
+has-requires c κs = search needs
 
 returns-3 : tie.Need-returns-3
-returns-3 c = sym (chosen _ _ (passed (c .before .before .before .before .before .is-fine .ensures) (c .before .before .before .before .if1 .left)) ∙ chosen _ _ (passed (c .before .before .before .is-node-number .ensures) (c .before .before .if2 .left)) ∙ otherwise _ _ (failed (c .before .is-out .ensures) (c .if3 .taken)))
+returns-3 c = sym (chosen _ _ (passed (c .before .before .before .before .before .is-fine .ensures) (c .before .before .before .before .if1 .left)) ∙ chosen _ _ (passed (c .before .before .before .is-node-number .ensures) (c .before .before .if2 .left)) ∙ otherwise _ _ (failed (c .before .has .ensures) (c .if3 .taken)))
 
 returns-4 : tie.Need-returns-4
-returns-4 c = sym (chosen _ _ (passed (c .before .before .before .before .before .is-fine .ensures) (c .before .before .before .before .if1 .left)) ∙ chosen _ _ (passed (c .before .before .before .is-node-number .ensures) (c .before .before .if2 .left)) ∙ chosen _ _ (passed (c .before .is-out .ensures) (c .if3 .left)))
+returns-4 c = sym (chosen _ _ (passed (c .before .before .before .before .before .is-fine .ensures) (c .before .before .before .before .if1 .left)) ∙ chosen _ _ (passed (c .before .before .before .is-node-number .ensures) (c .before .before .if2 .left)) ∙ chosen _ _ (passed (c .before .has .ensures) (c .if3 .left)))
 
 pub restart-order-spec : {M : Type 1} → statement M
 restart-order-spec =
@@ -34,6 +34,6 @@ restart-order-spec =
     returns
     is-node-number-requires
     returns-2
-    is-out-requires
+    has-requires
     returns-3
     returns-4)

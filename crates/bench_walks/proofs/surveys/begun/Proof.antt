@@ -3,7 +3,6 @@ use borrow.Author.Needs.{needs}
 use mathlib.Core.Path.{ap}
 use Prim.Native.Nat.{ℕ}
 use Rattle.bench_walks.specs.declared.Survey.{Survey}
-use Rattle.bench.specs.declared.Listed.the-variants as listed
 use Rattle.bench_walks.proofs.surveys.begun.Statement.{statement}
 use Rattle.bench_walks.proofs.surveys.begun.Tie as tie
 
@@ -11,7 +10,9 @@ sender-after-requires : tie.Need-sender-after-requires
 sender-after-requires c κs = search needs
 
 returns : tie.Need-returns
-returns c = ap {B = Survey} (λ (x : ℕ). record { fine = c .before .args .fine; n = c .before .args .v .n; k = c .before .args .v .k; slots = c .before .args .v .slots; sender = x; speaker = c .before .args .v; asked = c .before .args .asked; state = c .before .args .v .state; list = listed.Nobody }) (c .sender-after .ensures)
+returns c =
+    let v = c .before .args .v in
+    ap {B = Survey} (λ (x : ℕ). record { fine = c .before .args .fine; n = v .n; k = v .k; slots = v .slots; sender = x; speaker = v; out = 0 }) (c .sender-after .ensures)
 
 pub begun-spec : {M : Type 1} → statement M
 begun-spec = tie.close (tie.spec sender-after-requires returns)

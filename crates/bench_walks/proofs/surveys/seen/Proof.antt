@@ -1,42 +1,37 @@
--- `bench_walks::surveys::seen` meets its contract: its test is that of the definition, and each part is that of the definition. Assumes nothing.
+-- `bench_walks::surveys::seen` meets its contract: each part is that of the definition. Assumes nothing.
 use borrow.Author.Needs.{needs}
-use mathlib.Core.Path.{sym, ap, _∙_}
+use Prim.Native.Nat.{ℕ}
+use mathlib.Core.Path.{_≡_, sym, ap, _∙_}
 use mathlib.Core.Bool.{Bool, _&&_}
 use Rattle.nodeset.proofs.Tests.{chosen, otherwise}
 use borrow.Author.Tests.{eq-eqb, ne-eqb}
-use Rattle.bench_walks.proofs.Numbers.{same-survey}
+use Rattle.record.specs.declared.Node.{Node}
+use Rattle.bench_walks.specs.declared.Survey.{Survey}
 use Rattle.bench_walks.proofs.surveys.seen.Statement.{statement}
 use Rattle.bench_walks.proofs.surveys.seen.Tie as tie
+
+abbrev with-parts : Survey → Bool → Node → ℕ → Survey
+with-parts s fine v out = record { fine = fine; n = s .n; k = s .k; slots = s .slots; sender = s .sender; speaker = v; out = out }
+
+same-parts : (s : Survey) {f f′ : Bool} {v v′ : Node} {x x′ : ℕ} → f ≡ f′ → v ≡ v′ → x ≡ x′ → with-parts s f v x ≡ with-parts s f′ v′ x′
+same-parts s {f} {f′} {v} {v′} {x} {x′} p q r =
+    ap (λ (y : Bool). with-parts s y v x) p ∙ ap (λ (y : Node). with-parts s f′ y x) q ∙ ap (λ (y : ℕ). with-parts s f′ v′ y) r
 
 stands-requires : tie.Need-stands-requires
 stands-requires c κs = search needs
 
-state-of-requires : tie.Need-state-of-requires
-state-of-requires c κs = search needs
-
-list-with-requires : tie.Need-list-with-requires
-list-with-requires c κs = search needs
-
-survey-with-requires : tie.Need-survey-with-requires
-survey-with-requires c κs = search needs
+out-with-requires : tie.Need-out-with-requires
+out-with-requires c κs = search needs
 
 returns : tie.Need-returns
-returns c = c .survey-with .ensures ∙ same-survey (c .before .before .before .before .before .before .before .before .args .s) (ap (λ (b : Bool). c .before .before .before .before .before .before .before .before .args .s .fine && b) (c .before .before .before .before .before .before .before .stands .ensures)) (sym (chosen _ _ (eq-eqb _ _ (c .before .if1 .taken)))) (c .before .before .before .before .before .state-of .ensures) (c .before .before .before .before .list-with .ensures)
-
-survey-with-requires-2 : tie.Need-survey-with-requires-2
-survey-with-requires-2 c κs = search needs
+returns c =
+    let s = c .before .before .before .before .before .before .args .s in
+    same-parts s (ap (λ (b : Bool). s .fine && b) (c .before .before .before .before .before .stands .ensures)) (sym (chosen _ _ (eq-eqb _ _ (c .if1 .taken)))) (c .before .before .before .out-with .ensures)
 
 returns-2 : tie.Need-returns-2
-returns-2 c = c .survey-with2 .ensures ∙ same-survey (c .before .before .before .before .before .before .before .before .before .args .s) (ap (λ (b : Bool). c .before .before .before .before .before .before .before .before .before .args .s .fine && b) (c .before .before .before .before .before .before .before .before .stands .ensures)) (sym (otherwise _ _ (ne-eqb _ _ (c .before .before .if1 .left)))) (c .before .before .before .before .before .before .state-of .ensures) (c .before .before .before .before .before .list-with .ensures)
+returns-2 c =
+    let s = c .before .before .before .before .before .before .args .s in
+    same-parts s (ap (λ (b : Bool). s .fine && b) (c .before .before .before .before .before .stands .ensures)) (sym (otherwise _ _ (ne-eqb _ _ (c .if1 .left)))) (c .before .before .before .out-with .ensures)
 
 pub seen-spec : {M : Type 1} → statement M
-seen-spec =
-    tie.close
-    (tie.spec
-    stands-requires
-    state-of-requires
-    list-with-requires
-    survey-with-requires
-    returns
-    survey-with-requires-2
-    returns-2)
+seen-spec = tie.close (tie.spec stands-requires out-with-requires returns returns-2)
