@@ -1,4 +1,4 @@
-//! Links the static library that `rt staticlib message_c` makes.
+//! Links the static libraries that `rt staticlib` makes.
 
 use std::env;
 
@@ -6,8 +6,10 @@ fn main() {
     let package = env::var("CARGO_MANIFEST_DIR").expect("cargo names the package's directory");
     let folder = format!("{package}/../target/staticlib");
     println!("cargo:rustc-link-search=native={folder}");
-    println!("cargo:rustc-link-lib=static=message_c");
-    // A new archive is linked anew; without this line an old one would be tested.
-    println!("cargo:rerun-if-changed={folder}/libmessage_c.a");
+    for archive in ["message_c", "ring_c"] {
+        println!("cargo:rustc-link-lib=static={archive}");
+        // A new archive is linked anew; without this line an old one would be tested.
+        println!("cargo:rerun-if-changed={folder}/lib{archive}.a");
+    }
     println!("cargo:rerun-if-changed=build.rs");
 }

@@ -6,6 +6,7 @@ pub mod lasting;
 pub mod library;
 pub mod messages;
 pub mod model;
+pub mod numbers;
 pub mod plan;
 pub mod random;
 pub mod report;

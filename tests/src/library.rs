@@ -1,10 +1,33 @@
 //! The library under test, as safe functions.
 
 mod c {
-    extern "C" {
-        pub fn message_read(k: u32, ptr: *const u8, len: usize) -> u64;
-        pub fn message_write(k: u32, acks: u32, ret: bool, ptr: *mut u8, len: usize) -> u64;
+    unsafe extern "C" {
+        pub unsafe fn message_read(k: u32, ptr: *const u8, len: usize) -> u64;
+        pub unsafe fn message_write(k: u32, acks: u32, ret: bool, ptr: *mut u8, len: usize) -> u64;
+        pub safe fn ring_sender(n: u32, done: u64) -> u64;
+        pub safe fn ring_before(n: u32, set: u32, x: u32, j: u32) -> u64;
+        pub safe fn ring_before_found(n: u32, set: u32, x: u32, j: u32) -> u64;
+        pub safe fn ring_sponsored(n: u32, k: u32, set: u32, x: u32, j: u32) -> u64;
+        pub safe fn ring_decided(n: u32, k: u32, set: u32, x: u32) -> u64;
     }
+}
+
+// Those whose answers need no reading.
+unsafe extern "C" {
+    pub safe fn nodeset_has(s: u32, x: u32) -> bool;
+    pub safe fn nodeset_with(s: u32, x: u32) -> u32;
+    pub safe fn nodeset_without(s: u32, x: u32) -> u32;
+    pub safe fn nodeset_union(a: u32, b: u32) -> u32;
+    pub safe fn nodeset_full(n: u32) -> u32;
+    pub safe fn nodeset_is_subset(a: u32, b: u32) -> bool;
+    pub safe fn nodeset_is_within(n: u32, s: u32) -> bool;
+    pub safe fn nodeset_size(n: u32, s: u32) -> u32;
+    pub safe fn nodeset_distance(n: u32, a: u32, b: u32) -> u32;
+    pub safe fn nodeset_run(s: u32) -> u32;
+    pub safe fn ring_is_ring_size(n: u32) -> bool;
+    pub safe fn ring_is_node_number(n: u32, x: u32) -> bool;
+    pub safe fn ring_is_sponsor_count(n: u32, k: u32) -> bool;
+    pub safe fn ring_ks(k: u32, c: u32) -> u32;
 }
 
 /// What is below bit 33 if that is the highest bit set. Any other answer is kept whole, so that one
@@ -29,4 +52,37 @@ pub fn write(k: u32, acks: u32, ret: bool, out: &mut [u8]) -> Result<u64, u64> {
     // SAFETY: the pointer and the length are those of one slice, lent for the call alone.
     let answer = unsafe { c::message_write(k, acks, ret, out.as_mut_ptr(), out.len()) };
     value(answer)
+}
+
+/// The sender of the slot that follows `done` slots, or the number of the refusal.
+pub fn sender(n: u32, done: u64) -> Result<u64, u64> {
+    value(c::ring_sender(n, done))
+}
+
+/// A member or nobody, or the number of the refusal.
+pub type Found = Result<Option<u64>, u64>;
+
+/// Nobody has 2^32 in the place of a member.
+fn found(answer: u64) -> Found {
+    value(answer).map(|v| if v == 1 << 32 { None } else { Some(v) })
+}
+
+/// The j-th member before node x.
+pub fn before(n: u32, set: u32, x: u32, j: u32) -> Found {
+    found(c::ring_before(n, set, x, j))
+}
+
+/// The nearest member before that one.
+pub fn before_found(n: u32, set: u32, x: u32, j: u32) -> Found {
+    found(c::ring_before_found(n, set, x, j))
+}
+
+/// The j-th member that node x sponsors.
+pub fn sponsored(n: u32, k: u32, set: u32, x: u32, j: u32) -> Found {
+    found(c::ring_sponsored(n, k, set, x, j))
+}
+
+/// The member that node x decides.
+pub fn decided(n: u32, k: u32, set: u32, x: u32) -> Found {
+    found(c::ring_decided(n, k, set, x))
 }

@@ -7,3 +7,4 @@ pub mod node;
 pub mod program;
 pub mod refusal;
 pub mod ring;
+pub mod roll;

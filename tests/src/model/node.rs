@@ -98,15 +98,7 @@ pub type Said = (u32, bool);
 impl Node {
     /// "All start as members, set full, all marks on, returning 0."
     pub fn set_up(n: u32, k: u32, own: u32) -> Result<Node, u32> {
-        if !ring::is_size(n) {
-            return Err(refusal::N);
-        }
-        if !ring::is_sponsor_count(n, k) {
-            return Err(refusal::K);
-        }
-        if !ring::is_node(n, own) {
-            return Err(refusal::NODE);
-        }
+        ring::check(n, Some(k), own)?;
         Ok(Node {
             n,
             k,

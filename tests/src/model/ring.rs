@@ -1,5 +1,7 @@
 //! Document 01, "The ring".
 
+use super::refusal;
+
 /// "the limit is 1,000,000,000,000,000"
 pub const LIMIT: u64 = 1_000_000_000_000_000;
 
@@ -16,6 +18,20 @@ pub fn is_sponsor_count(n: u32, k: u32) -> bool {
 /// "n nodes are numbered 1 to n"
 pub fn is_node(n: u32, x: u32) -> bool {
     1 <= x && x <= n
+}
+
+/// "Checks run in table order": n, then k where one is given, then the node's number.
+pub fn check(n: u32, k: Option<u32>, x: u32) -> Result<(), u32> {
+    if !is_size(n) {
+        return Err(refusal::N);
+    }
+    if k.is_some_and(|k| !is_sponsor_count(n, k)) {
+        return Err(refusal::K);
+    }
+    if !is_node(n, x) {
+        return Err(refusal::NODE);
+    }
+    Ok(())
 }
 
 /// "The sender of slot s is ((s - 1) mod n) + 1."
@@ -51,6 +67,11 @@ impl Set {
         Set(self.0 & !Set::only(x).0)
     }
 
+    /// Those of the nodes 1 to n.
+    pub fn up_to(self, n: u32) -> Set {
+        Set(self.0 & Set::full(n).0)
+    }
+
     pub fn count(self) -> u32 {
         self.0.count_ones()
     }
@@ -78,13 +99,13 @@ pub fn members_before(n: u32, set: Set, x: u32) -> impl Iterator<Item = u32> {
 }
 
 /// "With c members, ks is the smaller of k and c - 1." Nobody is sponsored where there is no member.
-pub fn ks(k: u32, set: Set) -> u32 {
-    k.min(set.count().saturating_sub(1))
+pub fn ks(k: u32, c: u32) -> u32 {
+    k.min(c.saturating_sub(1))
 }
 
 /// "A member *sponsors* the ks members before it": the nearest first, as the acknowledgement bits.
 pub fn sponsored(n: u32, k: u32, set: Set, x: u32) -> impl Iterator<Item = u32> {
-    members_before(n, set, x).take(ks(k, set) as usize)
+    members_before(n, set, x).take(ks(k, set.count()) as usize)
 }
 
 /// "The one furthest back is the member it *decides*. With one member nobody is decided."

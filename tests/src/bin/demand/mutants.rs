@@ -86,7 +86,7 @@ fn own_mark_stays(node: &Node, heard: Option<Said>) -> Node {
 
 /// The nodes before x by number: as many as a member sponsors, members or not.
 fn by_number(node: &Node, x: u32) -> impl Iterator<Item = u32> {
-    ring::members_before(node.n, Set::full(node.n), x).take(ring::ks(node.k, node.set) as usize)
+    ring::members_before(node.n, Set::full(node.n), x).take(ring::ks(node.k, node.set.count()) as usize)
 }
 
 fn acks_by_number(node: &Node) -> u32 {

@@ -5,15 +5,6 @@ use comparison::messages::hex;
 use comparison::model::message;
 use comparison::report::Count;
 
-/// Values of k beyond 40: those that look like a small k if their high bits are lost, and the ends.
-pub const LARGE_K: [u32; 14] =
-    [41, 63, 64, 127, 128, 255, 256, 258, 265, 65_538, 1 << 31, (1 << 31) + 2, u32::MAX - 1, u32::MAX];
-
-/// The k from 0 to 40, then the large ones.
-pub fn all_k() -> impl Iterator<Item = u32> {
-    (0..=40).chain(LARGE_K)
-}
-
 /// Reads by both and compares the answers.
 pub fn read(count: &mut Count, k: u32, bytes: &[u8]) -> Result<(), String> {
     let expected = message::read(k, bytes);

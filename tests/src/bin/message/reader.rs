@@ -1,8 +1,9 @@
 //! Byte strings for the reader.
 
-use super::compare::{all_k, read};
+use super::compare::read;
 use comparison::messages::{all_yes, damage, message_of};
 use comparison::model::message;
+use comparison::numbers::small_and_large;
 use comparison::random::Random;
 use comparison::report::Count;
 
@@ -19,7 +20,7 @@ fn lengths() -> impl Iterator<Item = usize> {
 }
 
 pub fn every_k(count: &mut Count) -> Result<(), String> {
-    for k in all_k() {
+    for k in small_and_large() {
         // The first byte is k as far as it fits; a k out of range gets messages of the others too.
         let mut starts: Vec<Vec<u8>> = (2..=31).map(|of| message_of(of, all_yes(of), true)).collect();
         starts.push(vec![k as u8, 0, 1, 0]);

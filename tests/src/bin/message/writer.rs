@@ -1,6 +1,7 @@
 //! Calls of the writer.
 
-use super::compare::{all_k, write};
+use super::compare::write;
+use comparison::numbers::small_and_large;
 use comparison::random::Random;
 use comparison::report::Count;
 
@@ -21,7 +22,7 @@ fn lengths() -> impl Iterator<Item = usize> {
 }
 
 pub fn every_k(count: &mut Count) -> Result<(), String> {
-    for k in all_k() {
+    for k in small_and_large() {
         for length in lengths() {
             // The longest output is slow to compare, so it gets few patterns.
             let all = acknowledgements();

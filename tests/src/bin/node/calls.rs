@@ -7,15 +7,9 @@ use super::{events, heard};
 use comparison::model::message;
 use comparison::model::node::{Node, State};
 use comparison::model::ring::LIMIT;
+use comparison::numbers::small_and_large;
 use comparison::random::Random;
 use comparison::report::Count;
-
-/// Numbers past 40: those that look small if their high bits are lost, and the ends.
-const LARGE: [u32; 8] = [64, 255, 256 + 4, 65_536 + 3, 1 << 31, (1 << 31) + 5, u32::MAX - 1, u32::MAX];
-
-fn numbers() -> impl Iterator<Item = u32> {
-    (0..=40).chain(LARGE)
-}
 
 /// All n, k and own numbers from 0 to 40 and large ones; calls on the record before the first set-up,
 /// and a refused set-up leaves the record of the last one.
@@ -24,9 +18,9 @@ pub fn set_up(count: &mut Count) -> Result<(), String> {
     for call in [Command::Slot(&[]), Command::Send { room: 9 }, Command::Off, Command::Restart] {
         script.push(&call);
     }
-    for n in numbers() {
-        for k in numbers() {
-            for own in numbers() {
+    for n in small_and_large() {
+        for k in small_and_large() {
+            for own in small_and_large() {
                 script.push(&Command::SetUp { n, k, own });
             }
         }

@@ -50,7 +50,7 @@ pub fn changed(random: &mut Random, node: &Node, bytes: &[u8]) -> Vec<u8> {
     let k = node.k;
     let Ok((acks, return_bit)) = message::read(k, bytes) else { return anything(random, k) };
     match random.below(6) {
-        0 => message_of(k, acks | (all_yes(k) & !0 << ring::ks(k, node.set)), return_bit),
+        0 => message_of(k, acks | (all_yes(k) & !0 << ring::ks(k, node.set.count())), return_bit),
         1 => message_of(k, acks, !return_bit),
         2 => message_of(k, acks ^ (1 << random.below(u64::from(k))), return_bit),
         3 => message_of(k, acknowledgements(random, k), return_bit),

@@ -1,0 +1,19 @@
+-- The answers of the ring as numbers, for callers in Rust and C: a refusal is its number in document 01, below 2 ^ 33, and any other answer is
+-- 2 ^ 33 and more.
+use Prim.Native.Nat.{ℕ, _+_, _^_}
+use Rattle.refusal.specs.Causes.{numberOf}
+use Rattle.ring.specs.declared.Speaker.{Speaker}
+use Rattle.ring.specs.declared.Speaker.the-variants as speaker
+use Rattle.ring.specs.declared.Found.{Found}
+use Rattle.ring.specs.declared.Found.the-variants as found
+
+-- the node whose slot it is
+abbrev pub speakerNumber : Speaker → ℕ
+speakerNumber (speaker.Node x) = 2 ^ 33 + x
+speakerNumber (speaker.Refused cause) = numberOf cause
+
+-- the member; nobody is 2 ^ 32 in its place, which is no number of 32 bits
+abbrev pub foundNumber : Found → ℕ
+foundNumber (found.Member x) = 2 ^ 33 + x
+foundNumber found.Nobody = 2 ^ 33 + 2 ^ 32
+foundNumber (found.Refused cause) = numberOf cause

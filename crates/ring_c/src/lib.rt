@@ -1,0 +1,163 @@
+// The functions of nodeset and ring for callers in Rust and C, which take and give numbers alone.
+// Each answers what the function of its name does; an answer that is an enum is one number.
+use ring::Found;
+use ring::Speaker;
+ghost use mathlib.Core.Path.{_≡_};
+ghost use Prim.Native.Nat.{_+_};
+ghost use Rattle.nodeset.specs.Sets.{has, with, without, union, full, within, subset, size, distance, run};
+ghost use Rattle.ring.specs.Ring.{ringSize, nodeNumber, sponsorCount, ks};
+ghost use Rattle.ring.specs.Answers.{senderOf, beforeOf, beforeFound, sponsoredOf, decidedOf};
+ghost use Rattle.ring_c.specs.Numbers.{speakerNumber, foundNumber};
+
+// ---- Sets
+
+#[no_mangle]
+pub extern "C" fn nodeset_has(s: u32, x: u32) -> bool
+    ensures { λ r. ⌜ r ≡ has s x ⌝ }
+{
+    nodeset::has(s, x)
+}
+
+#[no_mangle]
+pub extern "C" fn nodeset_with(s: u32, x: u32) -> u32
+    ensures { λ r. ⌜ r ≡ with s x ⌝ }
+{
+    nodeset::with(s, x)
+}
+
+#[no_mangle]
+pub extern "C" fn nodeset_without(s: u32, x: u32) -> u32
+    ensures { λ r. ⌜ r ≡ without s x ⌝ }
+{
+    nodeset::without(s, x)
+}
+
+#[no_mangle]
+pub extern "C" fn nodeset_union(a: u32, b: u32) -> u32
+    ensures { λ r. ⌜ r ≡ union a b ⌝ }
+{
+    nodeset::union(a, b)
+}
+
+#[no_mangle]
+pub extern "C" fn nodeset_full(n: u32) -> u32
+    ensures { λ r. ⌜ r ≡ full n ⌝ }
+{
+    nodeset::full(n)
+}
+
+#[no_mangle]
+pub extern "C" fn nodeset_is_subset(a: u32, b: u32) -> bool
+    ensures { λ r. ⌜ r ≡ subset a b ⌝ }
+{
+    nodeset::is_subset(a, b)
+}
+
+#[no_mangle]
+pub extern "C" fn nodeset_is_within(n: u32, s: u32) -> bool
+    ensures { λ r. ⌜ r ≡ within n s ⌝ }
+{
+    nodeset::is_within(n, s)
+}
+
+#[no_mangle]
+pub extern "C" fn nodeset_size(n: u32, s: u32) -> u32
+    ensures { λ r. ⌜ r ≡ size n s ⌝ }
+{
+    nodeset::size(n, s)
+}
+
+#[no_mangle]
+pub extern "C" fn nodeset_distance(n: u32, a: u32, b: u32) -> u32
+    ensures { λ r. ⌜ r ≡ distance n a b ⌝ }
+{
+    nodeset::distance(n, a, b)
+}
+
+#[no_mangle]
+pub extern "C" fn nodeset_run(s: u32) -> u32
+    ensures { λ r. ⌜ r ≡ run s ⌝ }
+{
+    nodeset::run(s)
+}
+
+// ---- The ring
+
+#[no_mangle]
+pub extern "C" fn ring_is_ring_size(n: u32) -> bool
+    ensures { λ r. ⌜ r ≡ ringSize n ⌝ }
+{
+    ring::is_ring_size(n)
+}
+
+#[no_mangle]
+pub extern "C" fn ring_is_node_number(n: u32, x: u32) -> bool
+    ensures { λ r. ⌜ r ≡ nodeNumber n x ⌝ }
+{
+    ring::is_node_number(n, x)
+}
+
+#[no_mangle]
+pub extern "C" fn ring_is_sponsor_count(n: u32, k: u32) -> bool
+    ensures { λ r. ⌜ r ≡ sponsorCount n k ⌝ }
+{
+    ring::is_sponsor_count(n, k)
+}
+
+#[no_mangle]
+pub extern "C" fn ring_ks(k: u32, c: u32) -> u32
+    ensures { λ r. ⌜ r ≡ ks k c ⌝ }
+{
+    ring::ks(k, c)
+}
+
+// Whose slot follows `done` slots: the refusal's number, or 2^33 and the node.
+#[no_mangle]
+pub extern "C" fn ring_sender(n: u32, done: u64) -> u64
+    ensures { λ r. ⌜ r ≡ speakerNumber (senderOf n (done + 1)) ⌝ }
+{
+    match ring::sender(n, done) {
+        Speaker::Node(x) => 0x2_0000_0000 + x as u64,
+        Speaker::Refused(cause) => refusal::number(cause) as u64,
+    }
+}
+
+// The refusal's number, or 2^33 and the member, or 2^33 and 2^32 for nobody.
+fn found_number(found: Found) -> u64
+    ensures { λ r. ⌜ r ≡ foundNumber found ⌝ }
+{
+    match found {
+        Found::Member(x) => 0x2_0000_0000 + x as u64,
+        Found::Nobody => 0x3_0000_0000,
+        Found::Refused(cause) => refusal::number(cause) as u64,
+    }
+}
+
+#[no_mangle]
+pub extern "C" fn ring_before(n: u32, set: u32, x: u32, j: u32) -> u64
+    ensures { λ r. ⌜ r ≡ foundNumber (beforeOf n set x j) ⌝ }
+{
+    found_number(ring::before(n, set, x, j))
+}
+
+// The nearest member before the j-th one before node x.
+#[no_mangle]
+pub extern "C" fn ring_before_found(n: u32, set: u32, x: u32, j: u32) -> u64
+    ensures { λ r. ⌜ r ≡ foundNumber (beforeFound n set (beforeOf n set x j)) ⌝ }
+{
+    found_number(ring::before_found(n, set, ring::before(n, set, x, j)))
+}
+
+#[no_mangle]
+pub extern "C" fn ring_sponsored(n: u32, k: u32, set: u32, x: u32, j: u32) -> u64
+    ensures { λ r. ⌜ r ≡ foundNumber (sponsoredOf n k set x j) ⌝ }
+{
+    found_number(ring::sponsored(n, k, set, x, j))
+}
+
+#[no_mangle]
+pub extern "C" fn ring_decided(n: u32, k: u32, set: u32, x: u32) -> u64
+    ensures { λ r. ⌜ r ≡ foundNumber (decidedOf n k set x) ⌝ }
+{
+    found_number(ring::decided(n, k, set, x))
+}

@@ -1,0 +1,16 @@
+//! The sets that are tried.
+
+use comparison::random::Random;
+
+/// All 512 sets of the nodes 1 to 9.
+pub fn small_sets() -> impl Iterator<Item = u32> {
+    0..512
+}
+
+/// The 32 single nodes, the empty and the full set, alternating bits, and 64 random sets.
+pub fn chosen_sets() -> Vec<u32> {
+    let mut random = Random::new(4);
+    let singles = (0..32).map(|i| 1 << i);
+    let others = (0..64).map(|_| random.number() as u32);
+    singles.chain([0, u32::MAX, 0x5555_5555, 0xAAAA_AAAA]).chain(others).collect()
+}

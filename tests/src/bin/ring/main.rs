@@ -1,0 +1,60 @@
+//! Sets of nodes and the ring: the library beside the model.
+
+mod inputs;
+mod sets;
+mod slots;
+mod vectors;
+mod walks;
+
+use comparison::report::{self, Case};
+use std::process::ExitCode;
+
+const CASES: &[Case] = &[
+    Case {
+        name: "vectors: senders of document 01, model and library",
+        meets: &[0, 1],
+        run: vectors::senders,
+    },
+    Case {
+        name: "vectors: members sponsored and decided by document 01, model and library",
+        meets: &[0, 1, 2, 3],
+        run: vectors::walks,
+    },
+    Case {
+        name: "sets: one set and any number, as a node and as n; all sets of 1 to 9 and chosen ones",
+        meets: &[],
+        run: sets::one_set,
+    },
+    Case { name: "sets: each of these and a chosen one, with any n", meets: &[], run: sets::two_sets },
+    Case { name: "sets: random ones", meets: &[], run: sets::random },
+    Case {
+        name: "ranges and ks: numbers 0 to 40 and large ones, each with each",
+        meets: &[],
+        run: slots::ranges,
+    },
+    Case {
+        name: "senders: n from 0 to 40, the first slots and those around ends of numbers",
+        meets: &[0, 1],
+        run: slots::senders,
+    },
+    Case {
+        name: "walks: n from 0 to 8, all sets of 1 to 9; nodes, k and j from 0 to n + 1",
+        meets: &[0, 1, 2, 3],
+        run: walks::small_rings,
+    },
+    Case {
+        name: "walks: n from 31 to 33, chosen sets; nodes, k and j from 0 to n + 1",
+        meets: &[0, 1, 2, 3],
+        run: walks::large_rings,
+    },
+    Case {
+        name: "walks: n from 3 to 32, random sets; nodes, k and j from 0 to n + 1",
+        meets: &[0, 2, 3],
+        run: walks::all_rings,
+    },
+    Case { name: "walks: random calls, some with large numbers", meets: &[0, 1, 2, 3], run: walks::random },
+];
+
+fn main() -> ExitCode {
+    report::run(CASES)
+}

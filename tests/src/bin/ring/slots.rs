@@ -1,0 +1,89 @@
+//! The sender of a slot, and the functions on numbers alone.
+
+use comparison::library;
+use comparison::model::refusal;
+use comparison::model::ring::{self, LIMIT};
+use comparison::numbers::small_and_large;
+use comparison::random::Random;
+use comparison::report::Count;
+
+/// Compares the library's sender after `done` slots with x, and the model's where that slot has a
+/// number. If n is out of range the refusal is expected, whatever x.
+fn sender(count: &mut Count, n: u32, done: u64, x: u32) -> Result<(), String> {
+    let expected = if ring::is_size(n) { Ok(x) } else { Err(refusal::N) };
+    count.expected(expected.err().unwrap_or(0));
+    let got = library::sender(n, done);
+    count.check(got == expected.map(u64::from).map_err(u64::from), || {
+        format!("sender n = {n}, after {done} slots: library {got:?}, expected {expected:?}")
+    })?;
+    match (expected, done.checked_add(1)) {
+        (Ok(x), Some(slot)) => {
+            let by_model = ring::sender(n, slot);
+            count.check(by_model == x, || {
+                format!("sender n = {n}, slot {slot}: model {by_model}, expected {x}")
+            })
+        }
+        _ => Ok(()),
+    }
+}
+
+/// The sender after `done` slots by long division, decimal digit by digit.
+fn divided(n: u32, done: u64) -> u32 {
+    let rest = |rest, digit| (rest * 10 + u32::from(digit - b'0')) % n;
+    done.to_string().bytes().fold(0, rest) + 1
+}
+
+/// The first 400 slots: the nodes take turns.
+fn first_slots(count: &mut Count, n: u32) -> Result<(), String> {
+    for (done, x) in (0..400).zip((1..=n.max(1)).cycle()) {
+        sender(count, n, done, x)?;
+    }
+    Ok(())
+}
+
+/// The slots around the limit, the ends of 32 and 63 bits, the last that a u64 counts, and random ones.
+fn late_slots(count: &mut Count, n: u32) -> Result<(), String> {
+    let mut random = Random::new(6);
+    let around = [LIMIT, 1 << 31, 1 << 32, 1 << 63].into_iter().flat_map(|end| end - 50..end + 50);
+    let last = u64::MAX - 50..=u64::MAX;
+    let others = (0..200).map(|_| random.number() >> random.below(64));
+    for done in around.chain(last).chain(others) {
+        sender(count, n, done, divided(n.max(1), done))?;
+    }
+    Ok(())
+}
+
+pub fn senders(count: &mut Count) -> Result<(), String> {
+    for n in 0..=40 {
+        first_slots(count, n)?;
+        late_slots(count, n)?;
+    }
+    for n in small_and_large() {
+        sender(count, n, 0, 1)?;
+    }
+    Ok(())
+}
+
+/// Two numbers: as n and a node, as n and k, as k and a count of members.
+fn pair(count: &mut Count, a: u32, b: u32) -> Result<(), String> {
+    let truths = [
+        ("is_node_number", library::ring_is_node_number(a, b), ring::is_node(a, b)),
+        ("is_sponsor_count", library::ring_is_sponsor_count(a, b), ring::is_sponsor_count(a, b)),
+    ];
+    for (name, got, expected) in truths {
+        count.check(got == expected, || format!("{name} {a}, {b}: library {got}, model {expected}"))?;
+    }
+    let (got, expected) = (library::ring_ks(a, b), ring::ks(a, b));
+    count.check(got == expected, || format!("ks k = {a}, {b} members: library {got}, model {expected}"))
+}
+
+pub fn ranges(count: &mut Count) -> Result<(), String> {
+    for a in small_and_large() {
+        let (got, expected) = (library::ring_is_ring_size(a), ring::is_size(a));
+        count.check(got == expected, || format!("is_ring_size {a}: library {got}, model {expected}"))?;
+        for b in small_and_large() {
+            pair(count, a, b)?;
+        }
+    }
+    Ok(())
+}

@@ -1,0 +1,142 @@
+//! The walk back: the members before a node, sponsored and decided.
+
+use super::inputs::{chosen_sets, small_sets};
+use comparison::library;
+use comparison::model::ring::{self, Set};
+use comparison::numbers::small_and_large;
+use comparison::random::Random;
+use comparison::report::Count;
+
+/// A member or nobody, or the number of the refusal.
+type Found = Result<Option<u32>, u32>;
+
+fn same(
+    count: &mut Count,
+    expected: Found,
+    got: library::Found,
+    call: impl FnOnce() -> String,
+) -> Result<(), String> {
+    count.expected(expected.err().unwrap_or(0));
+    if let Ok(found) = expected {
+        count.event(if found.is_some() { "found: a member" } else { "found: nobody" });
+    }
+    let answer = expected.map(|x| x.map(u64::from)).map_err(u64::from);
+    count.check(got == answer, || format!("{}: library {got:?}, model {expected:?}", call()))
+}
+
+/// The j-th of the members met; there is no 0th.
+fn jth(mut members: impl Iterator<Item = u32>, j: u32) -> Option<u32> {
+    members.nth(j.checked_sub(1)? as usize)
+}
+
+fn before(count: &mut Count, n: u32, set: u32, x: u32, j: u32) -> Result<(), String> {
+    let nearest = |x| ring::members_before(n, Set(set), x);
+    let one = ring::check(n, None, x).map(|()| jth(nearest(x), j));
+    let call = |name| move || format!("{name} n = {n}, set = {set:#X}, node {x}, j = {j}");
+    same(count, one, library::before(n, set, x, j), call("before"))?;
+    let next = one.map(|found| found.and_then(|y| nearest(y).next()));
+    same(count, next, library::before_found(n, set, x, j), call("before_found"))
+}
+
+/// Numbers above n in the set are no members.
+fn sponsored(count: &mut Count, n: u32, k: u32, set: u32, x: u32, j: u32) -> Result<(), String> {
+    let members = Set(set).up_to(n);
+    let expected = ring::check(n, Some(k), x).map(|()| jth(ring::sponsored(n, k, members, x), j));
+    same(count, expected, library::sponsored(n, k, set, x, j), || {
+        format!("sponsored n = {n}, k = {k}, set = {set:#X}, node {x}, j = {j}")
+    })
+}
+
+fn decided(count: &mut Count, n: u32, k: u32, set: u32, x: u32) -> Result<(), String> {
+    let members = Set(set).up_to(n);
+    let expected = ring::check(n, Some(k), x).map(|()| ring::decided(n, k, members, x));
+    same(count, expected, library::decided(n, k, set, x), || {
+        format!("decided n = {n}, k = {k}, set = {set:#X}, node {x}")
+    })
+}
+
+/// One node, with each k and j to n + 1.
+fn node(count: &mut Count, n: u32, set: u32, x: u32) -> Result<(), String> {
+    for j in 0..=n + 1 {
+        before(count, n, set, x, j)?;
+    }
+    for k in 0..=n + 1 {
+        decided(count, n, k, set, x)?;
+        for j in 0..=n + 1 {
+            sponsored(count, n, k, set, x, j)?;
+        }
+    }
+    Ok(())
+}
+
+/// One set, with each node to n + 1.
+fn ring_of(count: &mut Count, n: u32, set: u32) -> Result<(), String> {
+    for x in 0..=n + 1 {
+        node(count, n, set, x)?;
+    }
+    Ok(())
+}
+
+/// What the inputs of each case must lead to.
+fn both_found(count: &Count) -> Result<(), String> {
+    count.needs(&["found: a member", "found: nobody"])
+}
+
+pub fn small_rings(count: &mut Count) -> Result<(), String> {
+    for n in 0..=8 {
+        for set in small_sets() {
+            ring_of(count, n, set)?;
+        }
+    }
+    both_found(count)
+}
+
+pub fn large_rings(count: &mut Count) -> Result<(), String> {
+    for n in 31..=33 {
+        for set in chosen_sets() {
+            ring_of(count, n, set)?;
+        }
+    }
+    both_found(count)
+}
+
+/// Random sets for each n: with numbers above n, without these, and with about half of the rest.
+pub fn all_rings(count: &mut Count) -> Result<(), String> {
+    let mut random = Random::new(7);
+    for n in 3..=32 {
+        for _ in 0..4 {
+            let any = Set(random.number() as u32);
+            let half = random.some_of(any.up_to(n));
+            for set in [any, any.up_to(n), half] {
+                ring_of(count, n, set.0)?;
+            }
+        }
+    }
+    both_found(count)
+}
+
+/// A number to n + 1 for most calls, else a small or a large one.
+fn number(random: &mut Random, n: u32, numbers: &[u32]) -> u32 {
+    if random.below(8) == 0 {
+        numbers[random.below(numbers.len() as u64) as usize]
+    } else {
+        random.below(u64::from(n.min(32)) + 2) as u32
+    }
+}
+
+pub fn random(count: &mut Count) -> Result<(), String> {
+    let mut random = Random::new(8);
+    let numbers: Vec<u32> = small_and_large().collect();
+    for _ in 0..1_000_000 {
+        let n = number(&mut random, 32, &numbers);
+        let k = number(&mut random, n, &numbers);
+        let x = number(&mut random, n, &numbers);
+        let j = number(&mut random, n, &numbers);
+        let any = random.number() as u32;
+        let set = if random.bit() { any } else { any & random.number() as u32 };
+        before(count, n, set, x, j)?;
+        sponsored(count, n, k, set, x, j)?;
+        decided(count, n, k, set, x)?;
+    }
+    both_found(count)
+}

@@ -1,0 +1,10 @@
+//! Numbers to be tried as arguments, in range and out of it.
+
+/// Numbers beyond 40: those that look small if their high bits are lost, and the ends.
+const LARGE: [u32; 14] =
+    [41, 64, 127, 128, 255, 256, 258, 265, 65_538, 65_539, 1 << 31, (1 << 31) + 5, u32::MAX - 1, u32::MAX];
+
+/// The numbers from 0 to 40, then the large ones.
+pub fn small_and_large() -> impl Iterator<Item = u32> {
+    (0..=40).chain(LARGE)
+}
