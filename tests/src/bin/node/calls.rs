@@ -52,7 +52,7 @@ pub fn sending(count: &mut Count) -> Result<(), String> {
                 turn(&mut node);
             }
             note_send(count, &node);
-            script.push(&Command::Load(node));
+            script.push(&Command::load(&node));
             for room in (0..=12).chain([255]) {
                 script.push(&Command::Send { room });
             }
@@ -105,7 +105,7 @@ pub fn limit(count: &mut Count) -> Result<(), String> {
             let mut node = sound(&mut random, state);
             node.slots = LIMIT - random.below(3);
             every_call(&mut random, &mut script, &node);
-            script.push(&Command::Load(node));
+            script.push(&Command::load(&node));
             for _ in 0..3 {
                 script.push(&Command::Send { room: random.below(12) as u8 });
                 script.push(&Command::Slot(&heard::anything(&mut random, node.k)));
@@ -146,7 +146,7 @@ pub fn order(count: &mut Count) -> Result<(), String> {
             }
             note_causes(count, &node, unsound, at_limit);
             every_call(&mut random, &mut script, &node);
-            script.push(&Command::Load(node));
+            script.push(&Command::load(&node));
             for room in [message::length(node.k) - 1, message::length(node.k)] {
                 script.push(&Command::Send { room: room as u8 });
             }
@@ -190,7 +190,7 @@ pub fn switching(count: &mut Count) -> Result<(), String> {
                 [Command::Restart, Command::Off],
                 [Command::Restart, Command::Restart],
             ] {
-                script.push(&Command::Load(node));
+                script.push(&Command::load(&node));
                 for call in calls {
                     script.push(&call);
                 }

@@ -1,6 +1,6 @@
 //! One run of the program, command by command beside the model.
 
-use super::protocol::{self, push_record, run_by_model, Command, Reader, Script, RECORD};
+use super::protocol::{record_bytes, run_by_model, Command, Held, Reader, Script, RECORD};
 use comparison::messages::hex;
 use comparison::model::node::Node;
 use comparison::model::ring::Set;
@@ -58,21 +58,21 @@ fn feed(mut input: ChildStdin, script: &[u8]) -> Result<(), String> {
 /// Compares the answers of all commands and sees that nothing follows them.
 fn answers(count: &mut Count, script: &Script, output: &mut impl Read) -> Result<(), String> {
     let mut commands = Reader(script.bytes());
-    let mut record = protocol::first_record();
+    let mut held = Held::first();
     let mut expected = Vec::new();
     let mut got = Vec::new();
     let mut position = 0_u64;
     while let Some(command) = commands.command() {
         position += 1;
-        let before = record;
-        let Some(number) = run_by_model(&mut record, &command, &mut expected) else { continue };
+        let before = held.node;
+        let Some(number) = run_by_model(&mut held, &command, &mut expected) else { continue };
         count.expected(number);
-        if number == 0 && !record.is_sound() {
+        if number == 0 && !held.node.is_sound() {
             return Err(format!(
                 "command {position}: {}\n        record before: {}\n        the model leaves one that is not sound: {}",
                 shown_command(&command),
                 shown_record(&before),
-                shown_record(&record),
+                shown_record(&held.node),
             ));
         }
         read_answer(output, expected.len(), &mut got)
@@ -116,7 +116,7 @@ fn shown_command(command: &Command) -> String {
         Command::Send { room } => format!("send into {room} bytes"),
         Command::Off => "off".to_string(),
         Command::Restart => "restart".to_string(),
-        Command::Load(ref record) => format!("load {}", shown_record(record)),
+        Command::Load(bytes) => format!("load {}", shown_record(&Held::load(bytes).node)),
     }
 }
 
@@ -157,9 +157,7 @@ fn shown_answer(command: &Command, answer: &[u8], length: usize) -> String {
         return format!("state {}: [{}]", answer[1 + 20], hex(answer));
     }
     let record = Reader(&answer[1..1 + RECORD]).record();
-    let mut again = vec![answer[0]];
-    push_record(&mut again, &record);
-    if again != answer {
+    if record_bytes(&record) != answer[1..] {
         return format!("a yes or no that is neither: [{}]", hex(answer));
     }
     format!("{}, {}", answer[0], shown_record(&record))

@@ -22,21 +22,40 @@ fn state_number(state: State) -> u8 {
     }
 }
 
+/// Every number past 7 is read as 7.
 fn state_of(number: u8) -> State {
     match number {
         0 => State::Member,
         1 => State::Listening,
         2 => State::Following,
         3 => State::Knocking,
-        _ => State::Out(CAUSES[usize::from(number) - 4]),
+        4..=7 => State::Out(CAUSES[usize::from(number) - 4]),
+        _ => State::Out(Cause::SwitchedOff),
     }
 }
 
-/// The record before the first command: all bytes 0 but the state, 7.
-pub fn first_record() -> Node {
-    let mut bytes = [0; RECORD];
-    bytes[20] = 7;
-    Reader(&bytes).record()
+/// The record that the program holds. Several bytes are read as one state, or as no; those of a refused
+/// call stay, and any other call writes the record anew.
+pub struct Held {
+    bytes: [u8; RECORD],
+    pub node: Node,
+}
+
+impl Held {
+    /// Before the first command: all bytes 0 but the state, 7.
+    pub fn first() -> Held {
+        let mut bytes = [0; RECORD];
+        bytes[20] = 7;
+        Held::load(bytes)
+    }
+
+    pub fn load(bytes: [u8; RECORD]) -> Held {
+        Held { bytes, node: Reader(&bytes).record() }
+    }
+
+    fn write(node: Node) -> Held {
+        Held { bytes: record_bytes(&node), node }
+    }
 }
 
 pub enum Command<'a> {
@@ -45,7 +64,13 @@ pub enum Command<'a> {
     Send { room: u8 },
     Off,
     Restart,
-    Load(Node),
+    Load([u8; RECORD]),
+}
+
+impl Command<'_> {
+    pub fn load(record: &Node) -> Self {
+        Command::Load(record_bytes(record))
+    }
 }
 
 /// Commands in a row, as they are sent.
@@ -76,9 +101,9 @@ impl Script {
             Command::Send { room } => out.extend([b'T', room]),
             Command::Off => out.push(b'F'),
             Command::Restart => out.push(b'R'),
-            Command::Load(ref record) => {
+            Command::Load(bytes) => {
                 out.push(b'L');
-                push_record(out, record);
+                out.extend(bytes);
             }
         }
     }
@@ -89,7 +114,8 @@ impl Script {
     }
 }
 
-pub fn push_record(out: &mut Vec<u8>, record: &Node) {
+pub fn record_bytes(record: &Node) -> [u8; RECORD] {
+    let mut out = Vec::with_capacity(RECORD);
     let ListeningData { done, heard, shortest, return_seen, last } = record.listening;
     for number in [record.n, record.k, record.own] {
         out.extend(number.to_le_bytes());
@@ -105,6 +131,7 @@ pub fn push_record(out: &mut Vec<u8>, record: &Node) {
     }
     out.push(u8::from(return_seen));
     out.extend(last.0.to_le_bytes());
+    out.try_into().expect("51 bytes")
 }
 
 /// Takes a script or an answer apart; the bytes not yet taken.
@@ -165,7 +192,7 @@ impl<'a> Reader<'a> {
             b'T' => Command::Send { room: self.u8() },
             b'F' => Command::Off,
             b'R' => Command::Restart,
-            b'L' => Command::Load(self.record()),
+            b'L' => Command::Load(self.take(RECORD).try_into().expect("51 bytes")),
             other => panic!("{other:#04X} is no command"),
         })
     }
@@ -173,32 +200,32 @@ impl<'a> Reader<'a> {
 
 /// Carries out a command by the model: the answer's bytes go into `out`, which is emptied first. Gives
 /// 0 or the refusal's number; none for a command that has no answer.
-pub fn run_by_model(record: &mut Node, command: &Command, out: &mut Vec<u8>) -> Option<u32> {
+pub fn run_by_model(held: &mut Held, command: &Command, out: &mut Vec<u8>) -> Option<u32> {
     out.clear();
     let next = match *command {
-        Command::Load(loaded) => {
-            *record = loaded;
+        Command::Load(bytes) => {
+            *held = Held::load(bytes);
             return None;
         }
         Command::Send { room } => {
             let mut buffer = [FILL; 255];
             let lent = &mut buffer[..usize::from(room)];
-            let answer = record.send(lent);
+            let answer = held.node.send(lent);
             let number = answer.err().unwrap_or(0);
             out.extend([number as u8, answer.unwrap_or(0) as u8]);
             out.extend_from_slice(lent);
             return Some(number);
         }
         Command::SetUp { n, k, own } => Node::set_up(n, k, own),
-        Command::Slot(heard) => record.slot(heard),
-        Command::Off => record.off(),
-        Command::Restart => record.restart(),
+        Command::Slot(heard) => held.node.slot(heard),
+        Command::Off => held.node.off(),
+        Command::Restart => held.node.restart(),
     };
     let number = next.err().unwrap_or(0);
     if let Ok(next) = next {
-        *record = next;
+        *held = Held::write(next);
     }
     out.push(number as u8);
-    push_record(out, record);
+    out.extend(held.bytes);
     Some(number)
 }

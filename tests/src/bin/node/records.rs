@@ -137,7 +137,7 @@ const BEYOND_CABLES: &[&str] =
 
 /// Loads the record; then one to three slots, and sometimes another call.
 fn slots_on(count: &mut Count, random: &mut Random, script: &mut Script, mut node: Node) {
-    script.push(&Command::Load(node));
+    script.push(&Command::load(&node));
     for _ in 0..random.within(1, 3) {
         let bytes = heard::anything(random, node.k);
         script.push(&Command::Slot(&bytes));
@@ -183,7 +183,7 @@ pub fn every_call(random: &mut Random, script: &mut Script, node: &Node) {
         Command::Off,
         Command::Restart,
     ] {
-        script.push(&Command::Load(*node));
+        script.push(&Command::load(node));
         script.push(&call);
     }
 }

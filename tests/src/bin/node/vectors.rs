@@ -419,7 +419,7 @@ fn follow(count: &mut Count, script: &mut Script, run: &Run) -> Result<(), Strin
     if let Some((from, is)) = run.from {
         slots = from;
         node = record(run.ring, slots, is);
-        script.push(&Command::Load(node));
+        script.push(&Command::load(&node));
     }
     for (i, step) in run.steps.iter().enumerate() {
         let what = format!("{}, step {}", run.what, i + 1);
