@@ -1,11 +1,11 @@
 // The calls of `node` on a record of 51 bytes.
-use crate::block;
-use crate::block::Block;
 use crate::bytes;
 use message::Written;
 use node::Answer;
 use node::Stepped;
 use record::Node;
+use run_io::block;
+use run_io::block::Block;
 ghost use mathlib.Core.Path.{_≡_};
 ghost use mathlib.Core.Logic.{_⊎_};
 

@@ -1,5 +1,4 @@
 // The calls of `node` on a record as bytes, for the program that runs them in a test. The functions are
 // safe and end, and a refused call leaves every byte of the record; no contract says more.
-pub mod block;
 pub mod bytes;
 pub mod calls;
