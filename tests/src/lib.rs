@@ -2,10 +2,13 @@
 
 pub mod adversary;
 pub mod careful;
+pub mod child;
 pub mod lasting;
 pub mod library;
 pub mod messages;
 pub mod model;
 pub mod plan;
 pub mod random;
+pub mod record_bytes;
+pub mod records;
 pub mod report;

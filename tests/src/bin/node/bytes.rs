@@ -2,11 +2,12 @@
 //! every byte as it was.
 
 use super::compare::compare;
-use super::protocol::{record_bytes, Command, Held, Script, RECORD};
-use super::records::{sound, STATES};
+use super::protocol::{Command, Held, Script};
 use comparison::model::node::{Cause, Node, State};
 use comparison::model::ring::LIMIT;
 use comparison::random::Random;
+use comparison::record_bytes::{record_bytes, RECORD};
+use comparison::records::{sound, STATES};
 use comparison::report::Count;
 
 /// The places of the state and of the two yes or no in a record's bytes.

@@ -2,12 +2,13 @@
 
 use super::compare::compare;
 use super::protocol::{Command, Script};
-use super::records::{every_call, own_slot_next, sound, STATES};
+use super::records::{every_call, own_slot_next};
 use super::{events, heard};
 use comparison::model::message;
 use comparison::model::node::{Node, State};
 use comparison::model::ring::LIMIT;
 use comparison::random::Random;
+use comparison::records::{sound, STATES};
 use comparison::report::Count;
 
 /// Numbers past 40: those that look small if their high bits are lost, and the ends.

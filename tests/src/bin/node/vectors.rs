@@ -1,11 +1,12 @@
 //! Runs of single nodes with literal answers, typed from document 01; neither side makes an expected
 //! answer. The examples of whole cables are followed on each of their nodes.
 
-use super::compare::{compare, shown_record};
+use super::compare::compare;
 use super::protocol::{Command, Script};
 use comparison::messages::hex;
 use comparison::model::node::{Cause, ListeningData, Node, State};
 use comparison::model::ring::Set;
+use comparison::record_bytes::shown_record;
 use comparison::report::Count;
 
 type Nodes = &'static [u32];
