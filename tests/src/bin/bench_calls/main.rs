@@ -54,10 +54,11 @@ fn main() -> ExitCode {
             meets: &[0, 5, 11],
             run: tables::limit,
         },
+        Case { name: "buffers: every length from 0 to 255, every call", meets: &[0, 9], run: tables::rooms },
         Case {
-            name: "buffers: every length from 0 to 255, and pairs of all nodes",
-            meets: &[0, 9],
-            run: tables::rooms,
+            name: "pairs: all nodes leave in one slot, for every n",
+            meets: &[0],
+            run: tables::most_pairs,
         },
         Case {
             name: "order: every choice of causes at once",

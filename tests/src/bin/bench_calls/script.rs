@@ -53,7 +53,7 @@ impl Script {
         }
     }
 
-    /// One call of each kind that the table as it stands may take; of the slot two, and both looks.
+    /// Every call, each on the table that the one before it left.
     pub fn every_call(&mut self, random: &mut Random, n: u32, k: u32) {
         let all = if n < 32 { (1 << n) - 1 } else { u32::MAX };
         let x = random.within(1, u64::from(n)) as u32;

@@ -1,15 +1,15 @@
 //! Tables that are loaded as they stand: ones of any sound records, and ones that are no table.
 
-use super::compare::compare;
+use super::compare::{compare, KINDS};
 use super::protocol::{Call, Command};
 use super::script::{Script, ENOUGH};
 use comparison::model::bench::check_table;
-use comparison::model::node::{Node, State};
+use comparison::model::node::{Node, State, CLAUSES};
 use comparison::model::refusal;
 use comparison::model::ring::{Set, LIMIT};
 use comparison::random::Random;
 use comparison::record_bytes::shown_record;
-use comparison::records::{size, sound_of, BREAKS, STATES};
+use comparison::records::{size, sound_of, Break, BREAKS, STATES};
 use comparison::report::Count;
 
 /// n, k and a slot count below the limit.
@@ -47,7 +47,7 @@ pub fn sound(count: &mut Count) -> Result<(), String> {
         script.every_call(&mut random, ring.0, ring.1);
     }
     compare(count, &script.commands)?;
-    count.needs(&super::compare::KINDS)?;
+    count.needs(&KINDS)?;
     count.needs(&["told: no list", "told: a list", "told: sets that differ"])
 }
 
@@ -66,26 +66,30 @@ fn no_table(
     Ok(())
 }
 
+/// A table with one record that is broken; none if the record does not allow it.
+fn broken_table(random: &mut Random, case: &Break, state: State) -> Option<Vec<Node>> {
+    let (n, k, slots) = ring(random);
+    let mut table = sound_table(random, (n, k, slots));
+    let own = random.within(1, u64::from(n)) as u32;
+    let mut node = sound_of(random, state, (n, k, own), slots);
+    (case.make)(random, &mut node)?;
+    table[own as usize - 1] = node;
+    Some(table)
+}
+
 /// One record is not sound, in each clause and each state.
 pub fn unsound_record(count: &mut Count) -> Result<(), String> {
     let mut random = Random::new(92);
     let mut script = Script::new();
     for case in BREAKS {
         for &state in case.states {
-            for _ in 0..6 {
-                let (n, k, slots) = ring(&mut random);
-                let mut table = sound_table(&mut random, (n, k, slots));
-                let own = random.within(1, u64::from(n)) as u32;
-                let mut node = sound_of(&mut random, state, (n, k, own), slots);
-                if (case.make)(&mut random, &mut node).is_none() {
-                    continue;
-                }
-                table[own as usize - 1] = node;
+            for table in (0..6).filter_map(|_| broken_table(&mut random, case, state)).collect::<Vec<_>>() {
                 case.breaks.iter().for_each(|says| count.event(says));
                 no_table(count, &mut random, &mut script, &table)?;
             }
         }
     }
+    count.needs(&CLAUSES.iter().map(|clause| clause.says).collect::<Vec<_>>())?;
     compare(count, &script.commands)
 }
 
@@ -167,41 +171,44 @@ pub fn limit(count: &mut Count) -> Result<(), String> {
     compare(count, &script.commands)
 }
 
+/// Every length of the buffer, for every call.
+pub fn rooms(count: &mut Count) -> Result<(), String> {
+    let mut random = Random::new(95);
+    let mut script = Script::new();
+    for room in (0..=255).flat_map(|room| [room; 4]) {
+        let (n, k, slots) = ring(&mut random);
+        let table = sound_table(&mut random, (n, k, slots));
+        script.load(&mut random, &table);
+        for call in [
+            Call::Slot { lost: false, missed: 0 },
+            Call::Look { lost: false },
+            Call::Off(n),
+            Call::Restart(n),
+            Call::SetUp { n, k },
+        ] {
+            script.push(Command::Call(call, room));
+        }
+    }
+    compare(count, &script.commands)
+}
+
 /// A table of members none of whom has marked another: all leave in the next slot if it is lost.
 fn all_leave(n: u32) -> Vec<Node> {
     let member = |own| Node { marks: Set::EMPTY.with(own), ..Node::set_up(n, 2, own).expect("in range") };
     (1..=n).map(member).collect()
 }
 
-/// Every length of the buffer, for every call; and as many pairs as there can be.
-pub fn rooms(count: &mut Count) -> Result<(), String> {
-    let mut random = Random::new(95);
+/// As many pairs as there can be: those of 32 nodes fill a buffer of 64 bytes.
+pub fn most_pairs(count: &mut Count) -> Result<(), String> {
+    let mut random = Random::new(98);
     let mut script = Script::new();
-    for room in 0..=255 {
-        for _ in 0..4 {
-            let (n, k, slots) = ring(&mut random);
-            let table = sound_table(&mut random, (n, k, slots));
-            script.load(&mut random, &table);
-            for call in [
-                Call::Slot { lost: false, missed: 0 },
-                Call::Look { lost: false },
-                Call::Off(n),
-                Call::Restart(n),
-                Call::SetUp { n, k },
-            ] {
-                script.push(Command::Call(call, room));
-            }
-        }
-    }
     for n in 3..=32 {
         for room in ENOUGH {
             script.load(&mut random, &all_leave(n));
             script.push(Command::Call(Call::Slot { lost: true, missed: 0 }, room));
-            if script.table().iter().all(|node| matches!(node.state, State::Out(_))) {
-                count.event("change: of all nodes at once");
-            }
+            let all_out = script.table().iter().all(|node| matches!(node.state, State::Out(_)));
+            count.check(all_out, || format!("not all of {n} nodes leave by the model"))?;
         }
     }
-    compare(count, &script.commands)?;
-    count.needs(&["change: of all nodes at once"])
+    compare(count, &script.commands)
 }

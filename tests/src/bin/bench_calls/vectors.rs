@@ -1,6 +1,6 @@
 //! Runs whose pairs are typed from document 01; neither side makes an expected answer.
 
-use super::compare::compare;
+use super::compare::{compare, KINDS};
 use super::protocol::{Call, Command, Held, HEAD};
 use comparison::report::Count;
 
@@ -72,5 +72,5 @@ pub fn pairs(count: &mut Count) -> Result<(), String> {
         let commands = follow(count, &runs)?;
         compare(count, &commands)?;
     }
-    count.needs(&super::compare::KINDS)
+    count.needs(&KINDS)
 }
