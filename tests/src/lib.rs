@@ -2,6 +2,7 @@
 
 pub mod adversary;
 pub mod careful;
+pub mod child;
 pub mod lasting;
 pub mod library;
 pub mod messages;
@@ -9,4 +10,6 @@ pub mod model;
 pub mod numbers;
 pub mod plan;
 pub mod random;
+pub mod record_bytes;
+pub mod records;
 pub mod report;

@@ -1,10 +1,10 @@
 // A record as the first 51 bytes of a block.
-use crate::block;
-use crate::block::Block;
 use record::Cause;
 use record::Node;
 use record::State;
 use record::Window;
+use run_io::block;
+use run_io::block::Block;
 
 fn state_of(number: u8) -> State {
     match number {

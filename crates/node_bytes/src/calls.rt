@@ -1,11 +1,13 @@
 // The calls of `node` on a record of 51 bytes.
-use crate::block;
-use crate::block::Block;
 use crate::bytes;
 use message::Written;
 use node::Answer;
 use node::Stepped;
 use record::Node;
+use run_io::block;
+use run_io::block::Block;
+ghost use mathlib.Core.Path.{_≡_};
+ghost use mathlib.Core.Logic.{_⊎_};
 
 // 0 or the refusal's number, and how many bytes were sent.
 pub struct Outcome {
@@ -13,28 +15,26 @@ pub struct Outcome {
     pub sent: usize,
 }
 
-// The record becomes the one of the answer.
-fn kept(record: &mut Block, stepped: Stepped) -> u32 {
+// The record becomes the one of the answer; on a refusal every byte of it stays.
+fn kept(record: &mut Block, stepped: Stepped) -> u32
+    ensures { λ r. ⌜ (r ≡ 0) ⊎ (now («record» .exit) ≡ now («record» .entry)) ⌝ }
+{
     let node = stepped.node;
     let answer = stepped.answer;
-    bytes::set_node(record, node);
     match answer {
-        Answer::Done => 0,
+        Answer::Done => {
+            bytes::set_node(record, node);
+            0
+        }
         Answer::Refused(refusal) => refusal::number(refusal),
     }
 }
 
-// A refused set-up leaves the record that there was.
-fn set_up(record: &mut Block, arguments: &Block) -> u32 {
+fn set_up(arguments: &Block) -> Stepped {
     let n = block::word(arguments, 0);
     let k = block::word(arguments, 4);
     let own = block::word(arguments, 8);
-    let stepped = node::set_up(n, k, own);
-    let answer = stepped.answer;
-    match answer {
-        Answer::Done => kept(record, stepped),
-        Answer::Refused(refusal) => refusal::number(refusal),
-    }
+    node::set_up(n, k, own)
 }
 
 // The first bytes, all if there are not so many.
@@ -73,6 +73,7 @@ fn send(record: &Block, out: &mut Block, room: u8) -> Outcome {
 fn stepped(record: &Block, arguments: &Block, letter: u8, size: u8) -> Stepped {
     let node = bytes::node_of(record);
     match letter {
+        b'U' => set_up(arguments),
         b'S' => slot(node, arguments, size),
         b'F' => node::off(node),
         _ => node::restart(node),
@@ -80,17 +81,16 @@ fn stepped(record: &Block, arguments: &Block, letter: u8, size: u8) -> Stepped {
 }
 
 // Carries a command out. What it hears or loads, and where it sends, are the first bytes of `block`.
-pub fn call(record: &mut Block, block: &mut Block, letter: u8, size: u8) -> Outcome {
+// A refused command leaves every byte of the record.
+pub fn call(record: &mut Block, block: &mut Block, letter: u8, size: u8) -> Outcome
+    ensures { λ r. ⌜ (r .number ≡ 0) ⊎ (now («record» .exit) ≡ now («record» .entry)) ⌝ }
+{
     match letter {
         b'L' => {
             *record = *block;
             Outcome { number: 0, sent: 0 }
         }
         b'T' => send(record, block, size),
-        b'U' => Outcome {
-            number: set_up(record, block),
-            sent: 0,
-        },
         _ => Outcome {
             number: kept(record, stepped(record, block, letter, size)),
             sent: 0,

@@ -1,5 +1,4 @@
-// The calls of `node` on a record as bytes, for the program that runs them in a test. No contract
-// says more than that each function is safe and ends.
-pub mod block;
+// The calls of `node` on a record as bytes, for the program that runs them in a test. The functions are
+// safe and end, and a refused call leaves every byte of the record; no contract says more.
 pub mod bytes;
 pub mod calls;

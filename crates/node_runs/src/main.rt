@@ -11,14 +11,13 @@
 //
 // U, S, F and R are answered by a byte, 0 or the refusal's number, and the record; T by such a byte,
 // the number of bytes written, and the whole buffer. Any other byte ends the run.
-mod input;
-mod output;
-
-use input::Unread;
-use node_bytes::block::Block;
 use node_bytes::bytes;
 use node_bytes::calls;
 use node_bytes::calls::Outcome;
+use run_io::block::Block;
+use run_io::input;
+use run_io::input::Unread;
+use run_io::output;
 
 // A command: its letter, and its size if it has one.
 struct Command {

@@ -148,6 +148,30 @@ pub fn run(rules: &impl Rules, nodes: &mut [Node], call: Call) -> Result<Option<
     }
 }
 
+/// What can be seen of a table without running a slot: how many slots are done, whose slot is next and what
+/// becomes of its message, lost or not; the list and the greatest distance.
+pub struct Look {
+    pub slots: u64,
+    pub sender: u32,
+    pub fate: Fate,
+    pub list: Option<Set>,
+    pub distance: u32,
+}
+
+/// Changes nothing, so it does not ask for the limit.
+pub fn look(nodes: &[Node], lost: bool) -> Result<Look, u32> {
+    check_table(nodes)?;
+    let sender = next_sender(nodes);
+    let speaker = &nodes[sender as usize - 1];
+    Ok(Look {
+        slots: nodes[0].slots,
+        sender,
+        fate: fate(speaker, speaker.says(), lost),
+        list: list(nodes),
+        distance: greatest_distance(nodes),
+    })
+}
+
 /// The sender of the table's next slot.
 pub fn next_sender(nodes: &[Node]) -> u32 {
     ring::sender(nodes[0].n, nodes[0].slots + 1)

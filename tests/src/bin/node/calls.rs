@@ -2,13 +2,14 @@
 
 use super::compare::compare;
 use super::protocol::{Command, Script};
-use super::records::{every_call, own_slot_next, sound, STATES};
+use super::records::{every_call, own_slot_next};
 use super::{events, heard};
 use comparison::model::message;
 use comparison::model::node::{Node, State};
 use comparison::model::ring::LIMIT;
 use comparison::numbers::small_and_large;
 use comparison::random::Random;
+use comparison::records::{sound, STATES};
 use comparison::report::Count;
 
 /// All n, k and own numbers from 0 to 40 and large ones; calls on the record before the first set-up,
@@ -46,7 +47,7 @@ pub fn sending(count: &mut Count) -> Result<(), String> {
                 turn(&mut node);
             }
             note_send(count, &node);
-            script.push(&Command::Load(node));
+            script.push(&Command::load(&node));
             for room in (0..=12).chain([255]) {
                 script.push(&Command::Send { room });
             }
@@ -99,7 +100,7 @@ pub fn limit(count: &mut Count) -> Result<(), String> {
             let mut node = sound(&mut random, state);
             node.slots = LIMIT - random.below(3);
             every_call(&mut random, &mut script, &node);
-            script.push(&Command::Load(node));
+            script.push(&Command::load(&node));
             for _ in 0..3 {
                 script.push(&Command::Send { room: random.below(12) as u8 });
                 script.push(&Command::Slot(&heard::anything(&mut random, node.k)));
@@ -140,7 +141,7 @@ pub fn order(count: &mut Count) -> Result<(), String> {
             }
             note_causes(count, &node, unsound, at_limit);
             every_call(&mut random, &mut script, &node);
-            script.push(&Command::Load(node));
+            script.push(&Command::load(&node));
             for room in [message::length(node.k) - 1, message::length(node.k)] {
                 script.push(&Command::Send { room: room as u8 });
             }
@@ -184,7 +185,7 @@ pub fn switching(count: &mut Count) -> Result<(), String> {
                 [Command::Restart, Command::Off],
                 [Command::Restart, Command::Restart],
             ] {
-                script.push(&Command::Load(node));
+                script.push(&Command::load(&node));
                 for call in calls {
                     script.push(&call);
                 }

@@ -1,5 +1,6 @@
 //! The node: the library, behind the program `node_runs`, beside the model.
 
+mod bytes;
 mod cable;
 mod calls;
 mod compare;
@@ -65,6 +66,11 @@ fn main() -> ExitCode {
             name: "records: up to three fields of any value",
             meets: &[0, 4, 9, 10, 11],
             run: records::wild,
+        },
+        Case {
+            name: "records: of bytes that no call writes, each of which a refused call leaves",
+            meets: &[0, 1, 2, 3, 4, 5, 9, 10, 11],
+            run: bytes::left_by_refusals,
         },
         Case {
             name: "sending: sound records, rooms 0 to 12 and 255",

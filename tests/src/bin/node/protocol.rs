@@ -1,42 +1,34 @@
 //! What the program `node_runs` takes and gives: commands on one current record, all numbers
 //! lowest byte first.
 
-use comparison::model::node::{Cause, ListeningData, Node, State};
-use comparison::model::ring::Set;
-
-/// The bytes of a record.
-pub const RECORD: usize = 51;
+use comparison::model::node::Node;
+use comparison::record_bytes::{record_bytes, Reader, RECORD};
 
 /// Each byte of a lent buffer before the node sends into it.
 pub const FILL: u8 = 0xA5;
 
-const CAUSES: [Cause; 4] = [Cause::Unconfirmed, Cause::NothingHeard, Cause::MissedReturn, Cause::SwitchedOff];
-
-fn state_number(state: State) -> u8 {
-    match state {
-        State::Member => 0,
-        State::Listening => 1,
-        State::Following => 2,
-        State::Knocking => 3,
-        State::Out(cause) => 3 + cause as u8,
-    }
+/// The record that the program holds. Several bytes are read as one state, or as no; those of a refused
+/// call stay, and any other call writes the record anew.
+pub struct Held {
+    bytes: [u8; RECORD],
+    pub node: Node,
 }
 
-fn state_of(number: u8) -> State {
-    match number {
-        0 => State::Member,
-        1 => State::Listening,
-        2 => State::Following,
-        3 => State::Knocking,
-        _ => State::Out(CAUSES[usize::from(number) - 4]),
+impl Held {
+    /// Before the first command: all bytes 0 but the state, 7.
+    pub fn first() -> Held {
+        let mut bytes = [0; RECORD];
+        bytes[20] = 7;
+        Held::load(bytes)
     }
-}
 
-/// The record before the first command: all bytes 0 but the state, 7.
-pub fn first_record() -> Node {
-    let mut bytes = [0; RECORD];
-    bytes[20] = 7;
-    Reader(&bytes).record()
+    pub fn load(bytes: [u8; RECORD]) -> Held {
+        Held { bytes, node: Reader(&bytes).record() }
+    }
+
+    fn write(node: Node) -> Held {
+        Held { bytes: record_bytes(&node), node }
+    }
 }
 
 pub enum Command<'a> {
@@ -45,7 +37,13 @@ pub enum Command<'a> {
     Send { room: u8 },
     Off,
     Restart,
-    Load(Node),
+    Load([u8; RECORD]),
+}
+
+impl Command<'_> {
+    pub fn load(record: &Node) -> Self {
+        Command::Load(record_bytes(record))
+    }
 }
 
 /// Commands in a row, as they are sent.
@@ -76,9 +74,9 @@ impl Script {
             Command::Send { room } => out.extend([b'T', room]),
             Command::Off => out.push(b'F'),
             Command::Restart => out.push(b'R'),
-            Command::Load(ref record) => {
+            Command::Load(bytes) => {
                 out.push(b'L');
-                push_record(out, record);
+                out.extend(bytes);
             }
         }
     }
@@ -89,116 +87,53 @@ impl Script {
     }
 }
 
-pub fn push_record(out: &mut Vec<u8>, record: &Node) {
-    let ListeningData { done, heard, shortest, return_seen, last } = record.listening;
-    for number in [record.n, record.k, record.own] {
-        out.extend(number.to_le_bytes());
+/// The next command of a script, which is whole; none at its end.
+pub fn next_command<'a>(script: &mut Reader<'a>) -> Option<Command<'a>> {
+    if script.0.is_empty() {
+        return None;
     }
-    out.extend(record.slots.to_le_bytes());
-    out.push(state_number(record.state));
-    for number in [record.set.0, record.marks.0, record.returning] {
-        out.extend(number.to_le_bytes());
-    }
-    out.push(u8::from(record.return_heard));
-    for number in [done, heard.0, shortest] {
-        out.extend(number.to_le_bytes());
-    }
-    out.push(u8::from(return_seen));
-    out.extend(last.0.to_le_bytes());
-}
-
-/// Takes a script or an answer apart; the bytes not yet taken.
-pub struct Reader<'a>(pub &'a [u8]);
-
-impl<'a> Reader<'a> {
-    fn take(&mut self, length: usize) -> &'a [u8] {
-        let (taken, rest) = self.0.split_at(length);
-        self.0 = rest;
-        taken
-    }
-
-    fn u8(&mut self) -> u8 {
-        self.take(1)[0]
-    }
-
-    fn u32(&mut self) -> u32 {
-        u32::from_le_bytes(self.take(4).try_into().expect("four bytes"))
-    }
-
-    fn u64(&mut self) -> u64 {
-        u64::from_le_bytes(self.take(8).try_into().expect("eight bytes"))
-    }
-
-    /// Fields are taken in the order in which they are written here.
-    pub fn record(&mut self) -> Node {
-        Node {
-            n: self.u32(),
-            k: self.u32(),
-            own: self.u32(),
-            slots: self.u64(),
-            state: state_of(self.u8()),
-            set: Set(self.u32()),
-            marks: Set(self.u32()),
-            returning: self.u32(),
-            return_heard: self.u8() == 1,
-            listening: ListeningData {
-                done: self.u32(),
-                heard: Set(self.u32()),
-                shortest: self.u32(),
-                return_seen: self.u8() == 1,
-                last: Set(self.u32()),
-            },
+    Some(match script.u8() {
+        b'U' => Command::SetUp { n: script.u32(), k: script.u32(), own: script.u32() },
+        b'S' => {
+            let length = script.u8();
+            Command::Slot(script.take(usize::from(length)))
         }
-    }
-
-    /// The next command of a script, which is whole.
-    pub fn command(&mut self) -> Option<Command<'a>> {
-        if self.0.is_empty() {
-            return None;
-        }
-        Some(match self.u8() {
-            b'U' => Command::SetUp { n: self.u32(), k: self.u32(), own: self.u32() },
-            b'S' => {
-                let length = self.u8();
-                Command::Slot(self.take(usize::from(length)))
-            }
-            b'T' => Command::Send { room: self.u8() },
-            b'F' => Command::Off,
-            b'R' => Command::Restart,
-            b'L' => Command::Load(self.record()),
-            other => panic!("{other:#04X} is no command"),
-        })
-    }
+        b'T' => Command::Send { room: script.u8() },
+        b'F' => Command::Off,
+        b'R' => Command::Restart,
+        b'L' => Command::Load(script.take(RECORD).try_into().expect("51 bytes")),
+        other => panic!("{other:#04X} is no command"),
+    })
 }
 
 /// Carries out a command by the model: the answer's bytes go into `out`, which is emptied first. Gives
 /// 0 or the refusal's number; none for a command that has no answer.
-pub fn run_by_model(record: &mut Node, command: &Command, out: &mut Vec<u8>) -> Option<u32> {
+pub fn run_by_model(held: &mut Held, command: &Command, out: &mut Vec<u8>) -> Option<u32> {
     out.clear();
     let next = match *command {
-        Command::Load(loaded) => {
-            *record = loaded;
+        Command::Load(bytes) => {
+            *held = Held::load(bytes);
             return None;
         }
         Command::Send { room } => {
             let mut buffer = [FILL; 255];
             let lent = &mut buffer[..usize::from(room)];
-            let answer = record.send(lent);
+            let answer = held.node.send(lent);
             let number = answer.err().unwrap_or(0);
             out.extend([number as u8, answer.unwrap_or(0) as u8]);
             out.extend_from_slice(lent);
             return Some(number);
         }
         Command::SetUp { n, k, own } => Node::set_up(n, k, own),
-        Command::Slot(heard) => record.slot(heard),
-        Command::Off => record.off(),
-        Command::Restart => record.restart(),
+        Command::Slot(heard) => held.node.slot(heard),
+        Command::Off => held.node.off(),
+        Command::Restart => held.node.restart(),
     };
     let number = next.err().unwrap_or(0);
     if let Ok(next) = next {
-        *record = next;
+        *held = Held::write(next);
     }
     out.push(number as u8);
-    push_record(out, record);
+    out.extend(held.bytes);
     Some(number)
 }

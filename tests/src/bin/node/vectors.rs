@@ -1,11 +1,12 @@
 //! Runs of single nodes with literal answers, typed from document 01; neither side makes an expected
 //! answer. The examples of whole cables are followed on each of their nodes.
 
-use super::compare::{compare, shown_record};
+use super::compare::compare;
 use super::protocol::{Command, Script};
 use comparison::messages::hex;
 use comparison::model::node::{Cause, ListeningData, Node, State};
 use comparison::model::ring::Set;
+use comparison::record_bytes::shown_record;
 use comparison::report::Count;
 
 type Nodes = &'static [u32];
@@ -419,7 +420,7 @@ fn follow(count: &mut Count, script: &mut Script, run: &Run) -> Result<(), Strin
     if let Some((from, is)) = run.from {
         slots = from;
         node = record(run.ring, slots, is);
-        script.push(&Command::Load(node));
+        script.push(&Command::load(&node));
     }
     for (i, step) in run.steps.iter().enumerate() {
         let what = format!("{}, step {}", run.what, i + 1);

@@ -1,5 +1,5 @@
 // Standard output, byte by byte, through a buffer. `held` is the number of bytes that wait in it.
-use node_bytes::block::Block;
+use crate::block::Block;
 
 fn write_part(buffer: &[u8], length: usize) {
     if length <= buffer.len() {

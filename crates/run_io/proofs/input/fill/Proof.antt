@@ -1,9 +1,9 @@
--- `node_runs::input::fill` is safe and ends. Each turn takes one byte more; the measure is the number of bytes that are left.
+-- `run_io::input::fill` is safe and ends. Each turn takes one byte more; the measure is the number of bytes that are left.
 -- Assumes nothing.
 use Prim.Native.Nat.{_-_}
 use borrow.Author.Needs.{needs}
-use Rattle.node_runs.proofs.input.fill.Statement.{statement}
-use Rattle.node_runs.proofs.input.fill.Tie as tie
+use Rattle.run_io.proofs.input.fill.Statement.{statement}
+use Rattle.run_io.proofs.input.fill.Tie as tie
 
 abbrev Inv-loop : tie.InvT-loop
 Inv-loop buffer₀ block₀ length left₀ i₀ buffer block left i = Unit {0}

@@ -1,9 +1,9 @@
--- `node_runs::output::put_block` is safe and ends. Each turn puts one byte more; the measure is the number of bytes that are left.
+-- `run_io::output::put_block` is safe and ends. Each turn puts one byte more; the measure is the number of bytes that are left.
 -- Assumes nothing.
 use Prim.Native.Nat.{_-_}
 use borrow.Author.Needs.{needs}
-use Rattle.node_runs.proofs.output.put_block.Statement.{statement}
-use Rattle.node_runs.proofs.output.put_block.Tie as tie
+use Rattle.run_io.proofs.output.put_block.Statement.{statement}
+use Rattle.run_io.proofs.output.put_block.Tie as tie
 
 abbrev Inv-loop : tie.InvT-loop
 Inv-loop buffer₀ held block length held₀ i₀ buffer held' i = Unit {0}

@@ -1,5 +1,5 @@
 // Standard input, byte by byte, through a buffer. Past the end of the input bytes are read as 0.
-use node_bytes::block::Block;
+use crate::block::Block;
 
 // The unread bytes of the buffer are those from `at` up to `end`.
 pub struct Unread {

@@ -1,0 +1,69 @@
+//! The bench: the library, behind the program `bench_runs`, beside the model.
+
+mod compare;
+mod protocol;
+mod refusals;
+mod runs;
+mod script;
+mod tables;
+mod vectors;
+
+use comparison::report::{self, Case};
+use std::process::ExitCode;
+
+fn main() -> ExitCode {
+    report::run(&[
+        Case {
+            name: "vectors: pairs of all six kinds by document 01, model and program",
+            meets: &[0],
+            run: vectors::pairs,
+        },
+        Case {
+            name: "set-up: any rows, every number of them, n and k in range and out of it",
+            meets: &[0, 1, 2, 4],
+            run: refusals::set_up,
+        },
+        Case {
+            name: "runs: every n and k, with losses, misses, offs, restarts, looks and refused calls",
+            meets: &[0, 2, 3, 4, 9, 11],
+            run: runs::every_n_and_k,
+        },
+        Case {
+            name: "runs: long ones of n from 3 to 9",
+            meets: &[0, 2, 3, 4, 9, 11],
+            run: runs::small_rings,
+        },
+        Case {
+            name: "runs: 6,000 calls in which the nodes go and come back all the time",
+            meets: &[0, 2, 3, 4, 9, 11],
+            run: runs::lasting,
+        },
+        Case { name: "tables: any sound records, every call", meets: &[0, 11], run: tables::sound },
+        Case {
+            name: "tables: a record not sound in one clause, for every clause",
+            meets: &[0, 4],
+            run: tables::unsound_record,
+        },
+        Case {
+            name: "tables: sound records that are no table: numbers, n, k, slot count, size",
+            meets: &[0, 4],
+            run: tables::no_tables,
+        },
+        Case {
+            name: "slot limit: tables at the limit and up to two slots below it",
+            meets: &[0, 5, 11],
+            run: tables::limit,
+        },
+        Case { name: "buffers: every length from 0 to 255, every call", meets: &[0, 9], run: tables::rooms },
+        Case {
+            name: "pairs: all nodes leave in one slot, for every n",
+            meets: &[0],
+            run: tables::most_pairs,
+        },
+        Case {
+            name: "order: every choice of causes at once",
+            meets: &[0, 3, 4, 5, 9, 11],
+            run: refusals::order,
+        },
+    ])
+}

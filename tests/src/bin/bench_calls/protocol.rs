@@ -1,0 +1,196 @@
+//! What the program `bench_runs` takes and gives: commands on 32 rows, the first of which are the table. All
+//! numbers are lowest byte first.
+
+use comparison::model::bench::{self, Fate};
+use comparison::model::node::Node;
+use comparison::model::ring::Set;
+use comparison::record_bytes::{record_bytes, Reader, RECORD};
+
+/// The rows that there are; a table of more is not to be had.
+pub const ROWS: usize = 32;
+
+/// Each byte of a lent buffer before the call.
+pub const FILL: u8 = 0xA5;
+
+/// The bytes of an answer before the buffer and the rows.
+pub const HEAD: usize = 27;
+
+#[derive(Clone, Copy)]
+pub enum Call {
+    SetUp { n: u32, k: u32 },
+    Off(u32),
+    Restart(u32),
+    Slot { lost: bool, missed: u32 },
+    Look { lost: bool },
+}
+
+#[derive(Clone, Copy)]
+pub enum Command {
+    Size(u8),
+    Load(u8, Node),
+    /// A call, and the length of the buffer that is lent to it.
+    Call(Call, u8),
+}
+
+impl Command {
+    pub fn push(&self, out: &mut Vec<u8>) {
+        match *self {
+            Command::Size(size) => out.extend([b'N', size]),
+            Command::Load(row, ref node) => {
+                out.extend([b'L', row]);
+                out.extend(record_bytes(node));
+            }
+            Command::Call(call, room) => call.push(out, room),
+        }
+    }
+}
+
+impl Call {
+    fn push(self, out: &mut Vec<u8>, room: u8) {
+        match self {
+            Call::SetUp { n, k } => {
+                out.extend([b'U', room]);
+                out.extend(n.to_le_bytes());
+                out.extend(k.to_le_bytes());
+            }
+            Call::Off(x) => {
+                out.extend([b'F', room]);
+                out.extend(x.to_le_bytes());
+            }
+            Call::Restart(x) => {
+                out.extend([b'R', room]);
+                out.extend(x.to_le_bytes());
+            }
+            Call::Slot { lost, missed } => {
+                out.extend([b'S', room, u8::from(lost)]);
+                out.extend(missed.to_le_bytes());
+            }
+            Call::Look { lost } => out.extend([b'Q', room, u8::from(lost)]),
+        }
+    }
+}
+
+/// What a call tells beside the table: of a slot its number, sender, message, list and distance.
+#[derive(Clone, Copy, PartialEq, Eq, Debug, Default)]
+pub struct Told {
+    pub number: u8,
+    pub slot: u64,
+    pub sender: u32,
+    /// 0 where no slot is told.
+    pub fate: u8,
+    pub list: Option<u32>,
+    pub distance: u32,
+    pub pairs: u32,
+}
+
+impl Told {
+    fn refused(number: u32) -> Told {
+        Told { number: number as u8, ..Told::default() }
+    }
+
+    fn push(&self, out: &mut Vec<u8>) {
+        out.push(self.number);
+        out.extend(self.slot.to_le_bytes());
+        out.extend(self.sender.to_le_bytes());
+        out.extend([self.fate, u8::from(self.list.is_some())]);
+        for number in [self.list.unwrap_or(0), self.distance, self.pairs] {
+            out.extend(number.to_le_bytes());
+        }
+    }
+
+    /// Takes the head of an answer apart.
+    pub fn of(answer: &[u8]) -> Told {
+        let mut bytes = Reader(answer);
+        let (number, slot, sender, fate) = (bytes.u8(), bytes.u64(), bytes.u32(), bytes.u8());
+        let (listed, set) = (bytes.u8() != 0, bytes.u32());
+        let list = listed.then_some(set);
+        Told { number, slot, sender, fate, list, distance: bytes.u32(), pairs: bytes.u32() }
+    }
+}
+
+fn fate_number(fate: Fate) -> u8 {
+    match fate {
+        Fate::Silent => 1,
+        Fate::Lost => 2,
+        Fate::Knock => 3,
+        Fate::Sent => 4,
+    }
+}
+
+/// The rows by the model.
+pub struct Held {
+    pub rows: Vec<Node>,
+    pub size: usize,
+}
+
+impl Held {
+    /// Before the first command: no table, and all bytes of each row 0 but the state, 7.
+    pub fn first() -> Held {
+        let mut bytes = [0; RECORD];
+        bytes[20] = 7;
+        Held { rows: vec![Reader(&bytes).record(); ROWS], size: 0 }
+    }
+
+    pub fn table(&self) -> &[Node] {
+        &self.rows[..self.size]
+    }
+
+    /// Carries a command out. The answer's bytes go into `out`, which is emptied first, the pairs by rising
+    /// node number; none for a command that has no answer.
+    pub fn run(&mut self, command: &Command, out: &mut Vec<u8>) -> Option<Told> {
+        out.clear();
+        match *command {
+            Command::Size(size) => self.size = usize::from(size).min(ROWS),
+            Command::Load(row, node) => self.rows[usize::from(row)] = node,
+            Command::Call(call, room) => {
+                let mut buffer = vec![FILL; usize::from(room)];
+                let told = self.call(call, &mut buffer).unwrap_or_else(Told::refused);
+                told.push(out);
+                out.extend(buffer);
+                self.rows.iter().for_each(|row| out.extend(record_bytes(row)));
+                return Some(told);
+            }
+        }
+        None
+    }
+
+    fn call(&mut self, call: Call, buffer: &mut [u8]) -> Result<Told, u32> {
+        let table = &mut self.rows[..self.size];
+        match call {
+            Call::SetUp { n, k } => table.copy_from_slice(&bench::set_up(n, k, self.size)?),
+            Call::Off(x) => bench::off(table, x)?,
+            Call::Restart(x) => bench::restart(table, x)?,
+            Call::Slot { lost, missed } => return slot(table, lost, missed, buffer),
+            Call::Look { lost } => return look(table, lost),
+        }
+        Ok(Told::default())
+    }
+}
+
+fn look(table: &[Node], lost: bool) -> Result<Told, u32> {
+    let look = bench::look(table, lost)?;
+    Ok(Told {
+        slot: look.slots,
+        sender: look.sender,
+        fate: fate_number(look.fate),
+        list: look.list.map(|set| set.0),
+        distance: look.distance,
+        ..Told::default()
+    })
+}
+
+fn slot(table: &mut [Node], lost: bool, missed: u32, buffer: &mut [u8]) -> Result<Told, u32> {
+    let slot = bench::slot(table, lost, Set(missed), buffer.len())?;
+    for (pair, &(node, kind)) in buffer.chunks_exact_mut(2).zip(&slot.changes) {
+        pair.copy_from_slice(&[node as u8, kind as u8]);
+    }
+    Ok(Told {
+        number: 0,
+        slot: table[0].slots,
+        sender: slot.sender,
+        fate: fate_number(slot.fate),
+        list: bench::list(table).map(|set| set.0),
+        distance: bench::greatest_distance(table),
+        pairs: slot.changes.len() as u32,
+    })
+}

@@ -1,0 +1,93 @@
+//! Set-up's arguments, and several causes of refusal at once.
+
+use super::compare::compare;
+use super::protocol::{Call, Command, ROWS};
+use super::script::{any_record, no_node, Script, ENOUGH, SHORT};
+use super::tables::sound_table;
+use comparison::model::node::{Node, State};
+use comparison::model::ring::LIMIT;
+use comparison::random::Random;
+use comparison::records::sound_of;
+use comparison::report::Count;
+
+/// Every number of rows, for every n and k that could be one and a few that could not.
+pub fn set_up(count: &mut Count) -> Result<(), String> {
+    let mut random = Random::new(96);
+    let mut script = Script::new();
+    for size in (0..=36).chain([255]) {
+        for row in 0..ROWS {
+            let node = any_record(&mut random);
+            script.push(Command::Load(row as u8, node));
+        }
+        script.push(Command::Size(size));
+        for n in (0..=34).chain([64, 256 + 4, 1 << 31, u32::MAX]) {
+            let near = n.wrapping_sub(1);
+            for k in [0, 1, 2, 3, near, n, 31, 32, 256 + 2, u32::MAX] {
+                let room = if random.bit() { 0 } else { ENOUGH[random.below(6) as usize] };
+                script.push(Command::Call(Call::SetUp { n, k }, room));
+            }
+        }
+    }
+    compare(count, &script.commands)
+}
+
+const CAUSES: [&str; 16] = [
+    "slot: no cause",
+    "slot: 9",
+    "slot: 5",
+    "slot: 5, 9",
+    "slot: 3",
+    "slot: 3, 9",
+    "slot: 3, 5",
+    "slot: 3, 5, 9",
+    "slot: 4",
+    "slot: 4, 9",
+    "slot: 4, 5",
+    "slot: 4, 5, 9",
+    "slot: 4, 3",
+    "slot: 4, 3, 9",
+    "slot: 4, 3, 5",
+    "slot: 4, 3, 5, 9",
+];
+
+/// A table for these causes, 4 and 5, in which node x is out or is not.
+fn table(random: &mut Random, (n, k, x): (u32, u32, u32), unsound: bool, at_limit: bool) -> Vec<Node> {
+    let slots = if at_limit { LIMIT } else { random.below(LIMIT) };
+    let mut table = sound_table(random, (n, k, slots));
+    if random.bit() {
+        table[x as usize - 1] = sound_of(random, State::Member, (n, k, x), slots);
+    }
+    if unsound {
+        table[random.below(u64::from(n)) as usize].listening.done = n;
+    }
+    table
+}
+
+/// Every choice of causes for a slot, and of those that the other calls share: 4, 3, and for restart 11.
+pub fn order(count: &mut Count) -> Result<(), String> {
+    let mut random = Random::new(97);
+    let mut script = Script::new();
+    for i in 0..16 * 150 {
+        let (unsound, outside, at_limit, short) = (i & 8 != 0, i & 4 != 0, i & 2 != 0, i & 1 != 0);
+        let n = random.within(3, 31) as u32;
+        let k = random.within(2, u64::from(n) - 1) as u32;
+        let x = random.within(1, u64::from(n)) as u32;
+        let table = table(&mut random, (n, k, x), unsound, at_limit);
+        count.event(CAUSES[i & 15]);
+        script.load(&mut random, &table);
+        let room = if short { SHORT[random.below(5) as usize] } else { ENOUGH[random.below(6) as usize] };
+        let missed = 1 << if outside { random.within(u64::from(n), 31) as u32 } else { x - 1 };
+        let x = if outside { no_node(&mut random, n) } else { x };
+        for call in [
+            Call::Look { lost: random.bit() },
+            Call::Restart(x),
+            Call::Slot { lost: random.bit(), missed },
+            Call::Off(x),
+            Call::Restart(x),
+        ] {
+            script.push(Command::Call(call, room));
+        }
+    }
+    count.needs(&CAUSES)?;
+    compare(count, &script.commands)
+}

@@ -1,0 +1,134 @@
+//! Runs from set-up on, with losses, misses, offs and restarts, and refused calls and looks in between.
+
+use super::compare::{compare, KINDS};
+use super::protocol::{Call, Command, ROWS};
+use super::script::{any_record, no_node, one_not_out, Script, SHORT};
+use comparison::adversary::Adversary;
+use comparison::lasting::Lasting;
+use comparison::model::bench;
+use comparison::model::node::Node;
+use comparison::random::Random;
+use comparison::report::Count;
+
+const TOLD: &[&str] = &[
+    "call: set-up",
+    "call: off",
+    "call: restart",
+    "call: slot",
+    "call: look",
+    "call: refused",
+    "told: silent",
+    "told: lost",
+    "told: knock",
+    "told: sent",
+    "told: a list",
+];
+
+fn call_of(call: bench::Call) -> Call {
+    match call {
+        bench::Call::Slot { lost, missed } => Call::Slot { lost, missed: missed.0 },
+        bench::Call::Off(x) => Call::Off(x),
+        bench::Call::Restart(x) => Call::Restart(x),
+    }
+}
+
+/// Sets a table of n rows up, whatever they hold.
+fn set_up(script: &mut Script, random: &mut Random, n: u32, k: u32) {
+    for row in 0..ROWS {
+        let node = any_record(random);
+        script.push(Command::Load(row as u8, node));
+    }
+    script.push(Command::Size(n as u8));
+    script.call(random, Call::SetUp { n, k });
+}
+
+/// A call that this table refuses, whatever buffer is lent; none if all nodes are out and one that is not was
+/// asked for.
+fn refused(random: &mut Random, table: &[Node]) -> Option<Call> {
+    let (n, k) = (table[0].n, table[0].k);
+    Some(match random.below(7) {
+        0 => Call::Off(no_node(random, n)),
+        1 => Call::Restart(no_node(random, n)),
+        2 | 3 => Call::Restart(one_not_out(random, table)?),
+        4 if n < 32 => Call::Slot { lost: random.bit(), missed: 1 << n },
+        5 => Call::SetUp { n, k: if k < n - 1 { n } else { 1 } },
+        _ => Call::SetUp { n: if n < 32 { n + 1 } else { n - 1 }, k: 2 },
+    })
+}
+
+/// What comes between two calls of a run: now and then both looks, a refused call, or a slot with a buffer that
+/// is too short.
+fn between(script: &mut Script, random: &mut Random) {
+    if random.below(3) == 0 {
+        let lost = random.bit();
+        script.call(random, Call::Look { lost });
+        script.call(random, Call::Look { lost: !lost });
+    }
+    if random.below(8) == 0 {
+        let call = refused(random, script.table());
+        call.into_iter().for_each(|call| script.call(random, call));
+    }
+    if random.below(16) == 0 {
+        let room = SHORT[random.below(5) as usize];
+        script.push(Command::Call(Call::Slot { lost: random.bit(), missed: 0 }, room));
+    }
+}
+
+/// A run of so many calls, but for those in between.
+fn run(script: &mut Script, adversary: &mut Adversary, n: u32, k: u32, calls: u32) {
+    set_up(script, &mut adversary.random, n, k);
+    adversary.calm_down(n);
+    for _ in 0..calls {
+        between(script, &mut adversary.random);
+        let call = call_of(adversary.next(script.table()));
+        script.call(&mut adversary.random, call);
+    }
+}
+
+fn compare_met(count: &mut Count, script: &Script) -> Result<(), String> {
+    compare(count, &script.commands)?;
+    count.needs(TOLD)?;
+    count.needs(&["told: sets that differ"])?;
+    count.needs(&KINDS)
+}
+
+pub fn every_n_and_k(count: &mut Count) -> Result<(), String> {
+    let mut adversary = Adversary::new(81);
+    let mut script = Script::new();
+    for n in 3..=32 {
+        for k in 2..n {
+            run(&mut script, &mut adversary, n, k, 10 * n);
+        }
+    }
+    compare_met(count, &script)
+}
+
+/// Runs of small rings: each is long enough to leave, return and leave again.
+pub fn small_rings(count: &mut Count) -> Result<(), String> {
+    let mut adversary = Adversary::new(82);
+    let mut script = Script::new();
+    for i in 0..600 {
+        let n = 3 + i % 7;
+        let k = adversary.random.within(2, u64::from(n) - 1) as u32;
+        run(&mut script, &mut adversary, n, k, 20 * n);
+    }
+    compare_met(count, &script)
+}
+
+/// Runs in which the nodes go and come back all the time.
+pub fn lasting(count: &mut Count) -> Result<(), String> {
+    let mut random = Random::new(83);
+    let mut script = Script::new();
+    for (n, k) in [(3, 2), (5, 2), (9, 4), (32, 3)] {
+        set_up(&mut script, &mut random, n, k);
+        let mut lasting = Lasting::new(u64::from(n));
+        for _ in 0..6_000 {
+            between(&mut script, &mut random);
+            let call = call_of(lasting.next(script.table()));
+            script.call(&mut random, call);
+        }
+    }
+    compare(count, &script.commands)?;
+    count.needs(TOLD)?;
+    count.needs(&KINDS[..5])
+}

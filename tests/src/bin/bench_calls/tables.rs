@@ -1,0 +1,214 @@
+//! Tables that are loaded as they stand: ones of any sound records, and ones that are no table.
+
+use super::compare::{compare, KINDS};
+use super::protocol::{Call, Command};
+use super::script::{Script, ENOUGH};
+use comparison::model::bench::check_table;
+use comparison::model::node::{Node, State, CLAUSES};
+use comparison::model::refusal;
+use comparison::model::ring::{Set, LIMIT};
+use comparison::random::Random;
+use comparison::record_bytes::shown_record;
+use comparison::records::{size, sound_of, Break, BREAKS, STATES};
+use comparison::report::Count;
+
+/// n, k and a slot count below the limit.
+fn ring(random: &mut Random) -> (u32, u32, u64) {
+    let n = size(random);
+    let k = random.within(2, u64::from(n) - 1) as u32;
+    let slots = if random.bit() { random.below(3 * u64::from(n)) } else { random.below(LIMIT - 5) };
+    (n, k, slots)
+}
+
+/// A table of sound records in any states; half of the tables have many members.
+pub fn sound_table(random: &mut Random, (n, k, slots): (u32, u32, u64)) -> Vec<Node> {
+    let members = random.bit();
+    let state = |random: &mut Random| match random.below(2) {
+        0 if members => State::Member,
+        _ => STATES[random.below(8) as usize],
+    };
+    (1..=n)
+        .map(|own| {
+            let state = state(random);
+            sound_of(random, state, (n, k, own), slots)
+        })
+        .collect()
+}
+
+/// Any sound table, every call.
+pub fn sound(count: &mut Count) -> Result<(), String> {
+    let mut random = Random::new(91);
+    let mut script = Script::new();
+    for _ in 0..4_000 {
+        let ring = ring(&mut random);
+        let table = sound_table(&mut random, ring);
+        count.check(check_table(&table).is_ok(), || "the table is not as it must be".to_string())?;
+        script.load(&mut random, &table);
+        script.every_call(&mut random, ring.0, ring.1);
+    }
+    compare(count, &script.commands)?;
+    count.needs(&KINDS)?;
+    count.needs(&["told: no list", "told: a list", "told: sets that differ"])
+}
+
+/// Loads what is no table, and makes every call; then set-up, which takes it.
+fn no_table(
+    count: &mut Count,
+    random: &mut Random,
+    script: &mut Script,
+    rows: &[Node],
+) -> Result<(), String> {
+    count.check(check_table(rows) == Err(refusal::UNSOUND), || {
+        format!("this is a table: {}", rows.iter().map(shown_record).collect::<Vec<_>>().join("\n        "))
+    })?;
+    script.load(random, rows);
+    script.every_call(random, (rows.len() as u32).clamp(3, 32), 2);
+    Ok(())
+}
+
+/// A table with one record that is broken; none if the record does not allow it.
+fn broken_table(random: &mut Random, case: &Break, state: State) -> Option<Vec<Node>> {
+    let (n, k, slots) = ring(random);
+    let mut table = sound_table(random, (n, k, slots));
+    let own = random.within(1, u64::from(n)) as u32;
+    let mut node = sound_of(random, state, (n, k, own), slots);
+    (case.make)(random, &mut node)?;
+    table[own as usize - 1] = node;
+    Some(table)
+}
+
+/// One record is not sound, in each clause and each state.
+pub fn unsound_record(count: &mut Count) -> Result<(), String> {
+    let mut random = Random::new(92);
+    let mut script = Script::new();
+    for case in BREAKS {
+        for &state in case.states {
+            for table in (0..6).filter_map(|_| broken_table(&mut random, case, state)).collect::<Vec<_>>() {
+                case.breaks.iter().for_each(|says| count.event(says));
+                no_table(count, &mut random, &mut script, &table)?;
+            }
+        }
+    }
+    count.needs(&CLAUSES.iter().map(|clause| clause.says).collect::<Vec<_>>())?;
+    compare(count, &script.commands)
+}
+
+const WAYS: &[&str] = &[
+    "no table: other n",
+    "no table: other k",
+    "no table: other slot count",
+    "no table: two records swapped",
+    "no table: one record twice",
+    "no table: last record missing",
+    "no table: first record missing",
+    "no table: one record more",
+    "no table: all records of another n",
+    "no table: no record",
+];
+
+/// Rows that are sound by themselves and no table, in one way; none if this ring does not allow it.
+fn rows_in_way(random: &mut Random, way: usize) -> Option<Vec<Node>> {
+    let (n, k, slots) = ring(random);
+    let mut rows = sound_table(random, (n, k, slots));
+    let (i, j) = (random.below(u64::from(n)) as usize, random.below(u64::from(n)) as usize);
+    let own = i as u32 + 1;
+    let state = rows[i].state;
+    match way {
+        0 if own < n && k < n - 1 => rows[i] = sound_of(random, state, (n - 1, k, own), slots),
+        0 if n < 32 => rows[i] = sound_of(random, state, (n + 1, k, own), slots),
+        1 if n > 3 => rows[i] = sound_of(random, state, (n, if k > 2 { k - 1 } else { 3 }, own), slots),
+        2 => rows[i] = sound_of(random, state, (n, k, own), slots + 1),
+        3 if i != j => rows.swap(i, j),
+        4 if i != j => rows[i] = rows[j],
+        5 => drop(rows.pop()),
+        6 => drop(rows.remove(0)),
+        7 if n < 32 => rows.push(rows[n as usize - 1]),
+        8 if n < 32 => rows = sound_table(random, (n + 1, k, slots)).split_off(1),
+        9 => rows.clear(),
+        _ => return None,
+    }
+    Some(rows)
+}
+
+/// Every record is sound, and together they are no table.
+pub fn no_tables(count: &mut Count) -> Result<(), String> {
+    let mut random = Random::new(93);
+    let mut script = Script::new();
+    for (way, name) in WAYS.iter().enumerate() {
+        for _ in 0..250 {
+            if let Some(rows) = rows_in_way(&mut random, way) {
+                count.event(name);
+                no_table(count, &mut random, &mut script, &rows)?;
+            }
+        }
+    }
+    count.needs(WAYS)?;
+    compare(count, &script.commands)
+}
+
+/// Tables at the limit and up to two slots below it: slots up to it, then 5; no other call asks for it.
+pub fn limit(count: &mut Count) -> Result<(), String> {
+    let mut random = Random::new(94);
+    let mut script = Script::new();
+    for i in 0..1_500 {
+        let (n, k, _) = ring(&mut random);
+        let table = sound_table(&mut random, (n, k, LIMIT - i % 3));
+        script.load(&mut random, &table);
+        let x = random.within(1, u64::from(n)) as u32;
+        for call in [
+            Call::Look { lost: random.bit() },
+            Call::Slot { lost: random.bit(), missed: 0 },
+            Call::Look { lost: random.bit() },
+            Call::Slot { lost: false, missed: 1 << (x - 1) },
+            Call::Off(x),
+            Call::Slot { lost: false, missed: 0 },
+            Call::Restart(x),
+            Call::Restart(x),
+        ] {
+            script.call(&mut random, call);
+        }
+    }
+    compare(count, &script.commands)
+}
+
+/// Every length of the buffer, for every call.
+pub fn rooms(count: &mut Count) -> Result<(), String> {
+    let mut random = Random::new(95);
+    let mut script = Script::new();
+    for room in (0..=255).flat_map(|room| [room; 4]) {
+        let (n, k, slots) = ring(&mut random);
+        let table = sound_table(&mut random, (n, k, slots));
+        script.load(&mut random, &table);
+        for call in [
+            Call::Slot { lost: false, missed: 0 },
+            Call::Look { lost: false },
+            Call::Off(n),
+            Call::Restart(n),
+            Call::SetUp { n, k },
+        ] {
+            script.push(Command::Call(call, room));
+        }
+    }
+    compare(count, &script.commands)
+}
+
+/// A table of members none of whom has marked another: all leave in the next slot if it is lost.
+fn all_leave(n: u32) -> Vec<Node> {
+    let member = |own| Node { marks: Set::EMPTY.with(own), ..Node::set_up(n, 2, own).expect("in range") };
+    (1..=n).map(member).collect()
+}
+
+/// As many pairs as there can be: those of 32 nodes fill a buffer of 64 bytes.
+pub fn most_pairs(count: &mut Count) -> Result<(), String> {
+    let mut random = Random::new(98);
+    let mut script = Script::new();
+    for n in 3..=32 {
+        for room in ENOUGH {
+            script.load(&mut random, &all_leave(n));
+            script.push(Command::Call(Call::Slot { lost: true, missed: 0 }, room));
+            let all_out = script.table().iter().all(|node| matches!(node.state, State::Out(_)));
+            count.check(all_out, || format!("not all of {n} nodes leave by the model"))?;
+        }
+    }
+    compare(count, &script.commands)
+}

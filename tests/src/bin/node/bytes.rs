@@ -1,0 +1,79 @@
+//! Records of bytes that no call writes: a state past 7, a yes or no that is neither. A refused call leaves
+//! every byte as it was.
+
+use super::compare::compare;
+use super::protocol::{Command, Held, Script};
+use comparison::model::node::{Cause, Node, State};
+use comparison::model::ring::LIMIT;
+use comparison::random::Random;
+use comparison::record_bytes::{record_bytes, RECORD};
+use comparison::records::{sound, STATES};
+use comparison::report::Count;
+
+/// The places of the state and of the two yes or no in a record's bytes.
+const STATE: usize = 20;
+const RETURN_HEARD: usize = 33;
+const RETURN_SEEN: usize = 46;
+
+const CALLS: &[&str] =
+    &["refused: slot", "refused: sending", "refused: off", "refused: restart", "refused: set-up"];
+
+/// Other bytes of the same record.
+fn rewritten(random: &mut Random, node: &Node) -> [u8; RECORD] {
+    let mut bytes = record_bytes(node);
+    if node.state == State::Out(Cause::SwitchedOff) {
+        bytes[STATE] = random.within(8, 255) as u8;
+    }
+    for place in [RETURN_HEARD, RETURN_SEEN] {
+        if bytes[place] == 0 {
+            bytes[place] = random.within(2, 255) as u8;
+        }
+    }
+    bytes
+}
+
+/// Loads the bytes and makes each call that is refused. What sending leaves is seen in the next answer.
+fn refused_calls(count: &mut Count, script: &mut Script, bytes: [u8; RECORD]) {
+    let node = Held::load(bytes).node;
+    let calls = [
+        (CALLS[0], Command::Slot(&[2, 3, 1, 0]), node.slot(&[2, 3, 1, 0]).is_err()),
+        (CALLS[1], Command::Send { room: 0 }, true),
+        (CALLS[2], Command::Off, node.off().is_err()),
+        (CALLS[3], Command::Restart, node.restart().is_err()),
+        (CALLS[1], Command::Send { room: 0 }, true),
+        (CALLS[4], Command::SetUp { n: 33, k: 2, own: 1 }, true),
+        (CALLS[4], Command::SetUp { n: 4, k: 4, own: 1 }, true),
+        (CALLS[4], Command::SetUp { n: 4, k: 2, own: 5 }, true),
+    ];
+    script.push(&Command::Load(bytes));
+    for (name, call, refused) in calls {
+        if refused {
+            count.event(name);
+            script.push(&call);
+        }
+    }
+}
+
+/// Sound records below the limit and at it, and ones that are not sound; after the refused calls one that
+/// may be done, which writes the record anew.
+pub fn left_by_refusals(count: &mut Count) -> Result<(), String> {
+    let mut random = Random::new(24);
+    let mut script = Script::default();
+    let mut few = [0; RECORD];
+    (few[STATE], few[RETURN_HEARD], few[RETURN_SEEN]) = (9, 5, 2);
+    refused_calls(count, &mut script, few);
+    for state in STATES {
+        for i in 0..3 * 500 {
+            let mut node = sound(&mut random, state);
+            match i % 3 {
+                0 => node.slots = LIMIT,
+                1 => node.listening.done = node.n,
+                _ => {}
+            }
+            refused_calls(count, &mut script, rewritten(&mut random, &node));
+            script.push(&[Command::Slot(&[]), Command::Off, Command::Restart][random.below(3) as usize]);
+        }
+    }
+    count.needs(CALLS)?;
+    compare(count, &script)
+}

@@ -1,0 +1,121 @@
+//! A record as the programs under test take and give it: 51 bytes, all numbers lowest byte first.
+
+use crate::model::node::{Cause, ListeningData, Node, State};
+use crate::model::ring::Set;
+
+/// The bytes of a record.
+pub const RECORD: usize = 51;
+
+const CAUSES: [Cause; 4] = [Cause::Unconfirmed, Cause::NothingHeard, Cause::MissedReturn, Cause::SwitchedOff];
+
+fn state_number(state: State) -> u8 {
+    match state {
+        State::Member => 0,
+        State::Listening => 1,
+        State::Following => 2,
+        State::Knocking => 3,
+        State::Out(cause) => 3 + cause as u8,
+    }
+}
+
+/// Every number past 7 is read as 7.
+fn state_of(number: u8) -> State {
+    match number {
+        0 => State::Member,
+        1 => State::Listening,
+        2 => State::Following,
+        3 => State::Knocking,
+        4..=7 => State::Out(CAUSES[usize::from(number) - 4]),
+        _ => State::Out(Cause::SwitchedOff),
+    }
+}
+
+pub fn record_bytes(record: &Node) -> [u8; RECORD] {
+    let mut out = Vec::with_capacity(RECORD);
+    let ListeningData { done, heard, shortest, return_seen, last } = record.listening;
+    for number in [record.n, record.k, record.own] {
+        out.extend(number.to_le_bytes());
+    }
+    out.extend(record.slots.to_le_bytes());
+    out.push(state_number(record.state));
+    for number in [record.set.0, record.marks.0, record.returning] {
+        out.extend(number.to_le_bytes());
+    }
+    out.push(u8::from(record.return_heard));
+    for number in [done, heard.0, shortest] {
+        out.extend(number.to_le_bytes());
+    }
+    out.push(u8::from(return_seen));
+    out.extend(last.0.to_le_bytes());
+    out.try_into().expect("51 bytes")
+}
+
+/// Takes bytes apart; those not yet taken.
+pub struct Reader<'a>(pub &'a [u8]);
+
+impl<'a> Reader<'a> {
+    pub fn take(&mut self, length: usize) -> &'a [u8] {
+        let (taken, rest) = self.0.split_at(length);
+        self.0 = rest;
+        taken
+    }
+
+    pub fn u8(&mut self) -> u8 {
+        self.take(1)[0]
+    }
+
+    pub fn u32(&mut self) -> u32 {
+        u32::from_le_bytes(self.take(4).try_into().expect("four bytes"))
+    }
+
+    pub fn u64(&mut self) -> u64 {
+        u64::from_le_bytes(self.take(8).try_into().expect("eight bytes"))
+    }
+
+    /// Fields are taken in the order in which they are written here.
+    pub fn record(&mut self) -> Node {
+        Node {
+            n: self.u32(),
+            k: self.u32(),
+            own: self.u32(),
+            slots: self.u64(),
+            state: state_of(self.u8()),
+            set: Set(self.u32()),
+            marks: Set(self.u32()),
+            returning: self.u32(),
+            return_heard: self.u8() == 1,
+            listening: ListeningData {
+                done: self.u32(),
+                heard: Set(self.u32()),
+                shortest: self.u32(),
+                return_seen: self.u8() == 1,
+                last: Set(self.u32()),
+            },
+        }
+    }
+}
+
+fn shown_set(set: Set) -> String {
+    format!("{:?}", set.nodes().collect::<Vec<u32>>())
+}
+
+pub fn shown_record(record: &Node) -> String {
+    let data = &record.listening;
+    format!(
+        "n {} k {} own {} slots {} {:?} set {} marks {} returning {} return heard {}; done {} heard {} shortest {} return seen {} last {}",
+        record.n,
+        record.k,
+        record.own,
+        record.slots,
+        record.state,
+        shown_set(record.set),
+        shown_set(record.marks),
+        record.returning,
+        record.return_heard,
+        data.done,
+        shown_set(data.heard),
+        data.shortest,
+        data.return_seen,
+        shown_set(data.last),
+    )
+}

@@ -1,0 +1,344 @@
+//! Records as they may be loaded: sound ones that no run need reach, and ones that are not sound in one
+//! clause.
+
+use crate::model::node::{Cause, ListeningData, Node, State, CLAUSES};
+use crate::model::ring::{Set, LIMIT};
+use crate::random::Random;
+
+pub const STATES: [State; 8] = [
+    State::Member,
+    State::Listening,
+    State::Following,
+    State::Knocking,
+    State::Out(Cause::Unconfirmed),
+    State::Out(Cause::NothingHeard),
+    State::Out(Cause::MissedReturn),
+    State::Out(Cause::SwitchedOff),
+];
+
+/// Some of the nodes: all, none, most, few or any.
+fn some(random: &mut Random, of: Set) -> Set {
+    let (a, b) = (random.number() as u32, random.number() as u32);
+    Set(match random.below(6) {
+        0 => of.0,
+        1 => 0,
+        2 => of.0 & (a | b),
+        3 => of.0 & a & b,
+        _ => of.0 & a,
+    })
+}
+
+/// Some of the nodes, but two or more; there are two.
+fn two_or_more(random: &mut Random, of: Set) -> Set {
+    let mut set = some(random, of);
+    while set.count() < 2 {
+        set = set.with(one(random, of));
+    }
+    set
+}
+
+/// One of the nodes, of which there is one.
+fn one(random: &mut Random, of: Set) -> u32 {
+    of.nodes().nth(random.below(u64::from(of.count())) as usize).expect("a place below the count")
+}
+
+/// 0 or one of the nodes.
+fn one_or_0(random: &mut Random, of: Set) -> u32 {
+    if of == Set::EMPTY || random.bit() {
+        0
+    } else {
+        one(random, of)
+    }
+}
+
+/// n, often near an end of its range.
+pub fn size(random: &mut Random) -> u32 {
+    match random.below(4) {
+        0 => random.within(3, 6) as u32,
+        1 => random.within(30, 32) as u32,
+        _ => random.within(3, 32) as u32,
+    }
+}
+
+/// A slot count below the limit: the own slot is next in one of four, the limit is near in some.
+fn slots(random: &mut Random, n: u32, own: u32) -> u64 {
+    let base = match random.below(4) {
+        0 => LIMIT - random.within(u64::from(n), 3 * u64::from(n)),
+        1 => random.below(LIMIT - u64::from(n)),
+        _ => random.below(200),
+    };
+    if random.below(4) == 0 {
+        base - base % u64::from(n) + u64::from(own) - 1
+    } else {
+        base
+    }
+}
+
+fn listening_data(random: &mut Random, n: u32, k: u32, own: u32) -> ListeningData {
+    let others = Set::full(n).without(own);
+    let heard = some(random, others);
+    let shortest = match random.below(3) {
+        _ if heard == Set::EMPTY => k,
+        // Around what a clean window asks.
+        0 => k.min((heard.count() + 1).saturating_sub(random.below(4) as u32)),
+        1 => k,
+        _ => random.below(u64::from(k) + 1) as u32,
+    };
+    let last = match random.below(4) {
+        0 => Set::EMPTY,
+        1 => two_or_more(random, others),
+        _ if heard.count() >= 2 => heard,
+        _ => two_or_more(random, others),
+    };
+    // The window's last slot in one of two.
+    let done = if random.bit() { n - 1 } else { random.below(u64::from(n)) as u32 };
+    ListeningData { done, heard, shortest, return_seen: random.below(4) == 0, last }
+}
+
+/// A sound record in this state, its slot count below the limit.
+pub fn sound(random: &mut Random, state: State) -> Node {
+    let n = size(random);
+    let k = random.within(2, u64::from(n) - 1) as u32;
+    let own = random.within(1, u64::from(n)) as u32;
+    let slots = slots(random, n, own);
+    sound_of(random, state, (n, k, own), slots)
+}
+
+/// A sound record of this node, with this slot count.
+pub fn sound_of(random: &mut Random, state: State, (n, k, own): (u32, u32, u32), slots: u64) -> Node {
+    let others = Set::full(n).without(own);
+    let set = match state {
+        State::Member => some(random, others).with(own),
+        State::Following | State::Knocking => two_or_more(random, others),
+        State::Listening | State::Out(_) => Set::EMPTY,
+    };
+    let outside = Set(others.0 & !set.0);
+    Node {
+        n,
+        k,
+        own,
+        slots,
+        state,
+        set,
+        marks: some(random, set),
+        returning: match state {
+            State::Member | State::Following => one_or_0(random, outside),
+            State::Knocking => own,
+            State::Listening | State::Out(_) => 0,
+        },
+        return_heard: state == State::Knocking && random.bit(),
+        listening: if state == State::Listening {
+            listening_data(random, n, k, own)
+        } else {
+            ListeningData::default()
+        },
+    }
+}
+
+/// Breaks soundness in one way; none if this record does not allow it.
+pub struct Break {
+    /// The clauses that are broken: one, where the sentence lets one be broken alone.
+    pub breaks: &'static [&'static str],
+    pub states: &'static [State],
+    pub make: fn(&mut Random, &mut Node) -> Option<()>,
+}
+
+const ANY: &[State] = &STATES;
+const MEMBER: &[State] = &[State::Member];
+const LISTENING: &[State] = &[State::Listening];
+const FOLLOWING: &[State] = &[State::Following];
+const KNOCKING: &[State] = &[State::Knocking];
+const RETURNING: &[State] = &[State::Following, State::Knocking];
+const KNOWING: &[State] = &[State::Member, State::Following, State::Knocking];
+const OUT: &[State] = STATES.split_at(4).1;
+const LISTENING_OR_OUT: &[State] = &[
+    State::Listening,
+    State::Out(Cause::Unconfirmed),
+    State::Out(Cause::NothingHeard),
+    State::Out(Cause::MissedReturn),
+    State::Out(Cause::SwitchedOff),
+];
+
+/// A number past `limit`: just past it, far past it, or such that its low byte is in range.
+fn past(random: &mut Random, limit: u32) -> u32 {
+    match random.below(4) {
+        0 => limit + 1,
+        1 => u32::MAX,
+        2 => 256 + random.below(u64::from(limit) + 1) as u32,
+        _ => limit + random.within(1, 40) as u32,
+    }
+}
+
+/// A node past n that a set can hold.
+fn node_past(random: &mut Random, n: u32) -> Option<u32> {
+    (n < 32).then(|| random.within(u64::from(n) + 1, 32) as u32)
+}
+
+fn others(node: &Node) -> Set {
+    Set::full(node.n).without(node.own)
+}
+
+fn unheld(node: &Node) -> Option<Set> {
+    let rest = Set(others(node).0 & !node.set.0);
+    (rest != Set::EMPTY).then_some(rest)
+}
+
+#[rustfmt::skip]
+pub const BREAKS: &[Break] = &[
+    Break { breaks: &["n in range"], states: ANY, make: |random, r| { r.n = past(random, 32); Some(()) } },
+    Break { breaks: &["n in range", "k in range"], states: OUT, make: |_, r| { r.own = 1; r.n = 2; Some(()) } },
+    Break { breaks: &["k in range"], states: ANY, make: |random, r| {
+        let low = random.below(2) as u32;
+        // A listening node's runs reach to k only.
+        r.k = if random.bit() && r.state != State::Listening { low } else { past(random, r.n - 1) };
+        if r.listening.heard == Set::EMPTY && r.state == State::Listening { r.listening.shortest = r.k; }
+        Some(())
+    } },
+    Break { breaks: &["k in range"], states: ANY, make: |_, r| {
+        r.k = r.n;
+        if r.listening.heard == Set::EMPTY && r.state == State::Listening { r.listening.shortest = r.k; }
+        Some(())
+    } },
+    Break { breaks: &["own number in range"], states: LISTENING_OR_OUT, make: |random, r| { r.own = past(random, r.n); Some(()) } },
+    Break { breaks: &["own number in range"], states: FOLLOWING, make: |random, r| { r.own = past(random, r.n); Some(()) } },
+    Break { breaks: &["own number in range"], states: FOLLOWING, make: |random, r| {
+        r.returning = one(random, unheld(r)?);
+        r.own = 0;
+        Some(())
+    } },
+    Break { breaks: &["own number in range", "returning is the own number exactly when knocking"], states: OUT, make: |_, r| { r.own = 0; Some(()) } },
+    Break { breaks: &["slot count at most the limit"], states: ANY, make: |random, r| {
+        r.slots = if random.bit() { LIMIT + 1 + random.below(40) } else { u64::MAX - random.below(3) };
+        Some(())
+    } },
+    Break { breaks: &["set holds only 1 to n"], states: KNOWING, make: |random, r| { r.set = r.set.with(node_past(random, r.n)?); Some(()) } },
+    Break { breaks: &["marks hold only 1 to n", "each marked node is in the set"], states: KNOWING, make: |random, r| {
+        r.marks = r.marks.with(node_past(random, r.n)?);
+        Some(())
+    } },
+    Break { breaks: &["set holds only 1 to n", "marks hold only 1 to n"], states: KNOWING, make: |random, r| {
+        let x = node_past(random, r.n)?;
+        r.set = r.set.with(x);
+        r.marks = r.marks.with(x);
+        Some(())
+    } },
+    Break { breaks: &["each marked node is in the set"], states: KNOWING, make: |random, r| { r.marks = r.marks.with(one(random, unheld(r)?)); Some(()) } },
+    Break { breaks: &["each marked node is in the set"], states: RETURNING, make: |_, r| { r.marks = r.marks.with(r.own); Some(()) } },
+    Break { breaks: &["returning is 0 or a node"], states: &[State::Member, State::Following], make: |random, r| { r.returning = past(random, r.n); Some(()) } },
+    Break { breaks: &["returning is outside the set"], states: &[State::Member, State::Following], make: |random, r| {
+        let rest = r.set.without(r.own);
+        if rest == Set::EMPTY { return None; }
+        r.returning = one(random, rest);
+        Some(())
+    } },
+    Break { breaks: &["own number in a member's set and otherwise not"], states: MEMBER, make: |_, r| {
+        r.set = r.set.without(r.own);
+        r.marks = r.marks.without(r.own);
+        Some(())
+    } },
+    Break { breaks: &["own number in a member's set and otherwise not"], states: FOLLOWING, make: |random, r| {
+        r.set = r.set.with(r.own);
+        if random.bit() { r.marks = r.marks.with(r.own); }
+        Some(())
+    } },
+    Break { breaks: &["returning is the own number exactly when knocking"], states: FOLLOWING, make: |_, r| { r.returning = r.own; Some(()) } },
+    Break { breaks: &["returning is the own number exactly when knocking"], states: KNOCKING, make: |random, r| {
+        r.returning = one_or_0(random, unheld(r).unwrap_or_default());
+        Some(())
+    } },
+    Break { breaks: &["set empty when listening or out"], states: LISTENING_OR_OUT, make: |random, r| { r.set = two_or_more(random, others(r)); Some(()) } },
+    Break { breaks: &["set empty when listening or out"], states: LISTENING_OR_OUT, make: |random, r| { r.set = Set::EMPTY.with(one(random, others(r))); Some(()) } },
+    Break { breaks: &["each marked node is in the set", "marks empty when listening or out"], states: LISTENING_OR_OUT, make: |random, r| {
+        r.marks = Set::EMPTY.with(one(random, others(r)));
+        Some(())
+    } },
+    Break { breaks: &["returning 0 when listening or out"], states: LISTENING_OR_OUT, make: |random, r| { r.returning = one(random, others(r)); Some(()) } },
+    Break { breaks: &["returning is the own number exactly when knocking", "returning 0 when listening or out"], states: LISTENING_OR_OUT, make: |_, r| {
+        r.returning = r.own;
+        Some(())
+    } },
+    Break { breaks: &["return heard no except when knocking"], states: &[State::Member, State::Following], make: |_, r| { r.return_heard = true; Some(()) } },
+    Break { breaks: &["return heard no except when knocking"], states: LISTENING_OR_OUT, make: |_, r| { r.return_heard = true; Some(()) } },
+    Break { breaks: &["slots done 0 to n - 1"], states: LISTENING, make: |random, r| { r.listening.done = past(random, r.n - 1); Some(()) } },
+    Break { breaks: &["slots done 0 to n - 1"], states: LISTENING, make: |_, r| { r.listening.done = r.n; Some(()) } },
+    Break { breaks: &["nodes heard are nodes"], states: LISTENING, make: |random, r| { r.listening.heard = r.listening.heard.with(node_past(random, r.n)?); Some(()) } },
+    Break { breaks: &["nodes heard without own number"], states: LISTENING, make: |_, r| { r.listening.heard = r.listening.heard.with(r.own); Some(()) } },
+    Break { breaks: &["shortest run 0 to k"], states: LISTENING, make: |random, r| {
+        if r.listening.heard == Set::EMPTY { return None; }
+        r.listening.shortest = past(random, r.k);
+        Some(())
+    } },
+    Break { breaks: &["shortest run k while nothing is heard"], states: LISTENING, make: |random, r| {
+        r.listening.heard = Set::EMPTY;
+        r.listening.shortest = random.below(u64::from(r.k)) as u32;
+        Some(())
+    } },
+    Break { breaks: &["last clean window's nodes are nodes"], states: LISTENING, make: |random, r| {
+        r.listening.last = two_or_more(random, others(r)).with(node_past(random, r.n)?);
+        Some(())
+    } },
+    Break { breaks: &["last clean window without own number"], states: LISTENING, make: |random, r| {
+        r.listening.last = two_or_more(random, others(r)).with(r.own);
+        Some(())
+    } },
+    Break { breaks: &["last clean window none, or two or more"], states: LISTENING, make: |random, r| {
+        r.listening.last = Set::EMPTY.with(one(random, others(r)));
+        Some(())
+    } },
+    Break { breaks: &["listening data zero or no in every other state"], states: KNOWING, make: not_listening },
+    Break { breaks: &["listening data zero or no in every other state"], states: OUT, make: not_listening },
+    Break { breaks: &["following and knocking need two members"], states: RETURNING, make: |random, r| {
+        let x = one(random, r.set);
+        r.set = Set::EMPTY.with(x);
+        r.marks = some(random, r.set);
+        Some(())
+    } },
+    Break { breaks: &["following and knocking need two members"], states: RETURNING, make: |_, r| {
+        r.set = Set::EMPTY;
+        r.marks = Set::EMPTY;
+        Some(())
+    } },
+];
+
+/// One of the listening data is neither zero nor no.
+fn not_listening(random: &mut Random, r: &mut Node) -> Option<()> {
+    let data = &mut r.listening;
+    match random.below(5) {
+        0 => data.done = random.within(1, u64::from(r.n) - 1) as u32,
+        1 => data.heard = two_or_more(random, Set::full(r.n).without(r.own)),
+        2 => data.shortest = random.within(1, u64::from(r.k)) as u32,
+        3 => data.return_seen = true,
+        _ => data.last = two_or_more(random, Set::full(r.n).without(r.own)),
+    }
+    Some(())
+}
+
+/// The clauses that a record does not keep.
+pub fn broken(node: &Node) -> Vec<&'static str> {
+    CLAUSES.iter().filter(|clause| !(clause.kept)(node)).map(|clause| clause.says).collect()
+}
+
+/// Gives one field another value.
+pub fn disturb(random: &mut Random, node: &mut Node) {
+    let number = match random.below(4) {
+        0 => random.number() as u32,
+        1 => 1 << random.below(32),
+        _ => random.below(34) as u32,
+    };
+    match random.below(14) {
+        0 => node.n = number,
+        1 => node.k = number,
+        2 => node.own = number,
+        3 => node.slots = random.number() >> random.below(64),
+        4 => node.state = STATES[random.below(8) as usize],
+        5 => node.set.0 ^= number,
+        6 => node.marks.0 ^= number,
+        7 => node.returning = number,
+        8 => node.return_heard ^= true,
+        9 => node.listening.done = number,
+        10 => node.listening.heard.0 ^= number,
+        11 => node.listening.shortest = number,
+        12 => node.listening.return_seen ^= true,
+        _ => node.listening.last.0 ^= number,
+    }
+}
