@@ -7,7 +7,7 @@ use mathlib.Core.List.{[], _∷_}
 use lib.Dec.{eqb, leb, ltb}
 use lib.ListN.{length}
 use Rattle.refusal.specs.declared.Refusal.{Refusal}
-use Rattle.refusal.specs.declared.Refusal.the-variants.{RingSize, SponsorCount, NodeNumber, Unsound, SlotLimit, MessageLength, OutputShort, NotOut}
+use Rattle.refusal.specs.Causes.{cause}
 use Rattle.nodeset.specs.Sets.{has, within, distance}
 use Rattle.ring.specs.Ring.{ringSize, sponsorCount, nodeNumber}
 use Rattle.message.specs.declared.Reading.{Reading}
@@ -46,9 +46,9 @@ startTable n k t = each (λ i v. starting n k i) t
 
 unfoldable pub setUpOf : ℕ → ℕ → Table → Called
 setUpOf n k t =
-    ifPassed (ringSize n) RingSize t
-    (ifPassed (sponsorCount n k) SponsorCount t
-    (ifPassed (eqb (length t) n) Unsound t
+    ifPassed (ringSize n) (cause 1) t
+    (ifPassed (sponsorCount n k) (cause 2) t
+    (ifPassed (eqb (length t) n) (cause 4) t
     (done (startTable n k t))))
 
 -- ---- slot: 4, 3, 5 and 9
@@ -59,7 +59,7 @@ transmits t = sends (recordOf t (speaker t))
 
 -- What is read where nothing is heard.
 abbrev pub unheard : Reading
-unheard = reading.Refused MessageLength
+unheard = reading.Refused (cause 6)
 
 -- What is read of the next slot's message by those that hear it. (The bytes that the node call `send` writes are read as just this: node's proofs/Sent.)
 unfoldable pub spoken : Table → Reading
@@ -78,10 +78,10 @@ afterSlot lost missed t = each (λ i v. node.stepOf (heardBy lost missed t i) v 
 -- "A lent buffer of at least 64 bytes".
 unfoldable pub slotOf : Bool → ℕ → ℕ → Table → Called
 slotOf lost missed room t =
-    ifPassed (tableSound t) Unsound t
-    (ifPassed (within (ringOf t) missed) NodeNumber t
-    (ifPassed (ltb (slotsOf t) limit) SlotLimit t
-    (ifPassed (leb 64 room) OutputShort t
+    ifPassed (tableSound t) (cause 4) t
+    (ifPassed (within (ringOf t) missed) (cause 3) t
+    (ifPassed (ltb (slotsOf t) limit) (cause 5) t
+    (ifPassed (leb 64 room) (cause 9) t
     (done (afterSlot lost missed t)))))
 
 -- ---- off: 4 and 3
@@ -90,7 +90,7 @@ abbrev pub afterOff : ℕ → Table → Table
 afterOff a t = each (λ i v. cond (eqb i a) (node.offOf v .node) v) t
 
 unfoldable pub offOf : ℕ → Table → Called
-offOf a t = ifPassed (tableSound t) Unsound t (ifPassed (nodeNumber (ringOf t) a) NodeNumber t (done (afterOff a t)))
+offOf a t = ifPassed (tableSound t) (cause 4) t (ifPassed (nodeNumber (ringOf t) a) (cause 3) t (done (afterOff a t)))
 
 -- ---- restart: 4, 3 and 11
 
@@ -99,15 +99,15 @@ afterRestart a t = each (λ i v. cond (eqb i a) (node.restartOf v .node) v) t
 
 unfoldable pub restartOf : ℕ → Table → Called
 restartOf a t =
-    ifPassed (tableSound t) Unsound t
-    (ifPassed (nodeNumber (ringOf t) a) NodeNumber t
-    (ifPassed (isOut (recordOf t a .state)) NotOut t
+    ifPassed (tableSound t) (cause 4) t
+    (ifPassed (nodeNumber (ringOf t) a) (cause 3) t
+    (ifPassed (isOut (recordOf t a .state)) (cause 11) t
     (done (afterRestart a t))))
 
 -- ---- a look: 4
 
 unfoldable pub lookOf : Table → Called
-lookOf t = ifPassed (tableSound t) Unsound t (done t)
+lookOf t = ifPassed (tableSound t) (cause 4) t (done t)
 
 -- ---- what is told of a table
 

@@ -6,7 +6,7 @@ use mathlib.Core.Bool.{Bool, true, false, cond, _&&_}
 use lib.ListN.{length, getD, take, drop}
 use lib.Dec.{eqb, ltb, leb}
 use Rattle.refusal.specs.declared.Refusal.{Refusal}
-use Rattle.refusal.specs.declared.Refusal.the-variants.{SponsorCount, MessageLength, SectionCount, SpareBit, OutputShort}
+use Rattle.refusal.specs.Causes.{cause}
 use Rattle.message.specs.declared.Reading.{Reading}
 use Rattle.message.specs.declared.Reading.the-variants as reading
 use Rattle.message.specs.declared.Section.{Section}
@@ -83,17 +83,17 @@ ifRead false cause answer = reading.Refused cause
 -- what the sections say: 7 is tested for each of them, then 8 for each of them
 unfoldable pub saidBy : Section → Section → Reading
 saidBy one two =
-    ifRead (one .counted) SectionCount
-    (ifRead (two .counted) SectionCount
-    (ifRead (one .clear) SpareBit
-    (ifRead (two .clear) SpareBit
+    ifRead (one .counted) (cause 7)
+    (ifRead (two .counted) (cause 7)
+    (ifRead (one .clear) (cause 8)
+    (ifRead (two .clear) (cause 8)
     (reading.Heard (one .bits) (eqb (two .bits % 2) 1)))))
 
 -- what is read in bytes. The causes are tested in the order of the table: 2, 6, 7, 8.
 unfoldable pub readOf : ℕ → List ℕ → Reading
 readOf k bytes =
-    ifRead (inRange k) SponsorCount
-    (ifRead (eqb (length bytes) (lengthOf k)) MessageLength
+    ifRead (inRange k) (cause 2)
+    (ifRead (eqb (length bytes) (lengthOf k)) (cause 6)
     (saidBy (sectionIn k (partOne k bytes)) (sectionIn 1 (partTwo k bytes))))
 
 -- ---- writing
@@ -111,7 +111,7 @@ ifWritten false cause out outcome = (written.Refused cause, out)
 -- The causes are tested in the order of the table: 2, 8, 9.
 unfoldable pub writeOf : ℕ → ℕ → Bool → List ℕ → Outcome
 writeOf k acknowledgements returnBit out =
-    ifWritten (inRange k) SponsorCount out
-    (ifWritten (ltb acknowledgements (2 ^ k)) SpareBit out
-    (ifWritten (leb (lengthOf k) (length out)) OutputShort out
+    ifWritten (inRange k) (cause 2) out
+    (ifWritten (ltb acknowledgements (2 ^ k)) (cause 8) out
+    (ifWritten (leb (lengthOf k) (length out)) (cause 9) out
     (written.Bytes (lengthOf k), messageOf k acknowledgements returnBit ++ drop (lengthOf k) out)))

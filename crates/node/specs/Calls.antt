@@ -6,7 +6,7 @@ use mathlib.Core.List.{List}
 use mathlib.Core.Bool.{Bool, false, cond, _&&_}
 use lib.Dec.{eqb, leb}
 use Rattle.refusal.specs.declared.Refusal.{Refusal}
-use Rattle.refusal.specs.declared.Refusal.the-variants.{RingSize, SponsorCount, NodeNumber, Unsound, SlotLimit, NotItsSlot, NotOut}
+use Rattle.refusal.specs.Causes.{cause}
 use Rattle.ring.specs.Ring.{ringSize, sponsorCount, nodeNumber, sender}
 use Rattle.message.specs.declared.Reading.{Reading}
 use Rattle.message.specs.declared.Written.{Written}
@@ -14,8 +14,7 @@ use Rattle.message.specs.declared.Written.the-variants as written
 use Rattle.message.specs.Message.{readOf, writeOf}
 use Rattle.record.specs.declared.Node.{Node}
 use Rattle.record.specs.declared.State.the-variants.{Out}
-use Rattle.record.specs.declared.Cause.the-variants.{SwitchedOff}
-use Rattle.record.specs.States.{isOut}
+use Rattle.record.specs.States.{isOut, leavingCause}
 use Rattle.record.specs.Soundness.{sound, limit}
 use Rattle.node.specs.declared.Stepped.{Stepped}
 use Rattle.node.specs.declared.Answer.the-variants.{Done, Refused}
@@ -34,15 +33,15 @@ refused cause v = record { node = v; answer = Refused cause }
 
 -- The record that comes with a refused set-up.
 abbrev pub noNode : Node
-noNode = record { n = 0; k = 0; own = 0; slots = 0; state = Out SwitchedOff; set = 0; present = 0; returning = 0; «return_heard» = false; listening = noWindow }
+noNode = record { n = 0; k = 0; own = 0; slots = 0; state = Out (leavingCause 4); set = 0; present = 0; returning = 0; «return_heard» = false; listening = noWindow }
 
 unfoldable pub setUpOf : ℕ → ℕ → ℕ → Stepped
 setUpOf n k own =
     cond (ringSize n)
     (cond (sponsorCount n k)
-    (cond (nodeNumber n own) (done (starting n k own)) (refused NodeNumber noNode))
-    (refused SponsorCount noNode))
-    (refused RingSize noNode)
+    (cond (nodeNumber n own) (done (starting n k own)) (refused (cause 3) noNode))
+    (refused (cause 2) noNode))
+    (refused (cause 1) noNode)
 
 -- ---- one slot
 
@@ -50,8 +49,8 @@ setUpOf n k own =
 unfoldable pub stepOf : Reading → Node → Stepped
 stepOf heard v =
     cond (sound v)
-    (cond (leb limit (v .slots)) (refused SlotLimit v) (done (afterSlot (sender (v .n) (v .slots + 1)) heard (counted v))))
-    (refused Unsound v)
+    (cond (leb limit (v .slots)) (refused (cause 5) v) (done (afterSlot (sender (v .n) (v .slots + 1)) heard (counted v))))
+    (refused (cause 4) v)
 
 -- The slot in which these bytes are heard; no bytes where nothing is.
 abbrev pub slotOf : List ℕ → Node → Stepped
@@ -67,16 +66,16 @@ itsTurn v = eqb (sender (v .n) (v .slots + 1)) (v .own) && sends v
 unfoldable pub sendOf : Node → List ℕ → Written × List ℕ
 sendOf v out =
     cond (sound v)
-    (cond (leb limit (v .slots)) (written.Refused SlotLimit, out)
-    (cond (itsTurn v) (writeOf (v .k) (bitsSent v) (returnSent v) out) (written.Refused NotItsSlot, out)))
-    (written.Refused Unsound, out)
+    (cond (leb limit (v .slots)) (written.Refused (cause 5), out)
+    (cond (itsTurn v) (writeOf (v .k) (bitsSent v) (returnSent v) out) (written.Refused (cause 10), out)))
+    (written.Refused (cause 4), out)
 
 -- ---- off and restart
 
 -- "`off` works in every state, giving cause 4."
 unfoldable pub offOf : Node → Stepped
-offOf v = cond (sound v) (done (outFor SwitchedOff v)) (refused Unsound v)
+offOf v = cond (sound v) (done (outFor (leavingCause 4) v)) (refused (cause 4) v)
 
 -- "Restart takes a node from out to listening."
 unfoldable pub restartOf : Node → Stepped
-restartOf v = cond (sound v) (cond (isOut (v .state)) (done (fresh v)) (refused NotOut v)) (refused Unsound v)
+restartOf v = cond (sound v) (cond (isOut (v .state)) (done (fresh v)) (refused (cause 11) v)) (refused (cause 4) v)

@@ -2,7 +2,7 @@
 use Prim.Native.Nat.{ℕ}
 use mathlib.Core.Bool.{cond}
 use lib.Dec.{eqb}
-use Rattle.refusal.specs.declared.Refusal.the-variants.{MessageLength}
+use Rattle.refusal.specs.Causes.{cause}
 use Rattle.message.specs.declared.Reading.{Reading}
 use Rattle.message.specs.declared.Reading.the-variants.{Refused}
 use Rattle.record.specs.declared.Node.{Node}
@@ -16,7 +16,7 @@ use Rattle.hearing.specs.Hearing.{listeningSlot}
 
 -- "A message handed over in the own slot is ignored"; "the own slot hears nothing": there it is as if unreadable.
 abbrev pub heardFrom : ℕ → Reading → Node → Reading
-heardFrom s heard v = cond (eqb s (v .own)) (Refused MessageLength) heard
+heardFrom s heard v = cond (eqb s (v .own)) (Refused (cause 6)) heard
 
 -- The rules of each state; "an out node only counts slots".
 abbrev pub slotIn : State → ℕ → Reading → Node → Node

@@ -6,7 +6,7 @@ use mathlib.Core.List.{List, [], _∷_}
 use lib.Dec.{leb}
 use lib.ListN.{length, drop}
 use Rattle.refusal.specs.declared.Refusal.{Refusal}
-use Rattle.refusal.specs.declared.Refusal.the-variants.{RingSize, SponsorCount, NodeNumber, PlanLine}
+use Rattle.refusal.specs.Causes.{cause}
 use Rattle.nodeset.specs.Sets.{with}
 use Rattle.ring.specs.Ring.{ringSize, sponsorCount, nodeNumber}
 use Rattle.plan_line.specs.declared.Opening.{Opening}
@@ -31,15 +31,15 @@ ifOpened false cause opened = opening.Refused cause
 
 -- n and k: 1 is tested before 2.
 unfoldable pub ringOf : ℕ → ℕ → Opening
-ringOf n k = ifOpened (ringSize n) RingSize (ifOpened (sponsorCount n k) SponsorCount (opening.Ring n k))
+ringOf n k = ifOpened (ringSize n) (cause 1) (ifOpened (sponsorCount n k) (cause 2) (opening.Ring n k))
 
 -- Two words that should be numbers.
 unfoldable pub numbersOf : List ℕ → List ℕ → Opening
-numbersOf first second = ifOpened (isNumber first && isNumber second) PlanLine (ringOf (valueOf first) (valueOf second))
+numbersOf first second = ifOpened (isNumber first && isNumber second) (cause 12) (ringOf (valueOf first) (valueOf second))
 
 -- "Line one: n, space, k."
 unfoldable pub openingOf : List ℕ → Opening
-openingOf line = ifOpened (shortEnough line) PlanLine (numbersOf (before line) (after line))
+openingOf line = ifOpened (shortEnough line) (cause 12) (numbersOf (before line) (after line))
 
 -- ---- one node
 
@@ -53,7 +53,7 @@ ifNamed false cause found = named.Refused cause
 
 -- What stands after `off ` or `on ` names a node.
 unfoldable pub namedOf : ℕ → List ℕ → Named
-namedOf n word = ifNamed (isNumber word) PlanLine (ifNamed (inRing n (valueOf word)) NodeNumber (named.Node (valueOf word)))
+namedOf n word = ifNamed (isNumber word) (cause 12) (ifNamed (inRing n (valueOf word)) (cause 3) (named.Node (valueOf word)))
 
 -- ---- several nodes
 
@@ -89,13 +89,13 @@ abbrev pub joined : ℕ → Missed → ℕ → Missed
 joined n missed a = record { inside = missed .inside && inRing n a; set = with (missed .set) a }
 
 abbrev pub missedOrder : Missed → Order
-missedOrder missed = ifOrdered (missed .inside) NodeNumber (order.Miss (missed .set))
+missedOrder missed = ifOrdered (missed .inside) (cause 3) (order.Miss (missed .set))
 
 -- "`miss a b` (numbers rising, at least one)": what stands after `miss `. A list that does not rise is unreadable, so that 12 is tested before 3.
 unfoldable pub missingOf : ℕ → List ℕ → Order
 missingOf n text =
-    ifOrdered (allNumbers (wordsOf text) && risingFrom 0 (valuesOf (wordsOf text))) PlanLine
-    (ifOrdered (allInRing n (valuesOf (wordsOf text))) NodeNumber
+    ifOrdered (allNumbers (wordsOf text) && risingFrom 0 (valuesOf (wordsOf text))) (cause 12)
+    (ifOrdered (allInRing n (valuesOf (wordsOf text))) (cause 3)
     (order.Miss (withAll 0 (valuesOf (wordsOf text)))))
 
 -- ---- the lines after line one
@@ -133,8 +133,8 @@ wordOf n line =
     (cond (begins missWord line) (missingOf n (drop 5 line))
     (cond (begins offWord line) (offOrder (namedOf n (drop 4 line)))
     (cond (begins onWord line) (onOrder (namedOf n (drop 3 line)))
-    (order.Refused PlanLine)))))
+    (order.Refused (cause 12))))))
 
 -- "Plan line unreadable or too long" is 12.
 unfoldable pub orderOf : ℕ → List ℕ → Order
-orderOf n line = ifOrdered (shortEnough line) PlanLine (wordOf n line)
+orderOf n line = ifOrdered (shortEnough line) (cause 12) (wordOf n line)

@@ -5,7 +5,7 @@ use mathlib.Core.Bool.{cond}
 use mathlib.Core.List.{List, [], _∷_, _++_}
 use lib.Dec.{ltb, leb}
 use lib.ListN.{length, take, drop}
-use Rattle.refusal.specs.declared.Refusal.the-variants.{OutputShort}
+use Rattle.refusal.specs.Causes.{cause}
 use Rattle.bench.specs.declared.Fate.{Fate}
 use Rattle.bench.specs.declared.Fate.the-variants.{Silent, Lost, Knock, Sent}
 use Rattle.bench.specs.declared.Listed.{Listed}
@@ -83,4 +83,4 @@ pub record PutAt (next at : ℕ) (text before after : List ℕ) : Type 0 where
 -- What comes of writing a line: the number of its bytes, and all of the lent bytes afterwards. "Lent output too short" is 9: 80 bytes from the place on
 -- hold every line. It leaves "every byte" as it was.
 unfoldable pub writtenOf : List ℕ → ℕ → List ℕ → Written × List ℕ
-writtenOf text at out = cond (leb (at + 80) (length out)) (Bytes (length text), pasted out at text) (Refused OutputShort, out)
+writtenOf text at out = cond (leb (at + 80) (length out)) (Bytes (length text), pasted out at text) (Refused (cause 9), out)

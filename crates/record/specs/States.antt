@@ -1,6 +1,7 @@
 -- Document 01, "The node record": "States: member, listening, following, knocking, out." A test for each, and the numbers of the causes.
 use Prim.Native.Nat.{ℕ}
-use mathlib.Core.Bool.{Bool, true, false}
+use mathlib.Core.Bool.{Bool, true, false, cond}
+use lib.Dec.{eqb}
 use Rattle.record.specs.declared.Cause.{Cause}
 use Rattle.record.specs.declared.Cause.the-variants.{Unconfirmed, NothingHeard, MissedReturn, SwitchedOff}
 use Rattle.record.specs.declared.State.{State}
@@ -47,3 +48,7 @@ causeNumber Unconfirmed = 1
 causeNumber NothingHeard = 2
 causeNumber MissedReturn = 3
 causeNumber SwitchedOff = 4
+
+-- The cause of leaving with this number. (proofs/Causes: its number is this one.)
+abbrev pub leavingCause : ℕ → Cause
+leavingCause number = cond (eqb number 1) Unconfirmed (cond (eqb number 2) NothingHeard (cond (eqb number 3) MissedReturn SwitchedOff))

@@ -1,5 +1,7 @@
 -- Document 01, "Causes and their numbers": the number of each cause.
 use Prim.Native.Nat.{ℕ}
+use mathlib.Core.Bool.{cond}
+use lib.Dec.{eqb}
 use Rattle.refusal.specs.declared.Refusal.{Refusal}
 use Rattle.refusal.specs.declared.Refusal.the-variants.{RingSize, SponsorCount, NodeNumber, Unsound, SlotLimit, MessageLength, SectionCount, SpareBit, OutputShort, NotItsSlot, NotOut, PlanLine}
 
@@ -28,3 +30,18 @@ numberOf NotItsSlot = 10
 numberOf NotOut = 11
 -- "plan line unreadable or too long"
 numberOf PlanLine = 12
+
+-- The cause with this number, so that a definition can name a refusal as document 01 does. (proofs/Numbers: its number is this one.)
+abbrev pub cause : ℕ → Refusal
+cause number =
+    cond (eqb number 1) RingSize
+    (cond (eqb number 2) SponsorCount
+    (cond (eqb number 3) NodeNumber
+    (cond (eqb number 4) Unsound
+    (cond (eqb number 5) SlotLimit
+    (cond (eqb number 6) MessageLength
+    (cond (eqb number 7) SectionCount
+    (cond (eqb number 8) SpareBit
+    (cond (eqb number 9) OutputShort
+    (cond (eqb number 10) NotItsSlot
+    (cond (eqb number 11) NotOut PlanLine))))))))))

@@ -3,7 +3,7 @@
 use Prim.Native.Nat.{ℕ}
 use mathlib.Core.Bool.{cond}
 use lib.Dec.{eqb}
-use Rattle.refusal.specs.declared.Refusal.the-variants.{RingSize, SponsorCount, NodeNumber}
+use Rattle.refusal.specs.Causes.{cause}
 use Rattle.ring.specs.declared.Speaker.{Speaker}
 use Rattle.ring.specs.declared.Speaker.the-variants as Speaker
 use Rattle.ring.specs.declared.Found.{Found}
@@ -11,7 +11,7 @@ use Rattle.ring.specs.declared.Found.the-variants as Found
 use Rattle.ring.specs.Ring.{ringSize, nodeNumber, sponsorCount, sender, memberBefore, sponsored, decided}
 
 abbrev pub senderOf : ℕ → ℕ → Speaker
-senderOf n s = cond (ringSize n) (Speaker.Node (sender n s)) (Speaker.Refused RingSize)
+senderOf n s = cond (ringSize n) (Speaker.Node (sender n s)) (Speaker.Refused (cause 1))
 
 -- Inner: the number of the member found, 0 where there is none.
 abbrev pub memberIn : Found → ℕ
@@ -25,14 +25,14 @@ foundAs m = cond (eqb m 0) Found.Nobody (Found.Member m)
 
 -- 1 and 3, where no k is given
 abbrev pub onRing : ℕ → ℕ → Found → Found
-onRing n x answer = cond (ringSize n) (cond (nodeNumber n x) answer (Found.Refused NodeNumber)) (Found.Refused RingSize)
+onRing n x answer = cond (ringSize n) (cond (nodeNumber n x) answer (Found.Refused (cause 3))) (Found.Refused (cause 1))
 
 -- 1, 2 and 3
 abbrev pub onSponsoredRing : ℕ → ℕ → ℕ → Found → Found
 onSponsoredRing n k x answer =
     cond (ringSize n)
-    (cond (sponsorCount n k) (cond (nodeNumber n x) answer (Found.Refused NodeNumber)) (Found.Refused SponsorCount))
-    (Found.Refused RingSize)
+    (cond (sponsorCount n k) (cond (nodeNumber n x) answer (Found.Refused (cause 3))) (Found.Refused (cause 2)))
+    (Found.Refused (cause 1))
 
 abbrev pub beforeOf : ℕ → ℕ → ℕ → ℕ → Found
 beforeOf n set x j = onRing n x (memberBefore n set x j)

@@ -15,8 +15,7 @@ use Rattle.message.specs.declared.Reading.the-variants as reading
 use Rattle.record.specs.declared.Node.{Node}
 use Rattle.record.specs.declared.State.{State}
 use Rattle.record.specs.declared.State.the-variants.{Member, Listening, Following, Knocking, Out}
-use Rattle.record.specs.declared.Cause.the-variants.{Unconfirmed, NothingHeard, MissedReturn}
-use Rattle.record.specs.States.{isMember, isFollowing, isKnocking}
+use Rattle.record.specs.States.{isMember, isFollowing, isKnocking, leavingCause}
 use Rattle.changes.specs.Changes.{fresh, leave, withSet, withMarks, withReturning}
 
 -- ---- what a reading says; "An unreadable message counts as not heard."
@@ -119,14 +118,14 @@ join v = cond (isKnocking (v .state) && not (v .«return_heard»)) (withReturnin
 unfoldable pub settle : Bool → ℕ → Node → Node
 settle inside s v =
     cond (tooFew v) (fresh v)
-    (cond (nothingHeard v) (leave NothingHeard v)
+    (cond (nothingHeard v) (leave (leavingCause 2) v)
     (cond (inside && joins s v) (join v) v))
 
 -- Step 3, and what comes after it: "the decided member leaves if its mark is off. If that is this node, it leaves with cause 1 and the steps end."
 unfoldable pub judged : ℕ → ℕ → Node → Node
 judged s m v =
     cond (has (v .present) m) (settle true s v)
-    (cond (eqb m (v .own)) (leave Unconfirmed v) (settle true s (withSet (without (v .set) m) v)))
+    (cond (eqb m (v .own)) (leave (leavingCause 1) v) (settle true s (withSet (without (v .set) m) v)))
 
 -- "With one member nobody is decided" ("The ring").
 abbrev pub departs : ℕ → Found → Node → Node
@@ -140,7 +139,7 @@ departing s v = departs s (decidedOf (v .n) (v .k) (v .set) s) v
 -- The sender is in the set: step 1, then "Departure, only if the sender is in the set", and what comes after it; "leaving with cause 3, and nothing
 -- further happens".
 unfoldable pub insideSlot : ℕ → Reading → Node → Node
-insideSlot s heard v = cond (missedReturn heard v) (leave MissedReturn v) (departing s (marked s heard v))
+insideSlot s heard v = cond (missedReturn heard v) (leave (leavingCause 3) v) (departing s (marked s heard v))
 
 -- The sender is outside the set: step 2, then step 4.
 unfoldable pub outsideSlot : ℕ → Reading → Node → Node
