@@ -3,4 +3,5 @@ pub mod Shared
 pub mod Numbers
 pub mod Again
 pub mod Calls
+pub mod Turns
 pub mod Folds
