@@ -19,7 +19,7 @@ use prog.Wp.{Heap, Env, Calls, Loops, spotOf}
 use ghost.Atoms.{Atoms, sem}
 use contract.Monad.{Fun, Mono, fact}
 use sound.WpLaws.{FmC}
-use types.Kit.{Given, Item, ‵, raw, some, later, _⊛_, mean, ⋆, nth, del, put, pull, push, Post, Goal, runs, lands, frees as freeing, Seq, Step, step, _$_, use0, use1, use2, use3, split, fsplit, feqL, move, drop, pick, await}
+use types.Kit.{Given, Item, ‵, raw, some, later, _⊛_, mean, ⋆, nth, del, put, pull, push, Post, Goal, runs, lands, frees as freeing, Seq, Step, step, _$_, use0, use1, use2, use3, split, fsplit, feqL, move, drop, pick, await, prop}
 use types.Run.{Opd, Opds, Finds, Writes, land, init, store, load, from, stop, look, free1}
 use denote.RattleType.{RattleType, Denots, Valss, flat, owns}
 use denote.Laws.{Is, Ises, Are, Spells, valss, Tellss, Tells, Makes, Makess, shows, owns-make}
@@ -318,6 +318,10 @@ module _ {M : Type 1} {𝓤 : URA M} {H : Heap 𝓤} {A : Atoms 𝓤} {K : Type 
       (λ os′ k′. calls-sharing t fm R ss ks s c met κ sh γ b o ys room ps a gs g needs φ says os′ p fd n rm k′) os k
 
 -- ---- from a walk to the contract
+-- what is left to show beside P, of nothing
+pub keeping : {M : Type 1} {𝓤 : URA M} {H : Heap 𝓤} {A : Atoms 𝓤} {K : Type 0} {W : Given 𝓤 H A} {Γ : List (Item 𝓤)} → K → {P Q : SProp 𝓤} → ent 𝓤 (emp 𝓤) Q → Step K W Γ (prop P) Γ (prop (sep 𝓤 P Q))
+keeping {𝓤 = 𝓤} t {P} {Q} h = step (λ s. record { prf = via 𝓤 P (s .prf) (via 𝓤 (sep 𝓤 P (emp 𝓤)) (plus 𝓤 P) (monoR 𝓤 P h)) })
+
 -- how plain data is spelled, for a list of types
 module _ {M : Type 1} (𝓤 : URA M) (H : Heap 𝓤) (A : Atoms 𝓤) where
   abbrev pub spells : (Rs : List RattleType) → Plains 𝓤 H A Rs → Spells Rs
