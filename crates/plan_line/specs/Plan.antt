@@ -16,7 +16,7 @@ use Rattle.plan_line.specs.declared.Named.the-variants as named
 use Rattle.plan_line.specs.declared.Missed.{Missed}
 use Rattle.plan_line.specs.declared.Order.{Order}
 use Rattle.plan_line.specs.declared.Order.the-variants as order
-use Rattle.plan_line.specs.Words.{before, after, wordsOf, begins, same, isNumber, valueOf}
+use Rattle.plan_line.specs.Words.{bytes, before, after, wordsOf, begins, same, isNumber, valueOf}
 
 -- "Lines of at most 120 bytes end in a line feed, itself not counted."
 abbrev pub shortEnough : List ℕ → Bool
@@ -100,21 +100,21 @@ missingOf n text =
 
 -- ---- the lines after line one
 
--- The plan words, each with the space that follows it: `ok`, `lost`, `miss `, `off `, `on `.
+-- The plan words, each with the space that follows it.
 abbrev pub okWord : List ℕ
-okWord = 111 ∷ 107 ∷ []
+okWord = bytes "ok"
 
 abbrev pub lostWord : List ℕ
-lostWord = 108 ∷ 111 ∷ 115 ∷ 116 ∷ []
+lostWord = bytes "lost"
 
 abbrev pub missWord : List ℕ
-missWord = 109 ∷ 105 ∷ 115 ∷ 115 ∷ 32 ∷ []
+missWord = bytes "miss "
 
 abbrev pub offWord : List ℕ
-offWord = 111 ∷ 102 ∷ 102 ∷ 32 ∷ []
+offWord = bytes "off "
 
 abbrev pub onWord : List ℕ
-onWord = 111 ∷ 110 ∷ 32 ∷ []
+onWord = bytes "on "
 
 -- "`off a` and `on a` switch or restart a node"
 abbrev pub offOrder : Named → Order

@@ -1,9 +1,16 @@
 -- Document 01, "The bench program": the words and the numbers of a plan line. A line is the list of its bytes, without the line feed.
 use Prim.Native.Nat.{ℕ, suc, _+_, _-_, _*_}
+use Prim.Native.Char.{code}
+use Prim.Native.String.{String, [] as end, _∷_ as _then_}
 use mathlib.Core.Bool.{Bool, true, false, cond, not, _&&_}
 use mathlib.Core.List.{List, [], _∷_}
 use lib.Dec.{eqb, ltb, leb}
 use lib.ListN.{length, getD, take, drop}
+
+-- The bytes of a text.
+abbrev pub bytes : String → List ℕ
+bytes end = []
+bytes (c then s) = code c ∷ bytes s
 
 -- ---- words
 

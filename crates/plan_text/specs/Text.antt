@@ -6,6 +6,7 @@ use mathlib.Core.List.{List, [], _∷_, _++_}
 use lib.Dec.{ltb, leb}
 use lib.ListN.{length, take, drop}
 use Rattle.refusal.specs.Causes.{cause}
+use Rattle.plan_line.specs.Words.{bytes}
 use Rattle.bench.specs.declared.Fate.{Fate}
 use Rattle.bench.specs.declared.Fate.the-variants.{Silent, Lost, Knock, Sent}
 use Rattle.bench.specs.declared.Listed.{Listed}
@@ -39,17 +40,17 @@ numberThen byte x = decimal x ++ (byte ∷ [])
 
 -- ---- a slot: each part has the space after it
 
--- "Fate (`silent` if nothing is sent ..; else `lost` if lost, ..; else `knock` or `sent`)": `silent `, `lost `, `knock `, `sent `
+-- "Fate (`silent` if nothing is sent ..; else `lost` if lost, ..; else `knock` or `sent`)"
 abbrev pub fateText : Fate → List ℕ
-fateText Silent = 115 ∷ 105 ∷ 108 ∷ 101 ∷ 110 ∷ 116 ∷ 32 ∷ []
-fateText Lost = 108 ∷ 111 ∷ 115 ∷ 116 ∷ 32 ∷ []
-fateText Knock = 107 ∷ 110 ∷ 111 ∷ 99 ∷ 107 ∷ 32 ∷ []
-fateText Sent = 115 ∷ 101 ∷ 110 ∷ 116 ∷ 32 ∷ []
+fateText Silent = bytes "silent "
+fateText Lost = bytes "lost "
+fateText Knock = bytes "knock "
+fateText Sent = bytes "sent "
 
 -- "The set of the lowest-numbered member as eight hexadecimal digits (node 1 is the lowest bit; `--------` if none)"
 abbrev pub shownText : Listed → List ℕ
 shownText (Set set) = digits 16 8 set ++ (32 ∷ [])
-shownText Nobody = 45 ∷ 45 ∷ 45 ∷ 45 ∷ 45 ∷ 45 ∷ 45 ∷ 45 ∷ 32 ∷ []
+shownText Nobody = bytes "-------- "
 
 -- "Each slot prints: slot, sender, fate .., the set .., the greatest distance"; 10 is the line feed.
 unfoldable pub slotText : ℕ → ℕ → Fate → Listed → ℕ → List ℕ
@@ -58,12 +59,12 @@ slotText slot sender fate shown distance =
 
 -- ---- a refusal
 
--- `line ` and `refusal `
+-- The words of a refusal.
 abbrev pub lineWord : List ℕ
-lineWord = 108 ∷ 105 ∷ 110 ∷ 101 ∷ 32 ∷ []
+lineWord = bytes "line "
 
 abbrev pub refusalWord : List ℕ
-refusalWord = 114 ∷ 101 ∷ 102 ∷ 117 ∷ 115 ∷ 97 ∷ 108 ∷ 32 ∷ []
+refusalWord = bytes "refusal "
 
 -- "A refused line prints `line L refusal N`"
 unfoldable pub refusalText : ℕ → ℕ → List ℕ
