@@ -1,4 +1,4 @@
--- What a run says of each of its beginnings: entries stay, no slot is decided before it runs, and the premises hold. Assumes nothing.
+-- What a run says of each of its beginnings: what a slot was stays, no slot is decided before it runs, and the premises hold. Assumes nothing.
 use Prim.Native.Nat.{ℕ, suc, _+_, _≤_, _<_}
 use mathlib.Core.Path.{_≡_, refl, ap, _∙_}
 use mathlib.Core.Bool.{Bool, true, false, _&&_}
@@ -10,12 +10,13 @@ use borrow.Author.Tests.{lt-leb}
 use Rattle.nodeset.specs.Sums.{num}
 use Rattle.nodeset.proofs.Sums.{sum-le}
 use Rattle.bench.specs.Table.{Table, slotsOf}
-use Rattle.bench.specs.Runs.{Call, tableAfter, isSlot, Entry, noEntry, newEntry, entry}
+use Rattle.bench.specs.Runs.{Call, tableAfter, isSlot, Entry, noEntry, entry}
 use Rattle.bench.specs.Demand.{AtEach, AfterEach, Premises, isDeciding, isDecided}
+use Rattle.bench.proofs.agreement.Past.{newPast, past}
 use Rattle.bench.proofs.agreement.History.{num-is}
 use Rattle.bench.proofs.agreement.Places.{Placed}
 use Rattle.bench.proofs.agreement.Runs.{slots-next}
-use Rattle.bench.proofs.agreement.Entries.{entry-old, entry-new, entry-later}
+use Rattle.bench.proofs.agreement.Entries.{past-old, past-new, entry-old, entry-later}
 
 -- the calls cs are a beginning of all the calls
 pub data Beginning (all : List Call) : List Call → Type 0 where
@@ -31,14 +32,14 @@ at-end P (c ∷ cs) h = h .1 .1
 -- ---- a call: the slot counts, and the table
 
 module _ (n k : ℕ) (pos : 1 ≤ n) (start : Table) (begins : Placed n k 0 start) where
-  pub entry-stable : (all cs : List Call) → Beginning all cs → (u : ℕ) → u ≤ slotsOf (tableAfter start cs) → entry start all u ≡ entry start cs u
-  entry-stable all cs whole u h = refl
-  entry-stable all cs (shorter {c = c} b) u h = entry-stable all (c ∷ cs) b u (omega (arith, slots-next n k pos start begins c cs)) ∙ entry-old start c cs u h
+  pub past-stable : (all cs : List Call) → Beginning all cs → (u : ℕ) → u ≤ slotsOf (tableAfter start cs) → past start all u ≡ past start cs u
+  past-stable all cs whole u h = refl
+  past-stable all cs (shorter {c = c} b) u h = past-stable all (c ∷ cs) b u (omega (arith, slots-next n k pos start begins c cs)) ∙ past-old start c cs u h
 
-  pub entry-here : (all : List Call) (c : Call) (cs : List Call) → Beginning all (c ∷ cs) → isSlot c (tableAfter start cs) ≡ true
-      → entry start all (slotsOf (tableAfter start cs) + 1) ≡ newEntry c (tableAfter start cs)
-  entry-here all c cs b e =
-      entry-stable all (c ∷ cs) b (slotsOf (tableAfter start cs) + 1) (omega (arith, slots-next n k pos start begins c cs, num-is e)) ∙ entry-new start c cs e
+  pub past-here : (all : List Call) (c : Call) (cs : List Call) → Beginning all (c ∷ cs) → isSlot c (tableAfter start cs) ≡ true
+      → past start all (slotsOf (tableAfter start cs) + 1) ≡ newPast c (tableAfter start cs)
+  past-here all c cs b e =
+      past-stable all (c ∷ cs) b (slotsOf (tableAfter start cs) + 1) (omega (arith, slots-next n k pos start begins c cs, num-is e)) ∙ past-new start c cs e
 
   -- isDecided looks only at slots after s
   pub decided-later : (s : ℕ) (cs : List Call) → slotsOf (tableAfter start cs) < s → isDecided n k start s cs ≡ false

@@ -22,8 +22,9 @@ use Rattle.record.specs.Soundness.{sound, limit}
 use Rattle.steps.specs.Steps.{isFound}
 use Rattle.bench.specs.Table.{Table, recordOf, slotsOf, speaker}
 use Rattle.bench.specs.Calls.{setUpOf}
-use Rattle.bench.specs.Runs.{Call, slot, off, restart, tableAfter, isSlot, listOf, Entry, entryOf, entry}
+use Rattle.bench.specs.Runs.{Call, slot, off, restart, tableAfter, isSlot, listOf, Entry, entry}
 use Rattle.bench.specs.Demand.{AtEach, AfterEach, KeepsList, HearEverything, Premises, memberAfter, isDeciding, isDecided, Failed, MemberAt, OffAll, Agree, Stays, Leaves, InTime, EverySequence, Demand3}
+use Rattle.bench.proofs.agreement.Past.{pastOf, past, entryIn, entry-is}
 use Rattle.bench.proofs.agreement.History.{World, lst, full-round, num-is, num-isnt}
 use Rattle.bench.proofs.agreement.Marks.{no-both}
 use Rattle.bench.proofs.agreement.Returns.{found-it}
@@ -31,12 +32,12 @@ use Rattle.bench.proofs.agreement.Alike.{member-tracks}
 use Rattle.bench.proofs.agreement.Places.{Placed}
 use Rattle.bench.proofs.agreement.Accepted.{off-no-slot, restart-no-slot}
 use Rattle.bench.proofs.agreement.Runs.{start-placed, below-limit, placed-run, slots-next}
-use Rattle.bench.proofs.agreement.Beginnings.{Beginning, whole, shorter, entry-stable, decided-later, at-each, after-each}
+use Rattle.bench.proofs.agreement.Beginnings.{Beginning, whole, shorter, past-stable, decided-later, at-each, after-each}
 use Rattle.bench.proofs.agreement.Tables.{list-is}
 use Rattle.bench.proofs.agreement.Slots.{speaker-is, list, listed-is}
 use Rattle.bench.proofs.agreement.Leaving.{not-found, deciding, undecided}
 use Rattle.bench.proofs.agreement.Kept as kept
-use Rattle.bench.proofs.agreement.Kept.{Given, Run, run, none-yet, entry-at}
+use Rattle.bench.proofs.agreement.Kept.{Given, Run, run, none-yet, past-at}
 
 module _ (G : Given) where
   open Given G using (n, k, three, all, premises)
@@ -77,8 +78,8 @@ module _ (G : Given) where
       N : ℕ
       N = slotsOf (tableAfter start cs) + n
 
-      eq : W .E (suc (slotsOf (tableAfter start cs) + n)) ≡ entryOf lost missed (tableAfter start cs)
-      eq = entry-at G lost missed room cs b e
+      eq : W .E (suc (slotsOf (tableAfter start cs) + n)) ≡ pastOf lost missed (tableAfter start cs)
+      eq = past-at G lost missed room cs b e
 
       good : (i : ℕ) → 1 ≤ i → i ≤ n → sound (recordOf (tableAfter start cs) i) ≡ true
       good i h l = placed-run n k pos start begins cs .at i h l .is-sound
@@ -188,8 +189,11 @@ module _ (G : Given) where
   agrees : Agree n start all
   agrees i j a b = ap (λ (x : ℕ). distance n x (recordOf T j .set)) (member-set i a ∙ sym (member-set j b)) ∙ distance-same n (recordOf T j .set)
 
-  entry-now : (s : ℕ) → W .E (s + n) ≡ entry start all s
-  entry-now s = let z : s + n - n ≡ s = omega arith in ap (entry start all) z
+  past-now : (s : ℕ) → W .E (s + n) ≡ past start all s
+  past-now s = let z : s + n - n ≡ s = omega arith in ap (past start all) z
+
+  entry-now : (s : ℕ) → entryIn (W .E (s + n)) ≡ entry start all s
+  entry-now s = ap entryIn (past-now s) ∙ sym (entry-is start all s)
 
   stays-on : Stays n k start all
   stays-on s f d i m = ap (λ (x : ℕ). has x (sender n s)) (member-set i m) ∙ ap (has (final .0)) (sym (same-sender s (f .0))) ∙ go (status all whole (premises .list-kept) (premises .all-heard) s (f .0) (f .1))
@@ -233,13 +237,13 @@ module _ (G : Given) where
         here : slotsOf T ≡ slotsOf (tableAfter start before) + 1
         here = ap (λ (x : List Call). slotsOf (tableAfter start x)) is ∙ slots-next n k pos start begins c before ∙ ap (λ (x : Bool). slotsOf (tableAfter start before) + num x) is-slot
 
-        known : entry start all s ≡ entry start before s
-        known = entry-stable n k pos start begins all before (shorter b) s (f .1)
+        entry-then : entryIn (W .E (s + n)) ≡ entry start before s
+        entry-then = ap entryIn (past-now s ∙ past-stable n k pos start begins all before (shorter b) s (f .1)) ∙ sym (entry-is start before s)
 
         go : Status (slotsOf (tableAfter start before) + n) (s + n) (isDecided n k start s before) → has (final .0) (sender n (s + n)) ≡ false
         go (over x) = absurd (no-both x nd)
         go (waiting x e ago recent w) = final .1 .kept (s + n) (suc e) (omega (arith, here)) recent .dropped
-            (ap (λ (y : Entry). y .listed) (entry-now s ∙ known) ∙ f .2) (ap (λ (y : Entry). y .sent) (entry-now s ∙ known) ∙ f .3)
+            (ap (λ (y : Entry). y .listed) entry-then ∙ f .2) (ap (λ (y : Entry). y .sent) entry-then ∙ f .3)
             (deciding W (slotsOf (tableAfter start before) + n) (r .0) (r .1 .kept) (sl .enough-at) (sl .listed-at) (s + n) e (omega arith) ago recent w
             (test-yes c before _ (r .0) s sl (f .0) (sym (deciding-parts c before s is-slot (f .1)) ∙ dg)))
 
