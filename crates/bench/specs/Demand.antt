@@ -1,5 +1,5 @@
 -- Demand 3 (document 01, "The bench"): over every sequence of calls that keeps the premises the lists agree after each call, and a listed node whose slot was
--- lost or silent leaves them at its deciding slot. A sequence of calls has THE LATEST FIRST: "the calls before this one" are the tail of a list.
+-- lost or silent leaves them at its deciding slot. A sequence of calls has THE LATEST FIRST: in c ∷ cs the calls before c are cs.
 use Prim.Native.Nat.{ℕ, zero, suc, _+_, _-_, _≤_}
 use mathlib.Core.Path.{_≡_}
 use mathlib.Core.Logic.{_≢_}
@@ -25,7 +25,7 @@ unfoldable pub AtEach : (Call → List Call → Type 0) → List Call → Type 0
 AtEach P [] = Unit {0}
 AtEach P (c ∷ cs) = AtEach P cs × P c cs
 
--- What is said of the calls so far holds at the start of a sequence and after each call of it: "give a table after each call".
+-- What is said of the calls so far holds at the start of a sequence and after each call of it: "The rules here .. give a table after each call".
 abbrev pub AfterEach : (List Call → Type 0) → List Call → Type 0
 AfterEach P cs = P [] × AtEach (λ c before. P (c ∷ before)) cs
 

@@ -17,11 +17,11 @@ NoDistance (outcome.Slot number sender fate list distance) = distance ≡ 0
 NoDistance outcome.Quiet = ⊥
 NoDistance (outcome.Refused cause) = ⊥
 
--- A look after the calls so far, with any arguments.
+-- A look after the calls so far, whatever it is asked and however many bytes are lent, tells so.
 abbrev pub LookTells : Table → List Call → Type 0
 LookTells start cs = (lost : Bool) (room : ℕ) → NoDistance (endedOf (command.Look lost) room (tableAfter start cs) .reply .outcome)
 
--- The call, if it is a slot that runs.
+-- So does the call c, made after the calls cs, if it is a slot that runs.
 abbrev pub SlotTells : Table → Call → List Call → Type 0
 SlotTells start (slot lost missed room) cs =
     isSlot (slot lost missed room) (tableAfter start cs) ≡ true
@@ -33,5 +33,6 @@ pub record Told (n k : ℕ) (start : Table) (cs : List Call) : Type 0 where
   pub looks : AfterEach (LookTells start) cs
   pub slots : AtEach (SlotTells start) cs
 
+-- Over every sequence of calls that keeps the premises of demand 3.
 abbrev pub NoDistanceTold : Type 0
 NoDistanceTold = EverySequence Premises Told
