@@ -1,4 +1,5 @@
 -- The proof of demand 3: `agreement.Demanded` has `demand3 : Demand3`. It is mathematics about the rules, over laws of the sender, the sets, the walk and the step.
+pub mod Past
 pub mod History
 pub mod Invariant
 pub mod Marks

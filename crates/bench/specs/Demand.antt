@@ -1,6 +1,5 @@
--- Demand 3 (document 01, "The bench"): the lists agree, and a listed node whose slot was lost or silent leaves them at its deciding slot. What is said here of
--- the table after every sequence of calls is said of the table after each call of every sequence: premises of a sequence hold of each beginning of it
--- (proofs/agreement/Throughout).
+-- Demand 3 (document 01, "The bench"): over every sequence of calls that keeps the premises the lists agree after each call, and a listed node whose slot was
+-- lost or silent leaves them at its deciding slot. A sequence of calls has THE LATEST FIRST: in c ∷ cs the calls before c are cs.
 use Prim.Native.Nat.{ℕ, zero, suc, _+_, _-_, _≤_}
 use mathlib.Core.Path.{_≡_}
 use mathlib.Core.Logic.{_≢_}
@@ -19,12 +18,18 @@ use Rattle.bench.specs.Table.{Table, recordOf, slotsOf, speaker}
 use Rattle.bench.specs.Calls.{transmits, setUpOf}
 use Rattle.bench.specs.Runs.{Call, slot, off, restart, tableAfter, isSlot, listOf, entry}
 
--- ---- the premises
+-- ---- over a whole sequence
 
 -- What is said of a call and of the calls before it holds of each call of a sequence.
 unfoldable pub AtEach : (Call → List Call → Type 0) → List Call → Type 0
 AtEach P [] = Unit {0}
 AtEach P (c ∷ cs) = AtEach P cs × P c cs
+
+-- What is said of the calls so far holds at the start of a sequence and after each call of it: "The rules here .. give a table after each call".
+abbrev pub AfterEach : (List Call → Type 0) → List Call → Type 0
+AfterEach P cs = P [] × AtEach (λ c before. P (c ∷ before)) cs
+
+-- ---- the premises
 
 -- "It keeps k + 1 members if there is such a node and its set holds that many as each slot begins and as it ends." (Where there is none the list is empty.)
 unfoldable pub KeepsList : ℕ → ℕ → Table → Call → List Call → Type 0
@@ -102,21 +107,44 @@ OnAll n t x = (i : ℕ) → MemberAt n t i → has (recordOf t i .set) x ≡ tru
 abbrev pub OffAll : ℕ → Table → ℕ → Type 0
 OffAll n t x = (i : ℕ) → MemberAt n t i → has (recordOf t i .set) x ≡ false
 
-pub record Claims (n k : ℕ) (start : Table) (cs : List Call) : Type 0 where
-  -- all lists of member-state nodes are equal: the distance of any two is zero
-  pub agree : (i j : ℕ) → MemberAt n (tableAfter start cs) i → MemberAt n (tableAfter start cs) j
-      → distance n (recordOf (tableAfter start cs) i .set) (recordOf (tableAfter start cs) j .set) ≡ 0
-  -- "Until the deciding slot ends, or the calls do, the node is on all those lists"
-  pub stays : (s : ℕ) → Failed start s cs → isDecided n k start s cs ≡ false → OnAll n (tableAfter start cs) (sender n s)
-  -- "at the end of it, off them all": the last call is the deciding slot, and there was none before
-  pub leaves : (s : ℕ) (c : Call) (before : List Call) → cs ≡ c ∷ before → Failed start s before
-      → isDecided n k start s before ≡ false → isDeciding n k start s c before ≡ true → OffAll n (tableAfter start cs) (sender n s)
-  -- "If n - 1 slots ran after s, it is one of them."
-  pub in-time : (s : ℕ) → Failed start s cs → s + (n - 1) ≤ slotsOf (tableAfter start cs) → isDecided n k start s cs ≡ true
+-- All lists of member-state nodes are equal: the distance of any two is zero.
+abbrev pub Agree : ℕ → Table → List Call → Type 0
+Agree n start cs =
+    (i j : ℕ) → MemberAt n (tableAfter start cs) i → MemberAt n (tableAfter start cs) j
+    → distance n (recordOf (tableAfter start cs) i .set) (recordOf (tableAfter start cs) j .set) ≡ 0
 
--- Demand 3: for all n from 3 to 32 and all k from 2 to n - 1, whatever table of n records was lent to set-up, for every sequence of calls.
-unfoldable pub Demand3 : Type 0
-Demand3 =
+-- "Until the deciding slot ends, or the calls do, the node is on all those lists": while the deciding slot has not been.
+abbrev pub Stays : ℕ → ℕ → Table → List Call → Type 0
+Stays n k start cs =
+    (s : ℕ) → Failed start s cs → isDecided n k start s cs ≡ false → OnAll n (tableAfter start cs) (sender n s)
+
+-- "At the end of it, off them all": the call c is the deciding slot, and there was none among the calls cs before it.
+abbrev pub Leaves : ℕ → ℕ → Table → Call → List Call → Type 0
+Leaves n k start c cs =
+    (s : ℕ) → Failed start s cs → isDecided n k start s cs ≡ false → isDeciding n k start s c cs ≡ true
+    → OffAll n (tableAfter start (c ∷ cs)) (sender n s)
+
+-- "If n - 1 slots ran after s, it is one of them."
+abbrev pub InTime : ℕ → ℕ → Table → List Call → Type 0
+InTime n k start cs =
+    (s : ℕ) → Failed start s cs → s + (n - 1) ≤ slotsOf (tableAfter start cs) → isDecided n k start s cs ≡ true
+
+-- "This is a single claim about the whole sequence of calls, not one for each call."
+pub record Claims (n k : ℕ) (start : Table) (cs : List Call) : Type 0 where
+  pub agree : AfterEach (Agree n start) cs
+  pub stays : AfterEach (Stays n k start) cs
+  pub leaves : AtEach (Leaves n k start) cs
+  pub in-time : AfterEach (InTime n k start) cs
+
+-- ---- demand 3
+
+-- For all n from 3 to 32 and all k from 2 to n - 1, whatever table of n records was lent to set-up: every sequence of calls from there that keeps what is
+-- assumed has what is claimed.
+unfoldable pub EverySequence : (assumed claimed : ℕ → ℕ → Table → List Call → Type 0) → Type 0
+EverySequence assumed claimed =
     (n k : ℕ) → 3 ≤ n → n ≤ 32 → 2 ≤ k → k ≤ n - 1
     → (lent : Table) → length lent ≡ n
-    → (cs : List Call) → Premises n k (setUpOf n k lent .table) cs → Claims n k (setUpOf n k lent .table) cs
+    → (cs : List Call) → assumed n k (setUpOf n k lent .table) cs → claimed n k (setUpOf n k lent .table) cs
+
+abbrev pub Demand3 : Type 0
+Demand3 = EverySequence Premises Claims

@@ -4,3 +4,4 @@ pub mod Pairs
 pub mod Outcomes
 pub mod Runs
 pub mod Demand
+pub mod Told

@@ -65,11 +65,12 @@ abbrev pub Tells : Table → Table → List Pair → Type 0
 Tells before after ps =
     (x kind : ℕ) → times (x, kind) ps ≡ num (isChanged before after x && eqb kind (kindOf before after x))
 
--- The lent bytes afterwards: the pairs in some order, then what stood there.
+-- The lent bytes afterwards: the pairs in some order, as many as nodes changed their states, and after two bytes for each what stood there.
 pub record Reported (before after : Table) (out written : List ℕ) : Type 0 where
   pub pairs : List Pair
   pub tells : Tells before after pairs
-  pub bytes : written ≡ bytesOf pairs ++ drop (2 * length pairs) out
+  pub number : length pairs ≡ changeCount before after
+  pub bytes : written ≡ bytesOf pairs ++ drop (2 * changeCount before after) out
 
 -- "The number of pairs is returned": none are told of a slot that is refused.
 abbrev pub pairsTold : Table → Called → ℕ

@@ -69,7 +69,6 @@ pub record Entry : Type 0 where
   pub listed : Bool  -- its sender is on the list
   pub sent : Bool  -- a message is sent and not lost
   pub outside : Bool  -- a message is sent, lost or not, by a sender that is not on the list
-  pub missed : ℕ → Bool  -- the member-state nodes that miss it
   pub failures : ℕ
 
 abbrev pub entryOf : Bool → ℕ → Table → Entry
@@ -77,13 +76,12 @@ entryOf lost missed t = record {
   listed = isListed t;
   sent = transmits t && not lost;
   outside = transmits t && not (isListed t);
-  missed = misses lost missed t;
   failures = failuresIn lost missed t;
 }
 
 -- A slot that did not run: nothing failed.
 abbrev pub noEntry : Entry
-noEntry = record { listed = true; sent = true; outside = false; missed = λ i. false; failures = 0 }
+noEntry = record { listed = true; sent = true; outside = false; failures = 0 }
 
 abbrev pub newEntry : Call → Table → Entry
 newEntry (slot lost missed room) t = entryOf lost missed t

@@ -305,11 +305,13 @@ done-told o t out (sound, room) =
     let at-most : r .count ≤ 32 = let h = few o 0 t in omega (arith, h, most, count-is) in
     let test : (leb (r .count) 32 && leb 64 (length out)) ≡ true = all (le-leb (r .count) 32 at-most) (le-leb 64 (length out) room) in
     let end-is : cond (leb (r .count) 32 && leb 64 (length out)) (r .count * 2) 0 ≡ r .count * 2 = chosen (r .count * 2) 0 test in
-    let twice : r .count * 2 ≡ 2 * length ps = omega (arith, count-is) in (
-      count-is ∙ told-count n k slots o t,
+    let number : length ps ≡ changeCount t (after o t) = told-count n k slots o t in
+    let twice : r .count * 2 ≡ 2 * changeCount t (after o t) = omega (arith, count-is, number) in (
+      count-is ∙ number,
       record {
         pairs = ps;
         tells = told-once n k slots o t (s .rows);
+        number = number;
         bytes = ap (λ (j : ℕ). puts (r .bytes) j out) end-is ∙ all-put (r .bytes) out (r .count * 2) (omega (arith, at-most, all-noted .size)) (omega (arith, at-most, room))
             ∙ ap₂ _++_ (all-noted .bytes ∙ ap (λ (j : ℕ). take (j * 2) (noPairs .bytes) ++ bytesOf ps) no-pairs-count) (ap (λ (j : ℕ). drop j out) twice);
       },

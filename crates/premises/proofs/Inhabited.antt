@@ -13,7 +13,7 @@ use Rattle.record.specs.declared.Cause.the-variants.{Unconfirmed}
 use Rattle.bench.specs.Table.{Table}
 use Rattle.bench.specs.Calls.{setUpOf}
 use Rattle.bench.specs.Runs.{tableAfter}
-use Rattle.bench.specs.Demand.{Premises, Claims, Demand3}
+use Rattle.bench.specs.Demand.{Premises, Claims, EverySequence}
 use Rattle.bench.proofs.Computed.{computed}
 use Rattle.bench.proofs.agreement.Places.{Placed}
 use Rattle.bench.proofs.agreement.Runs.{start-placed}
@@ -63,5 +63,5 @@ module _ (a b c d e : Node) where
 
   -- so demand 3 speaks of it
   pub claims-follow : Claims 5 2 start (reverse return)
-  unfolding Demand3
+  unfolding EverySequence
   claims-follow = demand3 5 2 (lit≤ tt) (lit≤ tt) (lit≤ tt) (lit≤ tt) lent refl (reverse return) premises-met

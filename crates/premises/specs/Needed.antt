@@ -1,15 +1,13 @@
 -- What it means that each premise of demand 3 is needed: a run that breaks it alone, and a claim with it.
-use Prim.Native.Nat.{ℕ, suc, _+_, _-_, _≤_}
+use Prim.Native.Nat.{ℕ, suc, _-_, _≤_}
 use mathlib.Core.Path.{_≡_}
-use mathlib.Core.Bool.{true}
 use mathlib.Core.List.{List}
 use lib.ListN.{length}
 use Rattle.nodeset.specs.Sums.{sum, num}
-use Rattle.nodeset.specs.Sets.{distance}
-use Rattle.bench.specs.Table.{Table, recordOf, slotsOf}
+use Rattle.bench.specs.Table.{Table}
 use Rattle.bench.specs.Calls.{setUpOf}
-use Rattle.bench.specs.Runs.{Call, tableAfter, entry}
-use Rattle.bench.specs.Demand.{AtEach, KeepsList, HearEverything, MemberAt, Failed, isDecided, Claims}
+use Rattle.bench.specs.Runs.{Call, entry}
+use Rattle.bench.specs.Demand.{AtEach, KeepsList, HearEverything, Claims, EverySequence}
 
 -- ---- the premises, one by one (the fields of Premises, bench's specs/Demand)
 
@@ -31,32 +29,19 @@ Others one-outside n k start cs = Holds few-failures n k start cs × Holds list-
 Others list-kept n k start cs = Holds few-failures n k start cs × Holds one-outside n k start cs × Holds all-heard n k start cs
 Others all-heard n k start cs = Holds few-failures n k start cs × Holds one-outside n k start cs × Holds list-kept n k start cs
 
--- ---- two of the claims (fields of Claims, bench's specs/Demand)
-
-abbrev pub Agree : ℕ → ℕ → Table → List Call → Type 0
-Agree n k start cs =
-    (i j : ℕ) → MemberAt n (tableAfter start cs) i → MemberAt n (tableAfter start cs) j
-    → distance n (recordOf (tableAfter start cs) i .set) (recordOf (tableAfter start cs) j .set) ≡ 0
-
-abbrev pub InTime : ℕ → ℕ → Table → List Call → Type 0
-InTime n k start cs = (s : ℕ) → Failed start s cs → s + (n - 1) ≤ slotsOf (tableAfter start cs) → isDecided n k start s cs ≡ true
-
--- ---- a run that breaks just this premise, and this claim with it
+-- ---- a run that breaks just this premise, and with it this claim of the table that it ends in
 
 -- "n from 3 to 32. k is from 2 to n - 1" ("The ring").
 abbrev pub InRange : ℕ → ℕ → Type 0
 InRange n k = (3 ≤ n) × (n ≤ 32) × (2 ≤ k) × (k ≤ n - 1)
 
-pub record Bites (p : Premise) (Claim : ℕ → ℕ → Table → List Call → Type 0) (n k : ℕ) (lent : Table) (cs : List Call) : Type 0 where
+pub record Bites (p : Premise) (Claim : Table → List Call → Type 0) (n k : ℕ) (lent : Table) (cs : List Call) : Type 0 where
   pub in-range : InRange n k
   pub one-each : length lent ≡ n
   pub others : Others p n k (setUpOf n k lent .table) cs
   pub broken : Holds p n k (setUpOf n k lent .table) cs → ⊥
-  pub fails : Claim n k (setUpOf n k lent .table) cs → ⊥
+  pub fails : Claim (setUpOf n k lent .table) cs → ⊥
 
 -- Demand 3 with the premises but this one.
-unfoldable pub Without : Premise → Type 0
-Without p =
-    (n k : ℕ) → 3 ≤ n → n ≤ 32 → 2 ≤ k → k ≤ n - 1
-    → (lent : Table) → length lent ≡ n
-    → (cs : List Call) → Others p n k (setUpOf n k lent .table) cs → Claims n k (setUpOf n k lent .table) cs
+abbrev pub Without : Premise → Type 0
+Without p = EverySequence (Others p) Claims

@@ -1,5 +1,6 @@
 -- Demand 3 holds (bench's specs/Demand): the lists agree because each is the one list of the invariant; a node whose slot failed stays on it while fewer than k
--- listed slots have been since, and that is until its deciding slot. Assumes nothing.
+-- listed slots have been since, and that is until its deciding slot. This is shown of the table after all the calls; the premises hold of each beginning of a
+-- sequence, so it is true after each call. Assumes nothing.
 use Prim.Native.Nat.{ℕ, suc, _+_, _-_, _≤_, _<_}
 use mathlib.Core.Path.{_≡_, refl, sym, ap, _∙_, subst}
 use mathlib.Core.Logic.{_≢_}
@@ -20,21 +21,23 @@ use Rattle.ring.proofs.Senders.{sender-period}
 use Rattle.record.specs.Soundness.{sound, limit}
 use Rattle.steps.specs.Steps.{isFound}
 use Rattle.bench.specs.Table.{Table, recordOf, slotsOf, speaker}
-use Rattle.bench.specs.Runs.{Call, slot, off, restart, tableAfter, isSlot, listOf, Entry, entryOf, entry}
-use Rattle.bench.specs.Demand.{AtEach, KeepsList, HearEverything, memberAfter, isDeciding, isDecided, Failed, MemberAt, OnAll, OffAll, Claims, Demand3}
+use Rattle.bench.specs.Calls.{setUpOf}
+use Rattle.bench.specs.Runs.{Call, slot, off, restart, tableAfter, isSlot, listOf, Entry, entry}
+use Rattle.bench.specs.Demand.{AtEach, AfterEach, KeepsList, HearEverything, Premises, memberAfter, isDeciding, isDecided, Failed, MemberAt, OffAll, Agree, Stays, Leaves, InTime, EverySequence, Demand3}
+use Rattle.bench.proofs.agreement.Past.{pastOf, past, entryIn, entry-is}
 use Rattle.bench.proofs.agreement.History.{World, lst, full-round, num-is, num-isnt}
 use Rattle.bench.proofs.agreement.Marks.{no-both}
 use Rattle.bench.proofs.agreement.Returns.{found-it}
 use Rattle.bench.proofs.agreement.Alike.{member-tracks}
 use Rattle.bench.proofs.agreement.Places.{Placed}
 use Rattle.bench.proofs.agreement.Accepted.{off-no-slot, restart-no-slot}
-use Rattle.bench.proofs.agreement.Runs.{below-limit, placed-run, slots-next}
-use Rattle.bench.proofs.agreement.Beginnings.{Beginning, whole, shorter, entry-stable, decided-later}
+use Rattle.bench.proofs.agreement.Runs.{start-placed, below-limit, placed-run, slots-next}
+use Rattle.bench.proofs.agreement.Beginnings.{Beginning, whole, shorter, past-stable, decided-later, at-each, after-each}
 use Rattle.bench.proofs.agreement.Tables.{list-is}
 use Rattle.bench.proofs.agreement.Slots.{speaker-is, list, listed-is}
 use Rattle.bench.proofs.agreement.Leaving.{not-found, deciding, undecided}
 use Rattle.bench.proofs.agreement.Kept as kept
-use Rattle.bench.proofs.agreement.Kept.{Given, Run, run, none-yet, entry-at}
+use Rattle.bench.proofs.agreement.Kept.{Given, Run, run, none-yet, past-at}
 
 module _ (G : Given) where
   open Given G using (n, k, three, all, premises)
@@ -75,8 +78,8 @@ module _ (G : Given) where
       N : ℕ
       N = slotsOf (tableAfter start cs) + n
 
-      eq : W .E (suc (slotsOf (tableAfter start cs) + n)) ≡ entryOf lost missed (tableAfter start cs)
-      eq = entry-at G lost missed room cs b e
+      eq : W .E (suc (slotsOf (tableAfter start cs) + n)) ≡ pastOf lost missed (tableAfter start cs)
+      eq = past-at G lost missed room cs b e
 
       good : (i : ℕ) → 1 ≤ i → i ≤ n → sound (recordOf (tableAfter start cs) i) ≡ true
       good i h l = placed-run n k pos start begins cs .at i h l .is-sound
@@ -172,7 +175,7 @@ module _ (G : Given) where
       before e (over d) = over (undeciding c cs s e ∙ d)
       before e (waiting d x ago recent w) = waiting (undeciding c cs s e ∙ d) x (omega (arith, slots-next n k pos start begins c cs, num-isnt e)) recent w
 
-  -- ---- the claims
+  -- ---- the claims after all the calls
 
   abbrev T : Table
   T = tableAfter start all
@@ -183,13 +186,16 @@ module _ (G : Given) where
   member-set : (i : ℕ) → MemberAt n T i → recordOf T i .set ≡ final .0
   member-set i m = final .1 .nodes i (m .0) (m .1) .track (member-tracks (recordOf T i .state) (m .2)) .set-is
 
-  agrees : (i j : ℕ) → MemberAt n T i → MemberAt n T j → distance n (recordOf T i .set) (recordOf T j .set) ≡ 0
+  agrees : Agree n start all
   agrees i j a b = ap (λ (x : ℕ). distance n x (recordOf T j .set)) (member-set i a ∙ sym (member-set j b)) ∙ distance-same n (recordOf T j .set)
 
-  entry-now : (s : ℕ) → W .E (s + n) ≡ entry start all s
-  entry-now s = let z : s + n - n ≡ s = omega arith in ap (entry start all) z
+  past-now : (s : ℕ) → W .E (s + n) ≡ past start all s
+  past-now s = let z : s + n - n ≡ s = omega arith in ap (past start all) z
 
-  stays-on : (s : ℕ) → Failed start s all → isDecided n k start s all ≡ false → OnAll n T (sender n s)
+  entry-now : (s : ℕ) → entryIn (W .E (s + n)) ≡ entry start all s
+  entry-now s = ap entryIn (past-now s) ∙ sym (entry-is start all s)
+
+  stays-on : Stays n k start all
   stays-on s f d i m = ap (λ (x : ℕ). has x (sender n s)) (member-set i m) ∙ ap (has (final .0)) (sym (same-sender s (f .0))) ∙ go (status all whole (premises .list-kept) (premises .all-heard) s (f .0) (f .1))
     where
       go : Status (slotsOf T + n) (s + n) (isDecided n k start s all) → has (final .0) (sender n (s + n)) ≡ true
@@ -197,7 +203,7 @@ module _ (G : Given) where
       go (waiting x e ago recent w) = final .1 .kept (s + n) e ago (omega arith) .waits
           (ap (λ (y : Entry). y .listed) (entry-now s) ∙ f .2) (ap (λ (y : Entry). y .sent) (entry-now s) ∙ f .3) w
 
-  decided-in-time : (s : ℕ) → Failed start s all → s + (n - 1) ≤ slotsOf T → isDecided n k start s all ≡ true
+  decided-in-time : InTime n k start all
   decided-in-time s f h = go (status all whole (premises .list-kept) (premises .all-heard) s (f .0) (f .1))
     where
       go : Status (slotsOf T + n) (s + n) (isDecided n k start s all) → isDecided n k start s all ≡ true
@@ -231,23 +237,38 @@ module _ (G : Given) where
         here : slotsOf T ≡ slotsOf (tableAfter start before) + 1
         here = ap (λ (x : List Call). slotsOf (tableAfter start x)) is ∙ slots-next n k pos start begins c before ∙ ap (λ (x : Bool). slotsOf (tableAfter start before) + num x) is-slot
 
-        known : entry start all s ≡ entry start before s
-        known = entry-stable n k pos start begins all before (shorter b) s (f .1)
+        entry-then : entryIn (W .E (s + n)) ≡ entry start before s
+        entry-then = ap entryIn (past-now s ∙ past-stable n k pos start begins all before (shorter b) s (f .1)) ∙ sym (entry-is start before s)
 
         go : Status (slotsOf (tableAfter start before) + n) (s + n) (isDecided n k start s before) → has (final .0) (sender n (s + n)) ≡ false
         go (over x) = absurd (no-both x nd)
         go (waiting x e ago recent w) = final .1 .kept (s + n) (suc e) (omega (arith, here)) recent .dropped
-            (ap (λ (y : Entry). y .listed) (entry-now s ∙ known) ∙ f .2) (ap (λ (y : Entry). y .sent) (entry-now s ∙ known) ∙ f .3)
+            (ap (λ (y : Entry). y .listed) entry-then ∙ f .2) (ap (λ (y : Entry). y .sent) entry-then ∙ f .3)
             (deciding W (slotsOf (tableAfter start before) + n) (r .0) (r .1 .kept) (sl .enough-at) (sl .listed-at) (s + n) e (omega arith) ago recent w
             (test-yes c before _ (r .0) s sl (f .0) (sym (deciding-parts c before s is-slot (f .1)) ∙ dg)))
 
     leaves-all : OffAll n T (sender n s)
     leaves-all i m = ap (λ (x : ℕ). has x (sender n s)) (member-set i m) ∙ ap (has (final .0)) (sym (same-sender s (f .0))) ∙ leaving
 
-  pub claims : Claims n k start all
-  claims = record { agree = agrees; stays = stays-on; leaves = leaves-all; in-time = decided-in-time }
+-- ---- over the whole sequence
 
 pub demand3 : Demand3
-unfolding Demand3
-demand3 n k three most two fewer lent one-each cs p =
-    claims (record { n = n; k = k; three = three; most = most; two = two; fewer = fewer; lent = lent; one-each = one-each; all = cs; premises = p })
+unfolding EverySequence
+demand3 n k three most two fewer lent one-each cs p = record {
+  agree = after (Agree n first) (λ x q. agrees (given x q));
+  stays = after (Stays n k first) (λ x q. stays-on (given x q));
+  leaves = at-each n k (omega arith) first placed (Leaves n k first) (λ c x q s. leaves-all (given (c ∷ x) q) s c x refl) cs p;
+  in-time = after (InTime n k first) (λ x q. decided-in-time (given x q));
+}
+  where
+    first : Table
+    first = setUpOf n k lent .table
+
+    placed : Placed n k 0 first
+    placed = start-placed n k three most two fewer lent one-each
+
+    given : (x : List Call) → Premises n k first x → Given
+    given x q = record { n = n; k = k; three = three; most = most; two = two; fewer = fewer; lent = lent; one-each = one-each; all = x; premises = q }
+
+    after : (P : List Call → Type 0) → ((x : List Call) → Premises n k first x → P x) → AfterEach P cs
+    after P h = after-each n k (omega arith) first placed P h cs p

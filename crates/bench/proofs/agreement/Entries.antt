@@ -9,56 +9,60 @@ use lib.Dec.{eqb}
 use lib.ListN.{length}
 use borrow.Author.Tests.{eq-eqb, ne-eqb}
 use Rattle.nodeset.specs.Sums.{sum, num}
-use Rattle.nodeset.proofs.Sums.{sum-none, sum-next, sum-split, sum-zero}
+use Rattle.nodeset.proofs.Sums.{sum-none, sum-next, sum-split, sum-zero, sum-same}
 use Rattle.nodeset.proofs.Tests.{chosen, otherwise, all}
 use Rattle.bench.specs.Table.{Table, ringOf, slotsOf}
 use Rattle.bench.specs.Calls.{transmits}
-use Rattle.bench.specs.Runs.{Call, slot, off, restart, tableAfter, isSlot, isListed, misses, failuresIn, Entry, entryOf, noEntry, newEntry, entry}
+use Rattle.bench.specs.Runs.{Call, slot, off, restart, tableAfter, isSlot, isListed, misses, failuresIn, Entry, noEntry, entry}
 use Rattle.bench.specs.Demand.{Premises}
+use Rattle.bench.proofs.agreement.Past.{Past, pastOf, noPast, newPast, past, entryIn, entry-is}
 use Rattle.bench.proofs.agreement.History.{sum-more, Fair, World, num-is}
 use Rattle.bench.proofs.agreement.Outcome.{choose}
 use Rattle.bench.proofs.agreement.Places.{Placed}
 use Rattle.bench.proofs.agreement.Runs.{run-length, slots-next}
 
--- ---- which entry a slot has
+-- ---- what a slot was
 
 and-no : (a : Bool) {b : Bool} → b ≡ false → (a && b) ≡ false
 and-no true e = e
 and-no false e = refl
 
 -- the last call is not slot u
-entry-other : (start : Table) (c : Call) (cs : List Call) (u : ℕ) → (u ≡ slotsOf (tableAfter start cs) + 1 → ⊥) → entry start (c ∷ cs) u ≡ entry start cs u
-unfolding entry
-entry-other start c cs u h = otherwise _ _ (and-no (isSlot c (tableAfter start cs)) (ne-eqb u (slotsOf (tableAfter start cs) + 1) h))
+past-other : (start : Table) (c : Call) (cs : List Call) (u : ℕ) → (u ≡ slotsOf (tableAfter start cs) + 1 → ⊥) → past start (c ∷ cs) u ≡ past start cs u
+unfolding past
+past-other start c cs u h = otherwise _ _ (and-no (isSlot c (tableAfter start cs)) (ne-eqb u (slotsOf (tableAfter start cs) + 1) h))
 
-pub entry-zero : (start : Table) (cs : List Call) → entry start cs 0 ≡ noEntry
-unfolding entry
-entry-zero start [] = refl
-entry-zero start (c ∷ cs) = entry-other start c cs 0 (λ e. omega arith) ∙ entry-zero start cs
+pub past-zero : (start : Table) (cs : List Call) → past start cs 0 ≡ noPast
+unfolding past
+past-zero start [] = refl
+past-zero start (c ∷ cs) = past-other start c cs 0 (λ e. omega arith) ∙ past-zero start cs
+
+pub past-old : (start : Table) (c : Call) (cs : List Call) (u : ℕ) → u ≤ slotsOf (tableAfter start cs) → past start (c ∷ cs) u ≡ past start cs u
+past-old start c cs u h = past-other start c cs u (λ e. omega arith)
+
+pub past-new : (start : Table) (c : Call) (cs : List Call) → isSlot c (tableAfter start cs) ≡ true
+    → past start (c ∷ cs) (slotsOf (tableAfter start cs) + 1) ≡ newPast c (tableAfter start cs)
+unfolding past
+past-new start c cs e = chosen _ _ (all e (eq-eqb (slotsOf (tableAfter start cs) + 1) (slotsOf (tableAfter start cs) + 1) refl))
+
+-- a call that is no slot adds nothing
+pub past-none : (start : Table) (c : Call) (cs : List Call) (u : ℕ) → isSlot c (tableAfter start cs) ≡ false → past start (c ∷ cs) u ≡ past start cs u
+unfolding past
+past-none start c cs u e = otherwise _ _ (ap (λ (b : Bool). b && eqb u (slotsOf (tableAfter start cs) + 1)) e)
 
 pub entry-old : (start : Table) (c : Call) (cs : List Call) (u : ℕ) → u ≤ slotsOf (tableAfter start cs) → entry start (c ∷ cs) u ≡ entry start cs u
-entry-old start c cs u h = entry-other start c cs u (λ e. omega arith)
+entry-old start c cs u h = entry-is start (c ∷ cs) u ∙ ap entryIn (past-old start c cs u h) ∙ sym (entry-is start cs u)
 
-pub entry-new : (start : Table) (c : Call) (cs : List Call) → isSlot c (tableAfter start cs) ≡ true
-    → entry start (c ∷ cs) (slotsOf (tableAfter start cs) + 1) ≡ newEntry c (tableAfter start cs)
-unfolding entry
-entry-new start c cs e = chosen _ _ (all e (eq-eqb (slotsOf (tableAfter start cs) + 1) (slotsOf (tableAfter start cs) + 1) refl))
+-- ---- what that tells
 
--- a call that is no slot adds no entry
-pub entry-none : (start : Table) (c : Call) (cs : List Call) (u : ℕ) → isSlot c (tableAfter start cs) ≡ false → entry start (c ∷ cs) u ≡ entry start cs u
-unfolding entry
-entry-none start c cs u e = otherwise _ _ (ap (λ (b : Bool). b && eqb u (slotsOf (tableAfter start cs) + 1)) e)
-
--- ---- what an entry tells
-
-fair-none : (n : ℕ) → Fair n noEntry
+fair-none : (n : ℕ) → Fair n noPast
 fair-none n = record {
-  count = λ _. omega (arith, sum-zero (λ i. num (noEntry .missed i)) 1 n (λ u p q. refl));
+  count = λ _. omega (arith, sum-zero (λ i. num (noPast .missed i)) 1 n (λ u p q. refl));
   unsent = λ p. absurd (true≢false p);
   outer = λ _ p. absurd (true≢false p);
 }
 
-fair-slot : (n : ℕ) (t : Table) (lost : Bool) (missed : ℕ) → length t ≡ n → Fair n (entryOf lost missed t)
+fair-slot : (n : ℕ) (t : Table) (lost : Bool) (missed : ℕ) → length t ≡ n → Fair n (pastOf lost missed t)
 unfolding failuresIn
 fair-slot n t lost missed l = record {
   count = λ p. count (transmits t) lost p;
@@ -83,29 +87,32 @@ fair-slot n t lost missed l = record {
     outer true b p q = ap not q
     outer false b p q = absurd (false≢true p)
 
-fair-new : (n : ℕ) (c : Call) (t : Table) → length t ≡ n → Fair n (newEntry c t)
+fair-new : (n : ℕ) (c : Call) (t : Table) → length t ≡ n → Fair n (newPast c t)
 fair-new n (slot lost missed room) t l = fair-slot n t lost missed l
 fair-new n (off a) t l = fair-none n
 fair-new n (restart a) t l = fair-none n
 
 module _ (n k : ℕ) (pos : 1 ≤ n) (start : Table) (begins : Placed n k 0 start) where
-  -- a slot that did not run has no entry
-  pub entry-later : (cs : List Call) (u : ℕ) → slotsOf (tableAfter start cs) < u → entry start cs u ≡ noEntry
-  unfolding entry
-  entry-later [] u h = refl
-  entry-later (c ∷ cs) u h = go (isSlot c (tableAfter start cs)) refl (entry-later cs u (omega (arith, slots-next n k pos start begins c cs)))
+  -- a slot that did not run
+  pub past-later : (cs : List Call) (u : ℕ) → slotsOf (tableAfter start cs) < u → past start cs u ≡ noPast
+  unfolding past
+  past-later [] u h = refl
+  past-later (c ∷ cs) u h = go (isSlot c (tableAfter start cs)) refl (past-later cs u (omega (arith, slots-next n k pos start begins c cs)))
     where
-      go : (b : Bool) → isSlot c (tableAfter start cs) ≡ b → entry start cs u ≡ noEntry → entry start (c ∷ cs) u ≡ noEntry
-      go false e r = entry-none start c cs u e ∙ r
-      go true e r = entry-other start c cs u (λ z. omega (arith, slots-next n k pos start begins c cs, num-is e)) ∙ r
+      go : (b : Bool) → isSlot c (tableAfter start cs) ≡ b → past start cs u ≡ noPast → past start (c ∷ cs) u ≡ noPast
+      go false e r = past-none start c cs u e ∙ r
+      go true e r = past-other start c cs u (λ z. omega (arith, slots-next n k pos start begins c cs, num-is e)) ∙ r
 
-  pub entry-fair : (cs : List Call) (u : ℕ) → Fair n (entry start cs u)
-  unfolding entry
-  entry-fair [] u = fair-none n
-  entry-fair (c ∷ cs) u =
-      choose (λ (e : Entry). Fair n e) (isSlot c (tableAfter start cs) && eqb u (slotsOf (tableAfter start cs) + 1)) (newEntry c (tableAfter start cs)) (entry start cs u)
+  pub entry-later : (cs : List Call) (u : ℕ) → slotsOf (tableAfter start cs) < u → entry start cs u ≡ noEntry
+  entry-later cs u h = entry-is start cs u ∙ ap entryIn (past-later cs u h)
+
+  pub past-fair : (cs : List Call) (u : ℕ) → Fair n (past start cs u)
+  unfolding past
+  past-fair [] u = fair-none n
+  past-fair (c ∷ cs) u =
+      choose (λ (e : Past). Fair n e) (isSlot c (tableAfter start cs) && eqb u (slotsOf (tableAfter start cs) + 1)) (newPast c (tableAfter start cs)) (past start cs u)
       (λ _. fair-new n c (tableAfter start cs) (run-length n k pos start begins cs))
-      (λ _. entry-fair cs u)
+      (λ _. past-fair cs u)
 
 -- ---- n slots in a row, with a round before the first
 
@@ -141,6 +148,10 @@ any-round f n c z h a = go (decLe n a)
           h 0,
         )
 
+-- what is counted of the entries
+pub same-count : (f : Entry → ℕ) (start : Table) (cs : List Call) (a m : ℕ) → sum (λ u. f (entryIn (past start cs u))) a m ≡ sum (λ u. f (entry start cs u)) a m
+same-count f start cs a m = sum-same (λ u. f (entryIn (past start cs u))) (λ u. f (entry start cs u)) a m (λ u _ _. ap f (sym (entry-is start cs u)))
+
 -- the world of a sequence of calls
 abbrev pub world : (n k : ℕ) → 3 ≤ n → n ≤ 32 → 2 ≤ k → k ≤ n - 1 → (start : Table) → Placed n k 0 start → (cs : List Call) → Premises n k start cs → World
 world n k three most two fewer start begins cs p = record {
@@ -150,9 +161,9 @@ world n k three most two fewer start begins cs p = record {
   n-most = most;
   k-two = two;
   k-lt = omega arith;
-  E = λ q. entry start cs (q - n);
-  fair = λ q. entry-fair n k (omega arith) start begins cs (q - n);
-  early = λ q h. let z : q - n ≡ 0 = omega arith in ap (entry start cs) z ∙ entry-zero start cs;
-  few = λ a. omega (arith, any-round (λ u. entry start cs u .failures) n (k - 1) (ap (λ (e : Entry). e .failures) (entry-zero start cs)) (p .few-failures) a);
-  once = λ a. any-round (λ u. num (entry start cs u .outside)) n 1 (ap (λ (e : Entry). num (e .outside)) (entry-zero start cs)) (p .one-outside) a;
+  E = λ q. past start cs (q - n);
+  fair = λ q. past-fair n k (omega arith) start begins cs (q - n);
+  early = λ q h. let z : q - n ≡ 0 = omega arith in ap (past start cs) z ∙ past-zero start cs;
+  few = λ a. omega (arith, any-round (λ u. past start cs u .failures) n (k - 1) (ap (λ (e : Past). e .failures) (past-zero start cs)) (λ b. omega (arith, p .few-failures b, same-count (λ e. e .failures) start cs (suc b) n)) a);
+  once = λ a. any-round (λ u. num (past start cs u .outside)) n 1 (ap (λ (e : Past). num (e .outside)) (past-zero start cs)) (λ b. omega (arith, p .one-outside b, same-count (λ e. num (e .outside)) start cs (suc b) n)) a;
 }

@@ -21,7 +21,7 @@ use Rattle.record.specs.declared.Window.{Window}
 use Rattle.changes.specs.Changes.{listeningAfter, followingWith, withWindow}
 use Rattle.steps.specs.Steps.{isHeard}
 use Rattle.hearing.specs.Hearing.{overheard, clean, windowEnd, listeningSlot}
-use Rattle.bench.specs.Runs.{Entry}
+use Rattle.bench.proofs.agreement.Past.{Past}
 use Rattle.bench.proofs.agreement.History.{World, K, KFact}
 use Rattle.bench.proofs.agreement.Invariant.{Tracking, ListeningInv}
 use Rattle.bench.proofs.agreement.Marks.{no-both, not-true, not-false, bitsIn}
@@ -187,7 +187,7 @@ module _ (W : World) where
             sent-case p = heard-at u e z h ∙ p ∙ sym (f .spoke (all-listed u e z h p) p)
 
             twice : E u .sent ≡ false → E u .listed ≡ true → Dec (u ≤ n) → ⊥
-            twice p q (yes y) = no-both (ap (λ (b : Entry). b .sent) (early u y)) p
+            twice p q (yes y) = no-both (ap (λ (b : Past). b .sent) (early u y)) p
             twice p q (no y) =
                 let w : ℕ = u - n in
                 let x : w + n ≡ u = omega arith in

@@ -15,7 +15,7 @@ use Rattle.ring.specs.Answers.{beforeOf, sponsoredOf, decidedOf}
 use Rattle.ring.proofs.Senders.{sender-range, round, size-round}
 use Rattle.ring.proofs.Walks as walks
 use Rattle.ring.proofs.Walks.{Met, walk-meets, before-is, others}
-use Rattle.bench.specs.Runs.{Entry, noEntry}
+use Rattle.bench.proofs.agreement.Past.{Past, noPast}
 
 -- a longer window has no smaller sum
 pub sum-more : (f : ℕ → ℕ) (a m d : ℕ) → sum f a m ≤ sum f a (m + d)
@@ -38,7 +38,7 @@ module _ (n k : ℕ) (speaks : ℕ → ℕ) (listed failures : ℕ → ℕ) (mis
       let a₃ : sum failures u (suc m) ≤ sum failures u n = rw (← e₂) (sum-more failures u (suc m) d) in
       omega (arith, a₁, a₂, a₃, sum-add failures miss (suc u) m, sum-first failures u m, cm)
 
-pub record Fair (n : ℕ) (e : Entry) : Type 0 where
+pub record Fair (n : ℕ) (e : Past) : Type 0 where
   pub count : e .sent ≡ true → sum (λ i. num (e .missed i)) 1 n ≤ e .failures
   pub unsent : e .sent ≡ false → e .listed ≡ true → 1 ≤ e .failures
   pub outer : e .sent ≡ true → e .listed ≡ false → e .outside ≡ true
@@ -51,9 +51,9 @@ pub record World : Type 0 where
   pub n-most : n ≤ 32
   pub k-two : 2 ≤ k
   pub k-lt : k < n
-  pub E : ℕ → Entry
+  pub E : ℕ → Past
   pub fair : (q : ℕ) → Fair n (E q)
-  pub early : (q : ℕ) → q ≤ n → E q ≡ noEntry
+  pub early : (q : ℕ) → q ≤ n → E q ≡ noPast
   pub few : (a : ℕ) → sum (λ u. E u .failures) (suc a) n < k
   pub once : (a : ℕ) → sum (λ u. num (E u .outside)) (suc a) n ≤ 1
 

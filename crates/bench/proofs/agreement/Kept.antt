@@ -13,14 +13,15 @@ use Rattle.node.specs.declared.Stepped.{Stepped}
 use Rattle.node.specs.Calls.{offOf, restartOf}
 use Rattle.bench.specs.Table.{Table, tableSound, ringOf, slotsOf}
 use Rattle.bench.specs.Calls.{setUpOf, afterSlot}
-use Rattle.bench.specs.Runs.{Call, slot, off, restart, tableAfter, isSlot, entryOf, entry}
+use Rattle.bench.specs.Runs.{Call, slot, off, restart, tableAfter, isSlot}
 use Rattle.bench.specs.Demand.{AtEach, KeepsList, HearEverything, Premises}
+use Rattle.bench.proofs.agreement.Past.{pastOf, past}
 use Rattle.bench.proofs.agreement.History.{World, num-is, num-isnt}
 use Rattle.bench.proofs.agreement.Places.{Placed, slots-of-placed}
 use Rattle.bench.proofs.agreement.Accepted.{slot-done, slot-refused, off-done, off-refused, off-no-slot, restarts, restart-done, restart-refused, restart-no-slot}
 use Rattle.bench.proofs.agreement.Runs.{start-table, start-placed, below-limit, placed-run, never-unsound, slots-next}
 use Rattle.bench.proofs.agreement.Entries.{world}
-use Rattle.bench.proofs.agreement.Beginnings.{Beginning, shorter, entry-here}
+use Rattle.bench.proofs.agreement.Beginnings.{Beginning, shorter, past-here}
 use Rattle.bench.proofs.agreement.Tables.{TableInv, off-keeps, restart-keeps, start-keeps}
 use Rattle.bench.proofs.agreement.Slots.{slot-keeps}
 
@@ -83,16 +84,16 @@ module _ (G : Given) where
   unfolding tableAfter
   refused-table lost missed room cs e = slot-refused lost missed room (tableAfter start cs) e
 
-  pub entry-at : (lost : Bool) (missed room : ℕ) (cs : List Call) → Beginning all (slot lost missed room ∷ cs) → isSlot (slot lost missed room) (tableAfter start cs) ≡ true
-      → W .E (suc (slotsOf (tableAfter start cs) + n)) ≡ entryOf lost missed (tableAfter start cs)
-  entry-at lost missed room cs b e =
+  pub past-at : (lost : Bool) (missed room : ℕ) (cs : List Call) → Beginning all (slot lost missed room ∷ cs) → isSlot (slot lost missed room) (tableAfter start cs) ≡ true
+      → W .E (suc (slotsOf (tableAfter start cs) + n)) ≡ pastOf lost missed (tableAfter start cs)
+  past-at lost missed room cs b e =
       let z : suc (slotsOf (tableAfter start cs) + n) - n ≡ slotsOf (tableAfter start cs) + 1 = omega arith in
-      ap (entry start all) z ∙ entry-here n k pos start begins all (slot lost missed room) cs b e
+      ap (past start all) z ∙ past-here n k pos start begins all (slot lost missed room) cs b e
 
   slot-case : (lost : Bool) (missed room : ℕ) (cs : List Call) → Beginning all (slot lost missed room ∷ cs) → KeepsList n k start (slot lost missed room) cs → HearEverything n start (slot lost missed room) cs
       → isSlot (slot lost missed room) (tableAfter start cs) ≡ true → Run cs → Run (slot lost missed room ∷ cs)
   unfolding KeepsList HearEverything
-  slot-case lost missed room cs b kl he e r = go (slot-keeps W (slotsOf (tableAfter start cs) + n) (r .0) (tableAfter start cs) lost missed (r .1) (entry-at lost missed room cs b e) (kl e .0) (he e)
+  slot-case lost missed room cs b kl he e r = go (slot-keeps W (slotsOf (tableAfter start cs) + n) (r .0) (tableAfter start cs) lost missed (r .1) (past-at lost missed room cs b e) (kl e .0) (he e)
       (λ i h l. placed cs .at i h l .is-sound) (below-limit n k _ _ pos (placed cs) lost missed room e) (rw (← tb) (kl e .1)))
     where
       tb : tableAfter start (slot lost missed room ∷ cs) ≡ afterSlot lost missed (tableAfter start cs)

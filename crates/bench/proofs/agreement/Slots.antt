@@ -30,8 +30,9 @@ use Rattle.node.specs.declared.Stepped.{Stepped}
 use Rattle.node.specs.Calls as calls
 use Rattle.bench.specs.Table.{Table, recordOf, slotsOf, speaker}
 use Rattle.bench.specs.Calls.{transmits, unheard, spoken, heardBy, afterSlot}
-use Rattle.bench.specs.Runs.{Entry, slot, listOf, isListed, misses, entryOf}
+use Rattle.bench.specs.Runs.{slot, listOf, isListed, misses}
 use Rattle.bench.specs.Demand.{AllHear}
+use Rattle.bench.proofs.agreement.Past.{Past, pastOf}
 use Rattle.bench.proofs.agreement.History.{World, K, decision, ks-is}
 use Rattle.bench.proofs.agreement.Invariant.{Tracking}
 use Rattle.bench.proofs.agreement.Marks.{no-both, not-true, not-false, bitsIn}
@@ -49,7 +50,7 @@ use Rattle.bench.proofs.agreement.Reached.{hear, hear-message, unheard-
 module _ (W : World) where
   open World W using (n, k, n-pos, n-most, k-two, k-lt, E)
 
-  module _ (N L : ℕ) (t : Table) (lost : Bool) (missed : ℕ) (inv : TableInv W N L t) (eq : E (suc N) ≡ entryOf lost missed t)
+  module _ (N L : ℕ) (t : Table) (lost : Bool) (missed : ℕ) (inv : TableInv W N L t) (eq : E (suc N) ≡ pastOf lost missed t)
       (enough : k + 1 ≤ size n (listOf t)) (hears : AllHear n (slot lost missed 64) t)
       (good : (i : ℕ) → 1 ≤ i → i ≤ n → sound (recordOf t i) ≡ true) (below : slotsOf t < limit) where
     abbrev s : ℕ
@@ -72,14 +73,14 @@ module _ (W : World) where
 
     pub listed-is : E (suc N) .listed ≡ has L (sender n (suc N))
     unfolding isListed
-    listed-is = ap (λ (e : Entry). e .listed) eq ∙ ap (λ (x : ℕ). has x (speaker t)) list ∙ ap (has L) speaker-is
+    listed-is = ap (λ (e : Past). e .listed) eq ∙ ap (λ (x : ℕ). has x (speaker t)) list ∙ ap (has L) speaker-is
 
     transmits-is : transmits t ≡ sends (recordOf t s)
     unfolding transmits
     transmits-is = ap (λ (x : ℕ). sends (recordOf t x)) speaker-is
 
     sent-is : E (suc N) .sent ≡ (transmits t && not lost)
-    sent-is = ap (λ (e : Entry). e .sent) eq
+    sent-is = ap (λ (e : Past). e .sent) eq
 
     sent-sends : E (suc N) .sent ≡ true → sends (recordOf t s) ≡ true
     sent-sends p = sym transmits-is ∙ sent-parts (transmits t) lost (sym sent-is ∙ p) .0
@@ -209,7 +210,7 @@ module _ (W : World) where
             let mem : isMember (recordOf t i .state) ≡ true = not-out (recordOf t i .state) tr (all-hear p ne q) in
             let parts = sent-parts (transmits t) lost (sym sent-is ∙ p) in
             let no-own : eqb i (speaker t) ≡ false = ne-eqb i (speaker t) (λ x. ne (x ∙ speaker-is)) in
-            (mem, ap (λ (e : Entry). e .missed i) eq ∙ all-true (isMember (recordOf t i .state)) (transmits t) lost (has missed i) (eqb i (speaker t)) mem (parts .0) (parts .1) q no-own)
+            (mem, ap (λ (e : Past). e .missed i) eq ∙ all-true (isMember (recordOf t i .state)) (transmits t) lost (has missed i) (eqb i (speaker t)) mem (parts .0) (parts .1) q no-own)
           where
             all-true : (a b c d e : Bool) → a ≡ true → b ≡ true → c ≡ false → d ≡ true → e ≡ false → (a && (b && (not c && (d && not e)))) ≡ true
             all-true a b c d e p q r x y = rw (p, q, r, x, y) refl
@@ -307,7 +308,7 @@ module _ (W : World) where
 
         own-slot : (i : ℕ) → OwnSlot W N i (recordOf t i)
         own-slot i = record {
-          out = λ p q. ap (λ (e : Entry). e .outside) eq ∙ both (transmits t) (isListed t) (transmits-is ∙ ap (λ (x : ℕ). sends (recordOf t x)) (sym p) ∙ q) (sym (ap (λ (e : Entry). e .listed) eq) ∙ lT);
+          out = λ p q. ap (λ (e : Past). e .outside) eq ∙ both (transmits t) (isListed t) (transmits-is ∙ ap (λ (x : ℕ). sends (recordOf t x)) (sym p) ∙ q) (sym (ap (λ (e : Past). e .listed) eq) ∙ lT);
           sent = λ p q. ap (λ (x : ℕ). sends (recordOf t x)) p ∙ sent-sends q;
         }
           where

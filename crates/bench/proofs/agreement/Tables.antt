@@ -22,7 +22,8 @@ use Rattle.node.specs.Calls.{noNode}
 use Rattle.bench.specs.declared.Listed.the-variants as listed
 use Rattle.bench.specs.Table.{Table, recordOf, each, slotsOf}
 use Rattle.bench.specs.Calls.{startTable, listIn}
-use Rattle.bench.specs.Runs.{Entry, setIn, listOf}
+use Rattle.bench.specs.Runs.{setIn, listOf}
+use Rattle.bench.proofs.agreement.Past.{Past}
 use Rattle.bench.proofs.agreement.History.{World, K}
 use Rattle.bench.proofs.agreement.Marks.{no-both}
 use Rattle.bench.proofs.agreement.Rounds.{K′}
@@ -147,10 +148,10 @@ module _ (W : World) where
       set-is = refl;
       own-in = λ _. has-full n i h l (omega (arith, n-most));
       own-out = λ p. absurd (true≢false p);
-      marks-off = λ u e z q a b. absurd (no-both (ap (λ (x : Entry). x .sent) (early u (omega arith))) b);
+      marks-off = λ u e z q a b. absurd (no-both (ap (λ (x : Past). x .sent) (early u (omega arith))) b);
       marks-on = λ u e z q a b c. absurd (no-both b c);
       knock = λ nz. absurd (nz refl);
-      open-knock = λ w e z q a b c. absurd (no-both (ap (λ (x : Entry). x .listed) (early w (omega arith))) a);
+      open-knock = λ w e z q a b c. absurd (no-both (ap (λ (x : Past). x .listed) (early w (omega arith))) a);
       knocking-own = λ p. absurd (false≢true p);
       own-knocking = λ p. let bad : ⊥ = omega arith in absurd bad;
       quiet = λ _. refl;
@@ -163,14 +164,14 @@ module _ (W : World) where
   start-keeps lent len = record {
     len = length-each (λ i v. starting n k i) lent ∙ len;
     late = omega arith;
-    kept = λ u e z h. let s : E u .sent ≡ true = ap (λ (x : Entry). x .sent) (early u (omega arith)) in
+    kept = λ u e z h. let s : E u .sent ≡ true = ap (λ (x : Past). x .sent) (early u (omega arith)) in
         record {
           spoke = λ p q. has-full n (sender n u) (sender-range n n-pos u .0) (sender-range n n-pos u .1) (omega (arith, sender-range n n-pos u, n-most));
           waits = λ p q. absurd (no-both s q);
           dropped = λ p q. absurd (no-both s q);
-          came = λ p q. absurd (no-both (ap (λ (x : Entry). x .listed) (early u (omega arith))) p);
+          came = λ p q. absurd (no-both (ap (λ (x : Past). x .listed) (early u (omega arith))) p);
         };
-    kept′ = λ w e z h p. ap (λ (x : Entry). x .sent) (early w (omega arith));
+    kept′ = λ w e z h p. ap (λ (x : Past). x .sent) (early w (omega arith));
     small = full-lt n;
     nodes = λ i h l. subst (λ (y : Node). NodeInv W n (full n) i y) (sym (record-each (λ j v. starting n k j) lent i h (omega (arith, len)))) (start-node i h l);
   }

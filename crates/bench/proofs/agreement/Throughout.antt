@@ -1,51 +1,26 @@
--- The premises of a sequence of calls hold of each beginning of it: so what demand 3 says of the table after every sequence, it says of the table after each
--- call of a sequence that keeps to the premises as a whole. And the distance that the bench tells is then 0. Assumes nothing.
-use Prim.Native.Nat.{ℕ, suc, _+_, _-_, _≤_, _<_}
+-- The distance that the bench's call tells, of a look and of a slot, is 0 after each call of a sequence that keeps the premises. Assumes nothing.
+use Prim.Native.Nat.{ℕ, suc, _-_, _≤_, _<_}
 use mathlib.Core.Path.{_≡_, refl, sym, ap, _∙_}
-use mathlib.Core.Bool.{true}
-use mathlib.Core.List.{List, [], _∷_, _++_}
+use mathlib.Core.Bool.{true, false≢true}
+use mathlib.Core.List.{List, [], _∷_}
 use native.Mathlib.Omega.{arith}
-use native.Mathlib.Decide.{decLe}
 use lib.ListN.{length, getD}
-use Rattle.nodeset.specs.Sums.{num}
 use Rattle.nodeset.specs.Sets.{distance}
-use Rattle.nodeset.proofs.Sums.{sum-le}
 use Rattle.nodeset.proofs.Tests.{by-cases}
 use Rattle.record.specs.declared.Node.{Node}
 use Rattle.record.specs.States.{isMember}
+use Rattle.node.specs.declared.Answer.{Answer}
+use Rattle.node.specs.declared.Answer.the-variants.{Done, Refused}
 use Rattle.node.specs.Calls.{noNode}
-use Rattle.bench.specs.Table.{Table, recordOf, slotsOf}
-use Rattle.bench.specs.Calls.{setUpOf, farthest, greatest}
-use Rattle.bench.specs.Runs.{Call, tableAfter, Entry, noEntry, entry}
-use Rattle.bench.specs.Demand.{AtEach, Premises, MemberAt, Claims, Demand3}
+use Rattle.bench.specs.Table.{Table, recordOf, ringOf}
+use Rattle.bench.specs.Calls.{setUpOf, slotOf, lookOf, farthest, greatest}
+use Rattle.bench.specs.Outcomes.{slotOutcome, endedOf}
+use Rattle.bench.specs.Runs.{Call, slot, off, restart, callOf, tableAfter, isDone, isSlot}
+use Rattle.bench.specs.Demand.{AtEach, AfterEach, MemberAt, Agree, EverySequence}
+use Rattle.bench.specs.Told.{NoDistance, LookTells, SlotTells, NoDistanceTold}
 use Rattle.bench.proofs.agreement.Places.{Placed}
-use Rattle.bench.proofs.agreement.Runs.{start-placed, run-length}
-use Rattle.bench.proofs.agreement.Entries.{entry-old, entry-later}
+use Rattle.bench.proofs.agreement.Runs.{start-placed, never-unsound, run-length}
 use Rattle.bench.proofs.agreement.Demanded.{demand3}
-
--- ---- the premises of each beginning
-
-module _ (n k : ℕ) (pos : 1 ≤ n) (start : Table) (begins : Placed n k 0 start) where
-  -- whatever a slot that did not run has none of, the calls so far have no more of than one call more
-  no-more : (c : Call) (cs : List Call) (f : Entry → ℕ) → f noEntry ≡ 0 → (u : ℕ) → f (entry start cs u) ≤ f (entry start (c ∷ cs) u)
-  no-more c cs f z u = go (decLe u (slotsOf (tableAfter start cs)))
-    where
-      go : Dec (u ≤ slotsOf (tableAfter start cs)) → f (entry start cs u) ≤ f (entry start (c ∷ cs) u)
-      go (yes h) = omega (arith, ap f (entry-old start c cs u h))
-      go (no h) = omega (arith, ap f (entry-later n k pos start begins cs u (omega arith)))
-
-  one-call-less : (c : Call) (cs : List Call) → Premises n k start (c ∷ cs) → Premises n k start cs
-  unfolding AtEach
-  one-call-less c cs p = record {
-    few-failures = λ a. omega (arith, p .few-failures a, sum-le (λ u. entry start cs u .failures) (λ u. entry start (c ∷ cs) u .failures) (suc a) n (λ u _ _. no-more c cs (λ e. e .failures) refl u));
-    one-outside = λ a. omega (arith, p .one-outside a, sum-le (λ u. num (entry start cs u .outside)) (λ u. num (entry start (c ∷ cs) u .outside)) (suc a) n (λ u _ _. no-more c cs (λ e. num (e .outside)) refl u));
-    list-kept = p .list-kept .0;
-    all-heard = p .all-heard .0;
-  }
-
-  pub beginning : (later cs : List Call) → Premises n k start (later ++ cs) → Premises n k start cs
-  beginning [] cs p = p
-  beginning (c ∷ later) cs p = beginning later cs (one-call-less c (later ++ cs) p)
 
 -- ---- the distance of tables whose lists agree
 
@@ -92,18 +67,47 @@ nothing-apart n t l h = no-greater n t (λ i j p q a b.
 
 -- ---- after each call
 
-module _ (n k : ℕ) (three : 3 ≤ n) (most : n ≤ 32) (two : 2 ≤ k) (fewer : k ≤ n - 1) (lent : Table) (one-each : length lent ≡ n) where
-  abbrev start : Table
-  start = setUpOf n k lent .table
+also-each : (P Q : Call → List Call → Type 0) → ((c : Call) (cs : List Call) → P c cs → Q c cs) → (cs : List Call) → AtEach P cs → AtEach Q cs
+unfolding AtEach
+also-each P Q h [] a = tt
+also-each P Q h (c ∷ cs) a = (also-each P Q h cs (a .0), h c cs (a .1))
 
-  begins : Placed n k 0 start
-  begins = start-placed n k three most two fewer lent one-each
+module _ (n k : ℕ) (pos : 1 ≤ n) (start : Table) (begins : Placed n k 0 start) where
+  -- as the bench's call works it out
+  told-zero : (cs : List Call) → Agree n start cs → greatest (ringOf (tableAfter start cs)) (tableAfter start cs) ≡ 0
+  told-zero cs h =
+      let l : ringOf (tableAfter start cs) ≡ n = run-length n k pos start begins cs in
+      ap (λ (m : ℕ). greatest m (tableAfter start cs)) l ∙ nothing-apart n (tableAfter start cs) l h
 
-  -- all the calls, the latest first, are `later ++ cs`: the claims hold after the calls cs
-  pub throughout : (later cs : List Call) → Premises n k start (later ++ cs) → Claims n k start cs
-  unfolding Demand3
-  throughout later cs p = demand3 n k three most two fewer lent one-each cs (beginning n k (omega arith) start begins later cs p)
+  look-tells : (cs : List Call) → Agree n start cs → LookTells start cs
+  unfolding endedOf lookOf
+  look-tells cs h lost room = rw (never-unsound n k pos start begins cs) (told-zero cs h)
 
-  -- and the distance that the bench tells is 0
-  pub distance-throughout : (later cs : List Call) → Premises n k start (later ++ cs) → greatest n (tableAfter start cs) ≡ 0
-  distance-throughout later cs p = nothing-apart n (tableAfter start cs) (run-length n k (omega arith) start begins cs) (throughout later cs p .agree)
+  slot-tells : (c : Call) (cs : List Call) → Agree n start (c ∷ cs) → SlotTells start c cs
+  unfolding endedOf tableAfter callOf isSlot
+  slot-tells (slot lost missed room) cs h = go (slotOf lost missed room (tableAfter start cs) .answer)
+    where
+      go : (a : Answer) → isDone a ≡ true → NoDistance (slotOutcome lost (tableAfter start cs) (slotOf lost missed room (tableAfter start cs) .table) a)
+      go Done e = told-zero (slot lost missed room ∷ cs) h
+      go (Refused cause) e = absurd (false≢true e)
+  slot-tells (off a) cs h = tt
+  slot-tells (restart a) cs h = tt
+
+pub distance-throughout : NoDistanceTold
+unfolding EverySequence
+distance-throughout n k three most two fewer lent one-each cs p = record {
+  looks = (look-tells n k pos first placed [] (agree .0), also-each _ _ (λ c x h. look-tells n k pos first placed (c ∷ x) h) cs (agree .1));
+  slots = also-each _ _ (λ c x h. slot-tells n k pos first placed c x h) cs (agree .1);
+}
+  where
+    first : Table
+    first = setUpOf n k lent .table
+
+    placed : Placed n k 0 first
+    placed = start-placed n k three most two fewer lent one-each
+
+    pos : 1 ≤ n
+    pos = omega arith
+
+    agree : AfterEach (Agree n first) cs
+    agree = demand3 n k three most two fewer lent one-each cs p .agree
