@@ -86,15 +86,15 @@ isDeciding n k start s c cs =
     && isFound (speaker (tableAfter start cs)) (memberAfter n (listOf (tableAfter start cs)) (sender n s) k))
 
 -- "Its deciding slot is the first" such: has it been?
-unfoldable pub isDecided : ℕ → ℕ → Table → ℕ → List Call → Bool
-isDecided n k start s [] = false
-isDecided n k start s (c ∷ cs) = isDecided n k start s cs || isDeciding n k start s c cs
+unfoldable pub decidingRan : ℕ → ℕ → Table → ℕ → List Call → Bool
+decidingRan n k start s [] = false
+decidingRan n k start s (c ∷ cs) = decidingRan n k start s cs || isDeciding n k start s c cs
 
 -- ---- the claims
 
 -- "A listed node's lost or silent slot s": slot s has run, its sender was on the list, and no message was sent and not lost.
-abbrev pub Failed : Table → ℕ → List Call → Type 0
-Failed start s cs =
+abbrev pub LostOrSilent : Table → ℕ → List Call → Type 0
+LostOrSilent start s cs =
     (1 ≤ s) × (s ≤ slotsOf (tableAfter start cs)) × (entry start cs s .listed ≡ true) × (entry start cs s .sent ≡ false)
 
 abbrev pub MemberAt : ℕ → Table → ℕ → Type 0
@@ -116,18 +116,18 @@ Agree n start cs =
 -- "Until the deciding slot ends, or the calls do, the node is on all those lists": while the deciding slot has not been.
 abbrev pub Stays : ℕ → ℕ → Table → List Call → Type 0
 Stays n k start cs =
-    (s : ℕ) → Failed start s cs → isDecided n k start s cs ≡ false → OnAll n (tableAfter start cs) (sender n s)
+    (s : ℕ) → LostOrSilent start s cs → decidingRan n k start s cs ≡ false → OnAll n (tableAfter start cs) (sender n s)
 
 -- "At the end of it, off them all": the call c is the deciding slot, and there was none among the calls cs before it.
 abbrev pub Leaves : ℕ → ℕ → Table → Call → List Call → Type 0
 Leaves n k start c cs =
-    (s : ℕ) → Failed start s cs → isDecided n k start s cs ≡ false → isDeciding n k start s c cs ≡ true
+    (s : ℕ) → LostOrSilent start s cs → decidingRan n k start s cs ≡ false → isDeciding n k start s c cs ≡ true
     → OffAll n (tableAfter start (c ∷ cs)) (sender n s)
 
 -- "If n - 1 slots ran after s, it is one of them."
 abbrev pub InTime : ℕ → ℕ → Table → List Call → Type 0
 InTime n k start cs =
-    (s : ℕ) → Failed start s cs → s + (n - 1) ≤ slotsOf (tableAfter start cs) → isDecided n k start s cs ≡ true
+    (s : ℕ) → LostOrSilent start s cs → s + (n - 1) ≤ slotsOf (tableAfter start cs) → decidingRan n k start s cs ≡ true
 
 -- "This is a single claim about the whole sequence of calls, not one for each call."
 pub record Claims (n k : ℕ) (start : Table) (cs : List Call) : Type 0 where

@@ -12,7 +12,7 @@ use Rattle.node.specs.Calls.{noNode}
 use Rattle.bench.specs.Table.{Table, slotsOf}
 use Rattle.bench.specs.Calls.{setUpOf, greatest}
 use Rattle.bench.specs.Runs.{Call, tableAfter}
-use Rattle.bench.specs.Demand.{Failed, isDecided, Premises, Agree, InTime, EverySequence}
+use Rattle.bench.specs.Demand.{LostOrSilent, decidingRan, Premises, Agree, InTime, EverySequence}
 use Rattle.bench.proofs.Computed.{computed}
 use Rattle.bench.proofs.agreement.Places.{Placed}
 use Rattle.bench.proofs.agreement.Runs.{start-placed, run-length}
@@ -78,7 +78,7 @@ module _ (n k : ℕ) (range : InRange n k) (lent : Table) (one-each : length len
   }
 
   -- slot s has failed, n - 1 slots ran after it, and it is not decided
-  bites-in-time : (p : Premise) (s : ℕ) → other-tests p ≡ true → test p n k start cs ≡ false → Failed start s cs → s + (n - 1) ≤ slotsOf (tableAfter start cs) → isDecided n k start s cs ≡ false
+  bites-in-time : (p : Premise) (s : ℕ) → other-tests p ≡ true → test p n k start cs ≡ false → LostOrSilent start s cs → s + (n - 1) ≤ slotsOf (tableAfter start cs) → decidingRan n k start s cs ≡ false
       → Bites p (InTime n k) n k lent cs
   bites-in-time p s o f x l e = record {
     in-range = range;

@@ -11,7 +11,7 @@ use Rattle.nodeset.specs.Sums.{num}
 use Rattle.nodeset.proofs.Sums.{sum-le}
 use Rattle.bench.specs.Table.{Table, slotsOf}
 use Rattle.bench.specs.Runs.{Call, tableAfter, isSlot, Entry, noEntry, entry}
-use Rattle.bench.specs.Demand.{AtEach, AfterEach, Premises, isDeciding, isDecided}
+use Rattle.bench.specs.Demand.{AtEach, AfterEach, Premises, isDeciding, decidingRan}
 use Rattle.bench.proofs.agreement.Past.{newPast, past}
 use Rattle.bench.proofs.agreement.History.{num-is}
 use Rattle.bench.proofs.agreement.Places.{Placed}
@@ -41,13 +41,13 @@ module _ (n k : ℕ) (pos : 1 ≤ n) (start : Table) (begins : Placed n k 0 star
   past-here all c cs b e =
       past-stable all (c ∷ cs) b (slotsOf (tableAfter start cs) + 1) (omega (arith, slots-next n k pos start begins c cs, num-is e)) ∙ past-new start c cs e
 
-  -- isDecided looks only at slots after s
-  pub decided-later : (s : ℕ) (cs : List Call) → slotsOf (tableAfter start cs) < s → isDecided n k start s cs ≡ false
-  unfolding isDecided isDeciding
+  -- decidingRan looks only at slots after s
+  pub decided-later : (s : ℕ) (cs : List Call) → slotsOf (tableAfter start cs) < s → decidingRan n k start s cs ≡ false
+  unfolding decidingRan isDeciding
   decided-later s [] h = refl
   decided-later s (c ∷ cs) h =
       let l : slotsOf (tableAfter start cs) < s = omega (arith, slots-next n k pos start begins c cs) in
-      let a : isDecided n k start s cs ≡ false = decided-later s cs l in
+      let a : decidingRan n k start s cs ≡ false = decided-later s cs l in
       let b : leb s (slotsOf (tableAfter start cs)) ≡ false = lt-leb s (slotsOf (tableAfter start cs)) l in
       rw (a, b) (never (isSlot c (tableAfter start cs)))
     where

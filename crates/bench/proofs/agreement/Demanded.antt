@@ -23,7 +23,7 @@ use Rattle.steps.specs.Steps.{isFound}
 use Rattle.bench.specs.Table.{Table, recordOf, slotsOf, speaker}
 use Rattle.bench.specs.Calls.{setUpOf}
 use Rattle.bench.specs.Runs.{Call, slot, off, restart, tableAfter, isSlot, listOf, Entry, entry}
-use Rattle.bench.specs.Demand.{AtEach, AfterEach, KeepsList, HearEverything, Premises, memberAfter, isDeciding, isDecided, Failed, MemberAt, OffAll, Agree, Stays, Leaves, InTime, EverySequence, Demand3}
+use Rattle.bench.specs.Demand.{AtEach, AfterEach, KeepsList, HearEverything, Premises, memberAfter, isDeciding, decidingRan, LostOrSilent, MemberAt, OffAll, Agree, Stays, Leaves, InTime, EverySequence, Demand3}
 use Rattle.bench.proofs.agreement.Past.{pastOf, past, entryIn, entry-is}
 use Rattle.bench.proofs.agreement.History.{World, lst, full-round, num-is, num-isnt}
 use Rattle.bench.proofs.agreement.Marks.{no-both}
@@ -97,9 +97,9 @@ module _ (G : Given) where
     over : b ≡ true → Status N u b
     waiting : b ≡ false → (e : ℕ) → u + e ≡ N → suc e < n → sum (lst W) (suc u) e < k → Status N u b
 
-  undeciding : (c : Call) (cs : List Call) (s : ℕ) → isSlot c (tableAfter start cs) ≡ false → isDecided n k start s (c ∷ cs) ≡ isDecided n k start s cs
-  unfolding isDecided isDeciding
-  undeciding c cs s e = rw e (go (isDecided n k start s cs))
+  undeciding : (c : Call) (cs : List Call) (s : ℕ) → isSlot c (tableAfter start cs) ≡ false → decidingRan n k start s (c ∷ cs) ≡ decidingRan n k start s cs
+  unfolding decidingRan isDeciding
+  undeciding c cs s e = rw e (go (decidingRan n k start s cs))
     where
       go : (b : Bool) → (b || false) ≡ b
       go true = refl
@@ -126,17 +126,17 @@ module _ (G : Given) where
       not-found (speaker (tableAfter start cs)) (memberAfter n (listOf (tableAfter start cs)) (sender n s) k) e
       (ap (λ (x : ℕ). memberAfter n x (sender n s) k) (f .list-at) ∙ ap (λ (x : ℕ). memberAfter n L x k) (sym (same-sender s h)) ∙ q ∙ ap Member (sym (f .speaker-at)))
 
-  new-status : (c : Call) (cs : List Call) (s : ℕ) → isSlot c (tableAfter start cs) ≡ true → s ≡ slotsOf (tableAfter start cs) + 1 → Status (slotsOf (tableAfter start (c ∷ cs)) + n) (s + n) (isDecided n k start s (c ∷ cs))
-  unfolding isDecided isDeciding
+  new-status : (c : Call) (cs : List Call) (s : ℕ) → isSlot c (tableAfter start cs) ≡ true → s ≡ slotsOf (tableAfter start cs) + 1 → Status (slotsOf (tableAfter start (c ∷ cs)) + n) (s + n) (decidingRan n k start s (c ∷ cs))
+  unfolding decidingRan isDeciding
   new-status c cs s e q =
-      let a : isDecided n k start s cs ≡ false = decided-later n k pos start begins s cs (omega arith) in
+      let a : decidingRan n k start s cs ≡ false = decided-later n k pos start begins s cs (omega arith) in
       let b : leb s (slotsOf (tableAfter start cs)) ≡ false = lt-leb s (slotsOf (tableAfter start cs)) (omega arith) in
       waiting (rw (a, b, e) refl) 0 (omega (arith, slots-next n k pos start begins c cs, num-is e)) (omega arith) (omega (arith, sum-none (lst W) (suc (s + n))))
 
   old-status : (c : Call) (cs : List Call) (s : ℕ) → KeepsList n k start c cs → isSlot c (tableAfter start cs) ≡ true → 1 ≤ s → s ≤ slotsOf (tableAfter start cs)
       → (r : Run G cs) → (r′ : Run G (c ∷ cs)) → Slot c cs (slotsOf (tableAfter start cs) + n) (r .0)
-      → Status (slotsOf (tableAfter start cs) + n) (s + n) (isDecided n k start s cs) → Status (slotsOf (tableAfter start (c ∷ cs)) + n) (s + n) (isDecided n k start s (c ∷ cs))
-  unfolding isDecided
+      → Status (slotsOf (tableAfter start cs) + n) (s + n) (decidingRan n k start s cs) → Status (slotsOf (tableAfter start (c ∷ cs)) + n) (s + n) (decidingRan n k start s (c ∷ cs))
+  unfolding decidingRan
   old-status c cs s kl e h l r r′ f (over d) = over (rw d refl)
   old-status c cs s kl e h l r r′ f (waiting d x ago recent w) = by-cases (isDeciding n k start s c cs)
       (λ q. over (rw (d, q) refl))
@@ -146,7 +146,7 @@ module _ (G : Given) where
       ago′ : s + n + suc x ≡ slotsOf (tableAfter start (c ∷ cs)) + n
       ago′ = omega (arith, slots-next n k pos start begins c cs, num-is e)
 
-      go : sum (lst W) (suc (s + n)) (suc x) < k → isDeciding n k start s c cs ≡ false → Status (slotsOf (tableAfter start (c ∷ cs)) + n) (s + n) (isDecided n k start s cs || isDeciding n k start s c cs)
+      go : sum (lst W) (suc (s + n)) (suc x) < k → isDeciding n k start s c cs ≡ false → Status (slotsOf (tableAfter start (c ∷ cs)) + n) (s + n) (decidingRan n k start s cs || isDeciding n k start s c cs)
       go w′ q = waiting (rw (d, q) refl) (suc x) ago′ (in-round (ℕ-discrete (suc (suc x)) n)) w′
         where
           in-round : Dec (suc (suc x) ≡ n) → suc (suc x) < n
@@ -154,7 +154,7 @@ module _ (G : Given) where
           in-round (no z) = omega arith
 
   status : (cs : List Call) → Beginning all cs → AtEach (KeepsList n k start) cs → AtEach (HearEverything n start) cs → (s : ℕ) → 1 ≤ s → s ≤ slotsOf (tableAfter start cs)
-      → Status (slotsOf (tableAfter start cs) + n) (s + n) (isDecided n k start s cs)
+      → Status (slotsOf (tableAfter start cs) + n) (s + n) (decidingRan n k start s cs)
   unfolding AtEach
   status [] b kl he s h l = let bad : ⊥ = omega (arith, none-yet G) in absurd bad
   status (c ∷ cs) b kl he s h l = by-cases (isSlot c (tableAfter start cs))
@@ -167,11 +167,11 @@ module _ (G : Given) where
       r′ : Run G (c ∷ cs)
       r′ = run G (c ∷ cs) b kl he
 
-      now : isSlot c (tableAfter start cs) ≡ true → Dec (s ≤ slotsOf (tableAfter start cs)) → (s ≤ slotsOf (tableAfter start cs) → Status (slotsOf (tableAfter start cs) + n) (s + n) (isDecided n k start s cs)) → Status (slotsOf (tableAfter start (c ∷ cs)) + n) (s + n) (isDecided n k start s (c ∷ cs))
+      now : isSlot c (tableAfter start cs) ≡ true → Dec (s ≤ slotsOf (tableAfter start cs)) → (s ≤ slotsOf (tableAfter start cs) → Status (slotsOf (tableAfter start cs) + n) (s + n) (decidingRan n k start s cs)) → Status (slotsOf (tableAfter start (c ∷ cs)) + n) (s + n) (decidingRan n k start s (c ∷ cs))
       now e (yes q) st = old-status c cs s (kl .1) e h q r r′ (slot-facts c cs b (kl .1) (he .1) e r) (st q)
       now e (no q) st = new-status c cs s e (omega (arith, slots-next n k pos start begins c cs, num-is e))
 
-      before : isSlot c (tableAfter start cs) ≡ false → Status (slotsOf (tableAfter start cs) + n) (s + n) (isDecided n k start s cs) → Status (slotsOf (tableAfter start (c ∷ cs)) + n) (s + n) (isDecided n k start s (c ∷ cs))
+      before : isSlot c (tableAfter start cs) ≡ false → Status (slotsOf (tableAfter start cs) + n) (s + n) (decidingRan n k start s cs) → Status (slotsOf (tableAfter start (c ∷ cs)) + n) (s + n) (decidingRan n k start s (c ∷ cs))
       before e (over d) = over (undeciding c cs s e ∙ d)
       before e (waiting d x ago recent w) = waiting (undeciding c cs s e ∙ d) x (omega (arith, slots-next n k pos start begins c cs, num-isnt e)) recent w
 
@@ -198,7 +198,7 @@ module _ (G : Given) where
   stays-on : Stays n k start all
   stays-on s f d i m = ap (λ (x : ℕ). has x (sender n s)) (member-set i m) ∙ ap (has (final .0)) (sym (same-sender s (f .0))) ∙ go (status all whole (premises .list-kept) (premises .all-heard) s (f .0) (f .1))
     where
-      go : Status (slotsOf T + n) (s + n) (isDecided n k start s all) → has (final .0) (sender n (s + n)) ≡ true
+      go : Status (slotsOf T + n) (s + n) (decidingRan n k start s all) → has (final .0) (sender n (s + n)) ≡ true
       go (over x) = absurd (no-both x d)
       go (waiting x e ago recent w) = final .1 .kept (s + n) e ago (omega arith) .waits
           (ap (λ (y : Entry). y .listed) (entry-now s) ∙ f .2) (ap (λ (y : Entry). y .sent) (entry-now s) ∙ f .3) w
@@ -206,11 +206,11 @@ module _ (G : Given) where
   decided-in-time : InTime n k start all
   decided-in-time s f h = go (status all whole (premises .list-kept) (premises .all-heard) s (f .0) (f .1))
     where
-      go : Status (slotsOf T + n) (s + n) (isDecided n k start s all) → isDecided n k start s all ≡ true
+      go : Status (slotsOf T + n) (s + n) (decidingRan n k start s all) → decidingRan n k start s all ≡ true
       go (over x) = x
       go (waiting x e ago recent w) = let bad : ⊥ = omega arith in absurd bad
 
-  module _ (s : ℕ) (c : Call) (before : List Call) (is : all ≡ c ∷ before) (f : Failed start s before) (nd : isDecided n k start s before ≡ false) (dg : isDeciding n k start s c before ≡ true) where
+  module _ (s : ℕ) (c : Call) (before : List Call) (is : all ≡ c ∷ before) (f : LostOrSilent start s before) (nd : decidingRan n k start s before ≡ false) (dg : isDeciding n k start s c before ≡ true) where
     b : Beginning all (c ∷ before)
     b = subst (λ (x : List Call). Beginning all x) is whole
 
@@ -240,7 +240,7 @@ module _ (G : Given) where
         entry-then : entryIn (W .E (s + n)) ≡ entry start before s
         entry-then = ap entryIn (past-now s ∙ past-stable n k pos start begins all before (shorter b) s (f .1)) ∙ sym (entry-is start before s)
 
-        go : Status (slotsOf (tableAfter start before) + n) (s + n) (isDecided n k start s before) → has (final .0) (sender n (s + n)) ≡ false
+        go : Status (slotsOf (tableAfter start before) + n) (s + n) (decidingRan n k start s before) → has (final .0) (sender n (s + n)) ≡ false
         go (over x) = absurd (no-both x nd)
         go (waiting x e ago recent w) = final .1 .kept (s + n) (suc e) (omega (arith, here)) recent .dropped
             (ap (λ (y : Entry). y .listed) entry-then ∙ f .2) (ap (λ (y : Entry). y .sent) entry-then ∙ f .3)
