@@ -5,7 +5,7 @@ use Rattle.nodeset.specs.Sets.{has, with, without, full, subset, size, distance
 use Rattle.ring.specs.Ring.{sender, previous, walk, memberBefore, sponsored, decided}
 use Rattle.record.specs.Soundness.{sound}
 use Rattle.changes.specs.Changes.{leave}
-use Rattle.steps.specs.Steps.{confirmed, noted, join, settle, judged, insideSlot, outsideSlot, trackingSlot}
+use Rattle.steps.specs.Steps.{confirmed, noted, join, settle, trackingSlot}
 use Rattle.hearing.specs.Hearing.{clean, windowEnd, listeningSlot}
 use Rattle.sending.specs.Sending.{markBits, bitsSent}
 use Rattle.node.specs.Slot as slot
@@ -16,5 +16,5 @@ use Rattle.bench.specs.Runs.{callOf, tableAfter, isSlot, listOf, isListe
 use Rattle.bench.specs.Demand.{next, onwards, isDeciding, decidingRan}
 
 unfoldable pub computed : Unit {0}
-unfolding xor sum has with without full subset size distance runFrom sender previous walk memberBefore sponsored decided sound leave confirmed noted join settle judged insideSlot outsideSlot trackingSlot clean windowEnd listeningSlot markBits bitsSent slot.afterSlot node.stepOf node.offOf node.restartOf recordOf eachFrom placedFrom tableSound slotsOf speaker setUpOf transmits spoken heardBy afterSlot slotOf offOf restartOf listIn farthest greatest fateOf callOf tableAfter isSlot listOf isListed misses failuresIn entry next onwards isDeciding decidingRan
+unfolding xor sum has with without full subset size distance runFrom sender previous walk memberBefore sponsored decided sound leave confirmed noted join settle trackingSlot clean windowEnd listeningSlot markBits bitsSent slot.afterSlot node.stepOf node.offOf node.restartOf recordOf eachFrom placedFrom tableSound slotsOf speaker setUpOf transmits spoken heardBy afterSlot slotOf offOf restartOf listIn farthest greatest fateOf callOf tableAfter isSlot listOf isListed misses failuresIn entry next onwards isDeciding decidingRan
 computed = tt

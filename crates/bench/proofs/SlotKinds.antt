@@ -1,7 +1,7 @@
 -- A slot changes no state but in the ways that have a kind (specs/Pairs): after the node call `step` a record has the state that it had, or the change is
 -- of kind 1 to 6. So no pair of a slot has kind 0. It holds of every record; one that is not sound is left as it was. Assumes nothing.
 use Prim.Native.Nat.{ℕ, _+_, _≤_}
-use mathlib.Core.Path.{_≡_, refl, sym, ap, ap₂, _∙_}
+use mathlib.Core.Path.{_≡_, refl, sym, ap, ap₂, subst, _∙_}
 use mathlib.Core.Bool.{Bool, true, false, cond, not, _&&_, _||_, true≢false}
 use mathlib.Core.Logic.{_⊎_, inl, inr}
 use native.Mathlib.Omega.{arith}
@@ -21,7 +21,9 @@ use Rattle.record.specs.declared.State.the-variants.{Member, Listening, Followi
 use Rattle.record.specs.States.{isMember, isListening, isFollowing, isKnocking, isOut}
 use Rattle.record.specs.Soundness.{sound, limit}
 use Rattle.changes.specs.Changes.{outFor, fresh, leave, counted, withSet, withReturning}
-use Rattle.steps.specs.Steps.{isHeard, nothingHeard, joins, stateOnList, missedReturn, marked, noted, join, settle, judged, departs, insideSlot, outsideSlot, trackingSlot}
+use Rattle.steps.specs.Steps.{isHeard, nothingHeard, joins, stateOnList, missedReturn, marked, noted, join, settle, trackingSlot}
+use Rattle.steps.specs.Inner.{judged, departs, insideSlot, outsideSlot, slotByCases}
+use Rattle.steps.proofs.Cases.{slot-by-cases}
 use Rattle.hearing.specs.Hearing.{clean, windowEnd, overheard, listeningSlot}
 use Rattle.node.specs.declared.Stepped.{Stepped}
 use Rattle.node.specs.Slot.{heardFrom, slotIn, afterSlot}
@@ -160,8 +162,8 @@ outside-ok a s heard v t e =
     knocks false h = settle-ok a false s v t e
 
 tracking-ok : (a : State) (s : ℕ) (heard : Reading) (v : Node) → tracked a ≡ true → v .state ≡ a → Ok a (trackingSlot s heard v)
-unfolding trackingSlot
-tracking-ok a s heard v t e = ways (Ok a) (has (v .set) s) (inside-ok a s heard v t e) (outside-ok a s heard v t e)
+unfolding slotByCases
+tracking-ok a s heard v t e = subst (Ok a) (sym (slot-by-cases s heard v)) (ways (Ok a) (has (v .set) s) (inside-ok a s heard v t e) (outside-ok a s heard v t e))
 
 -- ---- any slot
 

@@ -29,7 +29,9 @@ use Rattle.record.specs.Soundness.{sound}
 use Rattle.record.proofs.Tracking.{Tracking, tracks, tracking-sound}
 use Rattle.changes.specs.Changes.{withSet, withReturning}
 use Rattle.changes.proofs.Sound.{InRange, fresh-sound, leave-sound}
-use Rattle.steps.specs.Steps.{isHeard, returnIn, withFound, confirmed, marksAfter, missedReturn, marked, noted, tooFew, nothingHeard, isFound, joins, stateOnList, joined, join, settle, judged, departs, insideSlot, outsideSlot, trackingSlot}
+use Rattle.steps.specs.Steps.{isHeard, returnIn, withFound, confirmed, marksAfter, missedReturn, marked, noted, tooFew, nothingHeard, isFound, joins, stateOnList, joined, join, settle, trackingSlot}
+use Rattle.steps.specs.Inner.{judged, departs, insideSlot, outsideSlot, slotByCases}
+use Rattle.steps.proofs.Cases.{slot-by-cases}
 
 numbers : (v : Node) → Tracking v → InRange (v .n) (v .k) (v .own) (v .slots)
 numbers v k = record { ring = k .ring; sponsors = k .sponsors; own-in = k .own; slots-in = k .slots }
@@ -356,11 +358,14 @@ departs-sound s (found.Member m) v k = judged-sound s m v k
 departs-sound s found.Nobody v k = settle-sound true s v k
 departs-sound s (found.Refused r) v k = settle-sound true s v k
 
-pub tracking-slot-sound : (s : ℕ) (heard : Reading) (v : Node) → s ≤ v .n → Tracking v → sound (trackingSlot s heard v) ≡ true
-unfolding trackingSlot insideSlot outsideSlot
-tracking-slot-sound s heard v l k =
+by-cases-sound : (s : ℕ) (heard : Reading) (v : Node) → s ≤ v .n → Tracking v → sound (slotByCases s heard v) ≡ true
+unfolding slotByCases insideSlot outsideSlot
+by-cases-sound s heard v l k =
     by-cases (has (v .set) s)
     (λ t. rw t (by-cases (missedReturn heard v)
     (λ m. rw m (leave-sound MissedReturn v (numbers v k)))
     (λ m. rw m (departs-sound s (decidedOf (v .n) (v .k) (v .set) s) (marked s heard v) (marked-tracks s heard v t k)))))
     (λ t. rw t (settle-sound false s (noted s heard v) (noted-tracks s heard v l t k)))
+
+pub tracking-slot-sound : (s : ℕ) (heard : Reading) (v : Node) → s ≤ v .n → Tracking v → sound (trackingSlot s heard v) ≡ true
+tracking-slot-sound s heard v l k = ap sound (slot-by-cases s heard v) ∙ by-cases-sound s heard v l k

@@ -22,7 +22,9 @@ use Rattle.record.specs.declared.Cause.the-variants.{Unconfirmed, MissedReturn}
 use Rattle.record.specs.States.{isFollowing}
 use Rattle.changes.specs.Changes.{leave, withSet, withMarks, withReturning}
 use Rattle.steps.specs.declared.Lesson.{Lesson}
-use Rattle.steps.specs.Steps.{isHeard, withFound, confirmed, marksAfter, missedReturn, returnHeard, marked, noted, settle, judged, departs, departing, insideSlot, outsideSlot, trackingSlot}
+use Rattle.steps.specs.Steps.{isHeard, withFound, confirmed, marksAfter, missedReturn, returnHeard, marked, noted, settle, trackingSlot}
+use Rattle.steps.specs.Inner.{judged, departs, departing, insideSlot, outsideSlot, slotByCases}
+use Rattle.steps.proofs.Cases.{slot-by-cases}
 use Rattle.steps.specs.Lessons.{bitsIn, lessonOf, marksBy, markedBy, takenBy, decidedBy, departingBy, trackingBy}
 
 -- ---- the marks that a message sets
@@ -141,8 +143,8 @@ inside-taught s heard told v h o p =
     ∙ departs-taught s found (marked s told v) o
 
 own-taught : (s : ℕ) (heard told : Reading) (v : Node) → (isHeard told ≡ true → told ≡ heard) → 1 ≤ v .own → v .present < 2 ^ 32
-    → trackingBy (lessonOf s heard v) s told v ≡ trackingSlot s told v
-unfolding trackingBy trackingSlot insideSlot outsideSlot
+    → trackingBy (lessonOf s heard v) s told v ≡ slotByCases s told v
+unfolding trackingBy slotByCases insideSlot outsideSlot
 own-taught s heard told v h o p = go (lessonOf s heard v) (has (v .set) s) (inside-taught s heard told v h o p)
   where
     go : (l : Lesson) (b : Bool) → departingBy true (l .decided) s (markedBy (l .marks) s told v) ≡ departing s (marked s told v)
@@ -154,4 +156,4 @@ own-taught s heard told v h o p = go (lessonOf s heard v) (has (v .set) s) (insi
 pub tracking-taught : (s : ℕ) (heard told : Reading) (u v : Node) → (isHeard told ≡ true → told ≡ heard) → v .n ≡ u .n → v .k ≡ u .k → v .set ≡ u .set → 1 ≤ v .own
     → v .present < 2 ^ 32 → trackingBy (lessonOf s heard u) s told v ≡ trackingSlot s told v
 tracking-taught s heard told u v h a b c o p =
-    ap (λ (l : Lesson). trackingBy l s told v) (sym (lesson-same s heard u v a b c)) ∙ own-taught s heard told v h o p
+    ap (λ (l : Lesson). trackingBy l s told v) (sym (lesson-same s heard u v a b c)) ∙ own-taught s heard told v h o p ∙ sym (slot-by-cases s told v)

@@ -1,5 +1,5 @@
 -- One slot, for a member, following or knocking node (document 01, "One slot"): the definitions of each numbered step under its sentences, then
--- their order. s is the slot's sender; a reading is what the reader made of the bytes heard. "A message handed over in the own slot is ignored":
+-- one that does them in order. s is the slot's sender; a reading is what the reader made of the bytes heard. "A message handed over in the own slot is ignored":
 -- there the reading is a refused one (node's specs/Slot), so the own slot goes by the rule of a message that is not heard.
 -- Acknowledgement bits are a set of numbers: bit j is 1 where j is in it.
 use Prim.Native.Nat.{ℕ, zero, suc}
@@ -70,6 +70,27 @@ noted s heard v =
     (cond (isFollowing (v .state) && eqb (v .returning) 0) (withReturning Knocking (v .own) v) v)
     (cond (isHeard heard && eqb (v .returning) 0) (withReturning (v .state) s v) v)
 
+-- ---- step 3: "Departure, only if the sender is in the set"
+
+-- The found member is x.
+abbrev pub isFound : ℕ → Found → Bool
+isFound x (found.Member m) = eqb m x
+isFound x found.Nobody = false
+isFound x (found.Refused r) = false
+
+-- "The decided member leaves if its mark is off": does node x leave?
+abbrev pub leaves : ℕ → Node → ℕ → Bool
+leaves s v x = isFound x (decidedOf (v .n) (v .k) (v .set) s) && not (has (v .present) x)
+
+-- The set without it. "With one member nobody is decided" ("The ring").
+abbrev pub withoutDecided : Found → Node → ℕ
+withoutDecided (found.Member m) v = cond (has (v .present) m) (v .set) (without (v .set) m)
+withoutDecided found.Nobody v = v .set
+withoutDecided (found.Refused r) v = v .set
+
+abbrev pub departed : ℕ → Node → Node
+departed s v = withSet (withoutDecided (decidedOf (v .n) (v .k) (v .set) s) v) v
+
 -- ---- step 4, and what stands before it
 
 -- "Following and knocking need two members or more in the set; if fewer remain after step 3, the node goes to fresh listening."
@@ -81,12 +102,6 @@ abbrev pub nothingHeard : Node → Bool
 nothingHeard v = eqb (size (v .n) (without (v .present) (v .own))) 0
 
 -- ---- step 5
-
--- The found member is x.
-abbrev pub isFound : ℕ → Found → Bool
-isFound x (found.Member m) = eqb m x
-isFound x found.Nobody = false
-isFound x (found.Refused r) = false
 
 -- "the sender .. is the nearest member before the returning node" (before 0 there is none)
 abbrev pub joins : ℕ → Node → Bool
@@ -112,39 +127,24 @@ joined v = settledAs (stateOnList (v .state)) (with (v .set) (v .returning)) (wi
 unfoldable pub join : Node → Node
 join v = cond (isKnocking (v .state) && not (v .«return_heard»)) (withReturning Following 0 v) (joined v)
 
--- ---- the order of the steps
+-- ---- the steps in their order
 
--- The two members that a follower needs, step 4, and step 5, the latter "only if the sender is in the set".
+-- What the slot's message changes: step 1 if the sender is in the set, else step 2.
+abbrev pub afterMessage : Bool → ℕ → Reading → Node → Node
+afterMessage inside s heard v = cond inside (marked s heard v) (noted s heard v)
+
+-- The rest of the slot for a node that has not left by step 3: two members, step 4, step 5, the latter "only if the sender is in the set".
 unfoldable pub settle : Bool → ℕ → Node → Node
 settle inside s v =
     cond (tooFew v) (fresh v)
     (cond (nothingHeard v) (leave (leavingCause 2) v)
     (cond (inside && joins s v) (join v) v))
 
--- Step 3, and what comes after it: "the decided member leaves if its mark is off. If that is this node, it leaves with cause 1 and the steps end."
-unfoldable pub judged : ℕ → ℕ → Node → Node
-judged s m v =
-    cond (has (v .present) m) (settle true s v)
-    (cond (eqb m (v .own)) (leave (leavingCause 1) v) (settle true s (withSet (without (v .set) m) v)))
-
--- "With one member nobody is decided" ("The ring").
-abbrev pub departs : ℕ → Found → Node → Node
-departs s (found.Member m) v = judged s m v
-departs s found.Nobody v = settle true s v
-departs s (found.Refused r) v = settle true s v
-
-abbrev pub departing : ℕ → Node → Node
-departing s v = departs s (decidedOf (v .n) (v .k) (v .set) s) v
-
--- The sender is in the set: step 1, then "Departure, only if the sender is in the set", and what comes after it; "leaving with cause 3, and nothing
--- further happens".
-unfoldable pub insideSlot : ℕ → Reading → Node → Node
-insideSlot s heard v = cond (missedReturn heard v) (leave (leavingCause 3) v) (departing s (marked s heard v))
-
--- The sender is outside the set: step 2, then step 4.
-unfoldable pub outsideSlot : ℕ → Reading → Node → Node
-outsideSlot s heard v = settle false s (noted s heard v)
-
--- Any slot of such a node.
+-- One slot. Step 1: "leaving with cause 3, and nothing further happens". Step 3: "If that is this node, it leaves with cause 1 and the steps end."
 unfoldable pub trackingSlot : ℕ → Reading → Node → Node
-trackingSlot s heard v = cond (has (v .set) s) (insideSlot s heard v) (outsideSlot s heard v)
+trackingSlot s heard v =
+    let inside = has (v .set) s in
+    let w = afterMessage inside s heard v in
+    cond (inside && missedReturn heard v) (leave (leavingCause 3) v)
+    (cond (inside && leaves s w (w .own)) (leave (leavingCause 1) w)
+    (settle inside s (cond inside (departed s w) w)))

@@ -1,6 +1,6 @@
 -- The calls on a record keep its n, k and own number; a slot counts one, off and restart count none (node's specs/Calls). Assumes nothing.
 use Prim.Native.Nat.{ℕ, _+_, _<_}
-use mathlib.Core.Path.{_≡_, refl, ap, _∙_}
+use mathlib.Core.Path.{_≡_, refl, sym, ap, subst, _∙_}
 use mathlib.Core.Bool.{Bool, true, false, cond, not, _&&_}
 use lib.Dec.{eqb, ltb}
 use borrow.Author.Tests.{lt-leb}
@@ -20,7 +20,9 @@ use Rattle.record.specs.declared.Cause.the-variants.{Unconfirmed, NothingHeard,
 use Rattle.record.specs.States.{isMember, isFollowing, isKnocking, isOut}
 use Rattle.record.specs.Soundness.{limit, sound}
 use Rattle.changes.specs.Changes.{listeningAfter, followingWith, withWindow, outFor, fresh, leave, counted, withSet, withReturning}
-use Rattle.steps.specs.Steps.{isHeard, missedReturn, marked, noted, tooFew, nothingHeard, joins, joined, join, settle, judged, departs, departing, insideSlot, outsideSlot, trackingSlot}
+use Rattle.steps.specs.Steps.{isHeard, missedReturn, marked, noted, tooFew, nothingHeard, joins, joined, join, settle, trackingSlot}
+use Rattle.steps.specs.Inner.{judged, departs, departing, insideSlot, outsideSlot, slotByCases}
+use Rattle.steps.proofs.Cases.{slot-by-cases}
 use Rattle.hearing.specs.Hearing.{overheard, clean, windowEnd, listeningSlot}
 use Rattle.node.specs.declared.Stepped.{Stepped}
 use Rattle.node.specs.Slot.{heardFrom, slotIn, afterSlot}
@@ -103,9 +105,10 @@ unfolding outsideSlot
 outside-same s r v = same-then v (noted s r v) (settle false s (noted s r v)) (noted-same s r v) (settle-same false s (noted s r v))
 
 pub tracking-same : (s : ℕ) (r : Reading) (v : Node) → Same v (trackingSlot s r v)
-unfolding trackingSlot
+unfolding slotByCases
 tracking-same s r v =
-    choose (λ (w : Node). Same v w) (has (v .set) s) (insideSlot s r v) (outsideSlot s r v) (λ _. inside-same s r v) (λ _. outside-same s r v)
+    subst (Same v) (sym (slot-by-cases s r v))
+    (choose (λ (w : Node). Same v w) (has (v .set) s) (insideSlot s r v) (outsideSlot s r v) (λ _. inside-same s r v) (λ _. outside-same s r v))
 
 -- ---- a slot of a listening node
 

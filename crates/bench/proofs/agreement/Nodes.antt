@@ -1,6 +1,6 @@
 -- One slot, for any node: what it was and what it is after the slot. Assumes nothing.
 use Prim.Native.Nat.{ℕ, suc, _+_, _-_, _^_, _≤_, _<_}
-use mathlib.Core.Path.{_≡_, refl, sym, ap, _∙_, subst}
+use mathlib.Core.Path.{_≡_, sym, ap, _∙_, subst}
 use mathlib.Core.Logic.{_⊎_, inl, inr}
 use mathlib.Core.Bool.{true, false, false≢true}
 use native.Mathlib.Omega.{arith}
@@ -15,7 +15,9 @@ use Rattle.record.specs.declared.Cause.{Cause}
 use Rattle.record.specs.States.{isMember, isListening}
 use Rattle.record.proofs.Tracking.{tracks}
 use Rattle.changes.specs.Changes.{counted, withSet}
-use Rattle.steps.specs.Steps.{isHeard, marked, noted, settle, insideSlot, outsideSlot, trackingSlot}
+use Rattle.steps.specs.Steps.{isHeard, marked, noted, settle, trackingSlot}
+use Rattle.steps.specs.Inner.{insideSlot, outsideSlot}
+use Rattle.steps.proofs.Cases.{slot-inside, slot-outside}
 use Rattle.hearing.specs.Hearing.{listeningSlot}
 use Rattle.node.specs.Slot.{slotIn}
 use Rattle.bench.proofs.agreement.History.{World, K}
@@ -146,10 +148,7 @@ module _ (W : World) where
     module _ (r : Reading) (says : isHeard r ≡ true → Says W N L r)
         (i : ℕ) (i-pos : 1 ≤ i) (i-le : i ≤ n) (v : Node) (nv : NodeInv N L i v) (h : HearsAny N i v r) where
       is-inside : (tr : tracks (v .state) ≡ true) → trackingSlot s r (counted v) ≡ insideSlot s r (counted v)
-      unfolding trackingSlot
-      is-inside tr =
-          let e : has (v .set) s ≡ true = ap (λ (y : ℕ). has y s) (nv .track tr .set-is) ∙ onL in
-          rw e refl
+      is-inside tr = slot-inside s r (counted v) (ap (λ (y : ℕ). has y s) (nv .track tr .set-is) ∙ onL)
 
       module _ (tr : tracks (v .state) ≡ true) where
         iv : Tracking W N L i (counted v)
@@ -216,10 +215,7 @@ module _ (W : World) where
       (i : ℕ) (i-pos : 1 ≤ i) (v : Node) (nv : NodeInv N L i v) (r : Reading) (h : HearsAny N i v r) (o : OwnSlot W N i v)
       (knock-bits : E (suc N) .sent ≡ true → bitsIn r ≡ 0) where
     is-outside : (tr : tracks (v .state) ≡ true) → trackingSlot (sender n (suc N)) r (counted v) ≡ outsideSlot (sender n (suc N)) r (counted v)
-    unfolding trackingSlot
-    is-outside tr =
-        let e : has (v .set) (sender n (suc N)) ≡ false = ap (λ (y : ℕ). has y (sender n (suc N))) (nv .track tr .set-is) ∙ offL in
-        rw e refl
+    is-outside tr = slot-outside (sender n (suc N)) r (counted v) (ap (λ (y : ℕ). has y (sender n (suc N))) (nv .track tr .set-is) ∙ offL)
 
     own-counted : OwnSlot W N i (counted v)
     own-counted = record { out = o .out; sent = o .sent }

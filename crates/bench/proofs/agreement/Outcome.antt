@@ -18,7 +18,8 @@ use Rattle.record.specs.declared.Cause.{Cause}
 use Rattle.record.specs.declared.Cause.the-variants.{Unconfirmed, NothingHeard, MissedReturn}
 use Rattle.record.specs.States.{isMember, isFollowing, isKnocking}
 use Rattle.changes.specs.Changes.{outFor, fresh, leave, withSet, withReturning}
-use Rattle.steps.specs.Steps.{isHeard, missedReturn, marked, noted, tooFew, nothingHeard, joins, stateOnList, settledAs, join, settle, judged, departs, departing, insideSlot}
+use Rattle.steps.specs.Steps.{isHeard, missedReturn, marked, noted, tooFew, nothingHeard, joins, stateOnList, settledAs, join, settle}
+use Rattle.steps.specs.Inner.{judged, departs, departing, insideSlot}
 
 -- a choice, case by case
 pub choose : {A : Type 0} (P : A → Type 0) (b : Bool) (x y : A) → (b ≡ true → P x) → (b ≡ false → P y) → P (cond b x y)
