@@ -3,11 +3,11 @@ use mathlib.Core.Bool.{xor}
 use Rattle.nodeset.specs.Sums.{sum}
 use Rattle.nodeset.specs.Sets.{has, with, without, full, subset, size, distance, runFrom}
 use Rattle.ring.specs.Ring.{sender, previous, walk, memberBefore, sponsored, decided}
-use Rattle.record.specs.Soundness.{sound}
-use Rattle.changes.specs.Changes.{leave}
-use Rattle.steps.specs.Steps.{confirmed, noted, join, settle, trackingSlot}
-use Rattle.hearing.specs.Hearing.{clean, windowEnd, listeningSlot}
-use Rattle.sending.specs.Sending.{markBits, bitsSent}
+use Rattle.node_record.specs.Soundness.{sound}
+use Rattle.node_changes.specs.Changes.{leave}
+use Rattle.node_steps.specs.Steps.{confirmed, noted, join, settle, trackingSlot}
+use Rattle.node_hearing.specs.Hearing.{clean, windowEnd, listeningSlot}
+use Rattle.node_sending.specs.Sending.{markBits, bitsSent}
 use Rattle.node.specs.Slot as slot
 use Rattle.node.specs.Calls as node
 use Rattle.bench.specs.Table.{recordOf, eachFrom, placedFrom, tableSound, slotsOf, speaker}

@@ -13,18 +13,18 @@ use Rattle.ring.specs.Answers.{decidedOf}
 use Rattle.ring.specs.declared.Found.{Found}
 use Rattle.ring.specs.declared.Found.the-variants as found
 use Rattle.message.specs.declared.Reading.{Reading}
-use Rattle.record.specs.declared.Node.{Node}
-use Rattle.record.specs.declared.Cause.{Cause}
-use Rattle.record.specs.declared.Cause.the-variants.{Unconfirmed, NothingHeard, MissedReturn}
-use Rattle.record.specs.declared.State.{State}
-use Rattle.record.specs.declared.State.the-variants.{Member, Listening, Following, Knocking, Out}
-use Rattle.record.specs.States.{isMember, isListening, isFollowing, isKnocking, isOut}
-use Rattle.record.specs.Soundness.{sound, limit}
-use Rattle.changes.specs.Changes.{outFor, fresh, leave, counted, withSet, withReturning}
-use Rattle.steps.specs.Steps.{isHeard, nothingHeard, joins, stateOnList, missedReturn, marked, noted, join, settle, trackingSlot}
-use Rattle.steps.specs.Inner.{judged, departs, insideSlot, outsideSlot, slotByCases}
-use Rattle.steps.proofs.Cases.{slot-by-cases}
-use Rattle.hearing.specs.Hearing.{clean, windowEnd, overheard, listeningSlot}
+use Rattle.node_record.specs.declared.Node.{Node}
+use Rattle.node_record.specs.declared.Cause.{Cause}
+use Rattle.node_record.specs.declared.Cause.the-variants.{Unconfirmed, NothingHeard, MissedReturn}
+use Rattle.node_record.specs.declared.State.{State}
+use Rattle.node_record.specs.declared.State.the-variants.{Member, Listening, Following, Knocking, Out}
+use Rattle.node_record.specs.States.{isMember, isListening, isFollowing, isKnocking, isOut}
+use Rattle.node_record.specs.Soundness.{sound, limit}
+use Rattle.node_changes.specs.Changes.{outFor, fresh, leave, counted, withSet, withReturning}
+use Rattle.node_steps.specs.Steps.{isHeard, nothingHeard, joins, stateOnList, missedReturn, marked, noted, join, settle, trackingSlot}
+use Rattle.node_steps.specs.Inner.{judged, departs, insideSlot, outsideSlot, slotByCases}
+use Rattle.node_steps.proofs.Cases.{slot-by-cases}
+use Rattle.node_hearing.specs.Hearing.{clean, windowEnd, overheard, listeningSlot}
 use Rattle.node.specs.declared.Stepped.{Stepped}
 use Rattle.node.specs.Slot.{heardFrom, slotIn, afterSlot}
 use Rattle.node.specs.Calls.{stepOf}

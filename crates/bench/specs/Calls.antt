@@ -12,10 +12,10 @@ use Rattle.nodeset.specs.Sets.{has, within, distance}
 use Rattle.ring.specs.Ring.{ringSize, sponsorCount, nodeNumber}
 use Rattle.message.specs.declared.Reading.{Reading}
 use Rattle.message.specs.declared.Reading.the-variants as reading
-use Rattle.record.specs.States.{isMember, isOut}
-use Rattle.record.specs.Soundness.{limit}
-use Rattle.changes.specs.Changes.{starting}
-use Rattle.sending.specs.Sending.{sends, bitsSent, returnSent}
+use Rattle.node_record.specs.States.{isMember, isOut}
+use Rattle.node_record.specs.Soundness.{limit}
+use Rattle.node_changes.specs.Changes.{starting}
+use Rattle.node_sending.specs.Sending.{sends, bitsSent, returnSent}
 use Rattle.node.specs.declared.Answer.{Answer}
 use Rattle.node.specs.declared.Answer.the-variants.{Done, Refused}
 use Rattle.node.specs.Calls as node

@@ -12,8 +12,8 @@ use Rattle.nodeset.specs.Sets.{has, size, distance}
 use Rattle.ring.specs.Ring.{sender}
 use Rattle.ring.specs.declared.Found.{Found}
 use Rattle.ring.specs.declared.Found.the-variants.{Member, Nobody}
-use Rattle.record.specs.States.{isMember, isOut}
-use Rattle.steps.specs.Steps.{isFound}
+use Rattle.node_record.specs.States.{isMember, isOut}
+use Rattle.node_steps.specs.Steps.{isFound}
 use Rattle.bench.specs.Table.{Table, recordOf, slotsOf, speaker}
 use Rattle.bench.specs.Calls.{transmits, setUpOf}
 use Rattle.bench.specs.Runs.{Call, slot, off, restart, tableAfter, isSlot, listOf, entry}

@@ -8,8 +8,8 @@ use lib.Dec.{eqb}
 use lib.ListN.{length, drop}
 use Rattle.nodeset.specs.Sums.{sum, num}
 use Rattle.ring.specs.Ring.{nodeNumber}
-use Rattle.record.specs.declared.State.{State}
-use Rattle.record.specs.States.{isMember, isListening, isFollowing, isKnocking, isOut}
+use Rattle.node_record.specs.declared.State.{State}
+use Rattle.node_record.specs.States.{isMember, isListening, isFollowing, isKnocking, isOut}
 use Rattle.node.specs.declared.Answer.{Answer}
 use Rattle.node.specs.declared.Answer.the-variants as answer
 use Rattle.bench.specs.Table.{Table, recordOf, ringOf}

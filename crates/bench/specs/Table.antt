@@ -5,8 +5,8 @@ use mathlib.Core.List.{List, [], _∷_}
 use lib.Dec.{eqb}
 use lib.ListN.{length, getD}
 use Rattle.ring.specs.Ring.{sender}
-use Rattle.record.specs.declared.Node.{Node}
-use Rattle.record.specs.Soundness.{sound}
+use Rattle.node_record.specs.declared.Node.{Node}
+use Rattle.node_record.specs.Soundness.{sound}
 use Rattle.node.specs.Calls.{noNode}
 
 abbrev pub Table : Type 0

@@ -17,9 +17,9 @@ use Rattle.nodeset.proofs.Tests.{by-cases, both, all, chosen, otherwise}
 use Rattle.nodeset.proofs.Counts.{distance-same}
 use Rattle.ring.specs.Ring.{ringSize, sponsorCount, nodeNumber}
 use Rattle.ring.proofs.Ranges.{ring-size}
-use Rattle.record.specs.declared.Node.{Node}
-use Rattle.record.specs.States.{isMember}
-use Rattle.record.specs.Soundness.{limit}
+use Rattle.node_record.specs.declared.Node.{Node}
+use Rattle.node_record.specs.States.{isMember}
+use Rattle.node_record.specs.Soundness.{limit}
 use Rattle.bench.specs.declared.Command.{Command}
 use Rattle.bench.specs.declared.Command.the-variants as command
 use Rattle.bench.specs.declared.Listed.{Listed}

@@ -12,8 +12,8 @@ use borrow.Author.Tests.{lt-ltb}
 use Rattle.nodeset.specs.Sets.{distance}
 use Rattle.nodeset.proofs.Tests.{by-cases}
 use Rattle.ring.proofs.Ranges.{ring-size}
-use Rattle.record.specs.declared.Node.{Node}
-use Rattle.record.specs.States.{isMember}
+use Rattle.node_record.specs.declared.Node.{Node}
+use Rattle.node_record.specs.States.{isMember}
 use Rattle.bench_walks.specs.declared.Members.{Members}
 use Rattle.bench.specs.Table.{Table, recordOf, placedFrom, tableSound, slotsOf}
 use Rattle.bench.specs.Calls.{farthest, greatest}

@@ -17,9 +17,9 @@ use Rattle.nodeset.proofs.Sums.{sum-none, sum-first, sum-same}
 use Rattle.nodeset.proofs.Tests.{by-cases, all, chosen, eqb-swap}
 use Rattle.ring.specs.Ring.{ringSize, sponsorCount, nodeNumber}
 use Rattle.ring.proofs.Ranges.{ring-size, node-number}
-use Rattle.record.specs.declared.Node.{Node}
-use Rattle.record.specs.declared.State.{State}
-use Rattle.record.specs.Soundness.{limit}
+use Rattle.node_record.specs.declared.Node.{Node}
+use Rattle.node_record.specs.declared.State.{State}
+use Rattle.node_record.specs.Soundness.{limit}
 use Rattle.node.specs.Calls.{noNode}
 use Rattle.bench.specs.declared.Command.{Command}
 use Rattle.bench.specs.declared.Command.the-variants as command

@@ -16,10 +16,10 @@ use Rattle.nodeset.proofs.Laws.{has-with, has-with-other}
 use Rattle.ring.specs.Ring.{ringSize, nodeNumber, sender}
 use Rattle.ring.proofs.Ranges.{ring-size, node-number}
 use Rattle.ring.proofs.Senders.{sender-range}
-use Rattle.record.specs.declared.Node.{Node}
-use Rattle.record.specs.States.{isOut}
-use Rattle.record.specs.Soundness.{sound}
-use Rattle.record.proofs.Facts.{clauses}
+use Rattle.node_record.specs.declared.Node.{Node}
+use Rattle.node_record.specs.States.{isOut}
+use Rattle.node_record.specs.Soundness.{sound}
+use Rattle.node_record.proofs.Facts.{clauses}
 use Rattle.node.specs.Calls.{noNode}
 use Rattle.bench_walks.specs.declared.Survey.{Survey}
 use Rattle.bench.specs.Table.{Table, recordOf, inPlace, placedFrom, tableSound, slotsOf, speaker}

@@ -18,11 +18,11 @@ use Rattle.ring.specs.Ring.{ringSize, sponsorCount, nodeNumber, sender}
 use Rattle.ring.proofs.Ranges.{ring-size}
 use Rattle.ring.proofs.Senders.{sender-range}
 use Rattle.message.specs.declared.Reading.{Reading}
-use Rattle.record.specs.declared.Node.{Node}
-use Rattle.record.specs.declared.Cause.the-variants.{SwitchedOff}
-use Rattle.record.specs.States.{isOut}
-use Rattle.record.specs.Soundness.{sound, limit}
-use Rattle.changes.specs.Changes.{starting, outFor, fresh, numbered}
+use Rattle.node_record.specs.declared.Node.{Node}
+use Rattle.node_record.specs.declared.Cause.the-variants.{SwitchedOff}
+use Rattle.node_record.specs.States.{isOut}
+use Rattle.node_record.specs.Soundness.{sound, limit}
+use Rattle.node_changes.specs.Changes.{starting, outFor, fresh, numbered}
 use Rattle.node.specs.declared.Stepped.{Stepped}
 use Rattle.node.specs.Slot.{afterSlot}
 use Rattle.node.specs.Calls as node

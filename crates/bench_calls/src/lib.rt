@@ -8,7 +8,7 @@ use bench::Reply;
 use bench_walks::Members;
 use bench_walks::Notes;
 use bench_walks::Order;
-use record::Node;
+use node_record::Node;
 ghost use mathlib.Core.Path.{_≡_};
 ghost use Prim.Native.Nat.{_≤_};
 ghost use lib.ListN.{length};

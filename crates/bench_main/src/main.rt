@@ -4,11 +4,11 @@ mod input;
 mod output;
 
 use bench::Outcome;
-use doors::Ran;
+use bench_by_value::Ran;
 use input::Ending;
 use input::Unread;
+use node_record::Node;
 use plan_run::Opened;
-use record::Node;
 use refusal::Refusal;
 
 // The input ends after a line, and not within one.

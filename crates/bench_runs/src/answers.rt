@@ -5,9 +5,9 @@
 use bench::Fate;
 use bench::Listed;
 use bench::Outcome;
-use doors::Ran;
+use bench_by_value::Ran;
 use node_bytes::bytes;
-use record::Node;
+use node_record::Node;
 use run_io::block;
 use run_io::block::Block;
 use run_io::output;

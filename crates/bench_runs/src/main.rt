@@ -17,9 +17,9 @@
 mod answers;
 
 use bench::Command;
-use doors::Ran;
+use bench_by_value::Ran;
 use node_bytes::bytes;
-use record::Node;
+use node_record::Node;
 use run_io::block;
 use run_io::block::Block;
 use run_io::input;
@@ -88,9 +88,9 @@ fn command_of(letter: u8, block: &Block) -> Command {
 // Lends the first `room` bytes.
 fn call(rows: [Node; 32], size: u32, buffer: &mut [u8], room: usize, command: Command) -> Ran {
     if room <= buffer.len() {
-        doors::call(&mut buffer[0..room], rows, size, command)
+        bench_by_value::call(&mut buffer[0..room], rows, size, command)
     } else {
-        doors::call(buffer, rows, size, command)
+        bench_by_value::call(buffer, rows, size, command)
     }
 }
 

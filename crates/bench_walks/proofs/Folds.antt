@@ -34,9 +34,9 @@ use denote.Triple.Spec.{Meets}
 use denote.Triple.Walked.{Stays, stay-dropped, walkOf, goes-dropped, ends-at}
 use denote.Struct.Laws as LL
 use denote.Exit.{yes}
-use Rattle.record.specs.declared.Node.{Node}
-use Rattle.record.proofs.Node as T
-use Rattle.record.proofs.Node.Laws as T′
+use Rattle.node_record.specs.declared.Node.{Node}
+use Rattle.node_record.proofs.Node as T
+use Rattle.node_record.proofs.Node.Laws as T′
 use Rattle.node.specs.Calls.{noNode}
 use Rattle.bench_walks.specs.Survey.{foldFrom}
 use Rattle.bench_walks.proofs.Partly.{fold-none, fold-next, take-least}

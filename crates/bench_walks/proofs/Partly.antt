@@ -7,7 +7,7 @@ use native.Mathlib.Numerals.{add-one}
 use native.Mathlib.Omega.{arith}
 use mathlib.Core.List.{List, [], _∷_}
 use lib.ListN.{length, getD, set, take}
-use Rattle.record.specs.declared.Node.{Node}
+use Rattle.node_record.specs.declared.Node.{Node}
 use Rattle.bench.specs.Table.{eachFrom}
 use Rattle.bench_walks.specs.Survey.{foldFrom}
 

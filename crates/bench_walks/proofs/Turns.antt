@@ -27,7 +27,7 @@ use types.Run.{Opd, Rv, Finds, Writes, init, lit, bin, assigns, stays, leaves-lo
 use denote.Memory.{pointee}
 use denote.Slice.{sliceTy}
 use denote.Index.{place as place-of, place-is}
-use Rattle.record.proofs.Node as T
+use Rattle.node_record.proofs.Node as T
 
 abbrev pub word : Ty
 word = tyInt w64

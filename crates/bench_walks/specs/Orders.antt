@@ -11,13 +11,13 @@ use Rattle.nodeset.specs.Sets.{has, within}
 use Rattle.ring.specs.Ring.{ringSize, sponsorCount, nodeNumber}
 use Rattle.message.specs.declared.Reading.{Reading}
 use Rattle.message.specs.declared.Reading.the-variants as reading
-use Rattle.record.specs.declared.Node.{Node}
-use Rattle.record.specs.States.{isMember}
-use Rattle.record.specs.Soundness.{limit}
-use Rattle.record.specs.declared.Cause.the-variants.{SwitchedOff}
-use Rattle.changes.specs.Changes.{starting, outFor, fresh, numbered}
-use Rattle.steps.specs.Lessons.{lessonOf}
-use Rattle.sending.specs.Sending.{sends, bitsSent, returnSent}
+use Rattle.node_record.specs.declared.Node.{Node}
+use Rattle.node_record.specs.States.{isMember}
+use Rattle.node_record.specs.Soundness.{limit}
+use Rattle.node_record.specs.declared.Cause.the-variants.{SwitchedOff}
+use Rattle.node_changes.specs.Changes.{starting, outFor, fresh, numbered}
+use Rattle.node_steps.specs.Lessons.{lessonOf}
+use Rattle.node_sending.specs.Sending.{sends, bitsSent, returnSent}
 use Rattle.node.specs.declared.Answer.{Answer}
 use Rattle.node.specs.declared.Answer.the-variants as answer
 use Rattle.node.specs.Slot.{afterBy}

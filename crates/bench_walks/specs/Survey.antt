@@ -8,8 +8,8 @@ use Rattle.nodeset.specs.Sets.{with, distance}
 use Rattle.ring.specs.Answers.{senderOf}
 use Rattle.ring.specs.declared.Speaker.{Speaker}
 use Rattle.ring.specs.declared.Speaker.the-variants as speaker
-use Rattle.record.specs.declared.Node.{Node}
-use Rattle.record.specs.States.{isMember, isOut}
+use Rattle.node_record.specs.declared.Node.{Node}
+use Rattle.node_record.specs.States.{isMember, isOut}
 use Rattle.node.specs.Calls.{noNode}
 use Rattle.bench_walks.specs.declared.Survey.{Survey}
 use Rattle.bench_walks.specs.declared.Members.{Members}

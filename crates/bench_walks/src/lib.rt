@@ -10,6 +10,8 @@ use bench::Command;
 use bench::Fate;
 use bench::Listed;
 use message::Reading;
+use node_record::Node;
+use node_steps::Lesson;
 use orders::look_order;
 use orders::off_order;
 use orders::restart_order;
@@ -17,13 +19,11 @@ use orders::set_up_order;
 use orders::slot_order;
 use pairs::kind_from;
 use pairs::same_state;
-use record::Node;
 use records::off_at;
 use records::place_of;
 use records::restart_at;
 use records::step_at;
 use refusal::Refusal;
-use steps::Lesson;
 use surveys::begun;
 use surveys::seen;
 ghost use mathlib.Core.Path.{_≡_};
@@ -133,7 +133,7 @@ fn carried(order: Order, i: usize, v: Node) -> Node
 {
     match order {
         Order::Refuse(_) => v,
-        Order::Start(n, k) => changes::starting(n, k, place_of(i)),
+        Order::Start(n, k) => node_changes::starting(n, k, place_of(i)),
         Order::Off(a) => off_at(a, v),
         Order::Restart(a) => restart_at(a, v),
         Order::Slot(turn) => step_at(turn, v),
@@ -185,7 +185,7 @@ fn list_with(list: Listed, v: Node) -> Listed
     let state = v.state;
     match list {
         Listed::Nobody => {
-            if record::is_member(state) {
+            if node_record::is_member(state) {
                 Listed::Set(v.set)
             } else {
                 Listed::Nobody
@@ -200,7 +200,7 @@ fn same_with(list: Listed, v: Node) -> bool
     ensures { λ r. ⌜ r ≡ sameWith list v ⌝ }
 {
     let state = v.state;
-    if !record::is_member(state) {
+    if !node_record::is_member(state) {
         return true;
     }
     match list {
@@ -286,7 +286,7 @@ fn gathered(m: Members, i: usize, v: Node) -> Members
     ensures { λ r. ⌜ r ≡ gathered m i v ⌝ }
 {
     let state = v.state;
-    if record::is_member(state) & (m.count < 32) {
+    if node_record::is_member(state) & (m.count < 32) {
         return member_seen(v.n, m, v.set);
     }
     m

@@ -5,7 +5,7 @@ use crate::Turn;
 use crate::is_fine;
 use bench::Fate;
 use message::Reading;
-use record::Node;
+use node_record::Node;
 use refusal::Refusal;
 ghost use mathlib.Core.Path.{_≡_};
 ghost use Prim.Native.Nat.{_<_, _^_, _-_};
@@ -60,12 +60,12 @@ pub fn said_by(lost: bool, v: Node) -> Reading
     if lost {
         return Reading::Refused(Refusal::MessageLength);
     }
-    if !sending::sends(v) {
+    if !node_sending::sends(v) {
         return Reading::Refused(Refusal::MessageLength);
     }
     Reading::Heard {
-        acknowledgements: sending::bits_sent(v),
-        return_bit: sending::return_sent(v),
+        acknowledgements: node_sending::bits_sent(v),
+        return_bit: node_sending::return_sent(v),
     }
 }
 
@@ -74,13 +74,13 @@ pub fn fate_of(lost: bool, v: Node) -> Fate
     ensures { λ r. ⌜ r ≡ fateBy lost v ⌝ }
 {
     let state = v.state;
-    if !sending::sends(v) {
+    if !node_sending::sends(v) {
         return Fate::Silent;
     }
     if lost {
         return Fate::Lost;
     }
-    if record::is_member(state) {
+    if node_record::is_member(state) {
         return Fate::Sent;
     }
     Fate::Knock
@@ -94,7 +94,7 @@ fn turn_of(lost: bool, missed: u32, s: Survey) -> Turn
     let speaker = s.speaker;
     let fate = fate_of(lost, speaker);
     let heard = said_by(lost, speaker);
-    let lesson = steps::lesson_of(s.sender, heard, speaker);
+    let lesson = node_steps::lesson_of(s.sender, heard, speaker);
     Turn {
         slot: s.slots + 1,
         sender: s.sender,
@@ -114,7 +114,7 @@ pub fn slot_order(lost: bool, missed: u32, room: usize, s: Survey, size: usize) 
     if !nodeset::is_within(s.n, missed) {
         return Order::Refuse(Refusal::NodeNumber);
     }
-    if record::LIMIT <= s.slots {
+    if node_record::LIMIT <= s.slots {
         return Order::Refuse(Refusal::SlotLimit);
     }
     if room < 64 {

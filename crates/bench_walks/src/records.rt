@@ -2,11 +2,11 @@
 // so the records are not tested again.
 use crate::Turn;
 use message::Reading;
-use record::Cause;
-use record::Node;
+use node_record::Cause;
+use node_record::Node;
 use refusal::Refusal;
 ghost use mathlib.Core.Path.{_≡_};
-ghost use Rattle.changes.specs.Changes.{numbered};
+ghost use Rattle.node_changes.specs.Changes.{numbered};
 ghost use Rattle.bench_walks.specs.Orders.{placeOf, offAt, restartAt, heardAt, stepAt};
 
 // The number of the node at index i, of the first 32.
@@ -25,7 +25,7 @@ pub fn off_at(a: u32, v: Node) -> Node
     if v.own != a {
         return v;
     }
-    changes::out_for(Cause::SwitchedOff, v)
+    node_changes::out_for(Cause::SwitchedOff, v)
 }
 
 pub fn restart_at(a: u32, v: Node) -> Node
@@ -34,7 +34,7 @@ pub fn restart_at(a: u32, v: Node) -> Node
     if v.own != a {
         return v;
     }
-    changes::fresh(v)
+    node_changes::fresh(v)
 }
 
 // What the record's node hears: nothing, if it misses the message.

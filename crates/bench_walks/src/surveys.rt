@@ -1,6 +1,6 @@
 // What a look over a table notes of one record, by value.
 use crate::Survey;
-use record::Node;
+use node_record::Node;
 use ring::Speaker;
 ghost use mathlib.Core.Path.{_≡_};
 ghost use Prim.Native.Nat.{_+_};
@@ -49,7 +49,7 @@ pub fn is_place(own: u32, i: usize) -> bool
 pub fn stands(s: Survey, i: usize, v: Node) -> bool
     ensures { λ r. ⌜ r ≡ inPlace (s .n) (s .k) (s .slots) (i + 1) v ⌝ }
 {
-    record::is_sound(v)
+    node_record::is_sound(v)
         & ((v.n == s.n) & ((v.k == s.k) & ((v.slots == s.slots) & is_place(v.own, i))))
 }
 
@@ -58,7 +58,7 @@ fn out_with(out: u32, v: Node) -> u32
     ensures { λ r. ⌜ r ≡ outWith out v ⌝ }
 {
     let state = v.state;
-    if record::is_out(state) {
+    if node_record::is_out(state) {
         return nodeset::with(out, v.own);
     }
     out

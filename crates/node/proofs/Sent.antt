@@ -16,11 +16,11 @@ use Rattle.message.specs.declared.Written.{Written}
 use Rattle.message.specs.declared.Written.the-variants.{Bytes, Refused}
 use Rattle.message.specs.Message.{inRange, lengthOf, messageOf, ifWritten, readOf, writeOf}
 use Rattle.message.proofs.RoundTrip.{read-back}
-use Rattle.record.specs.declared.Node.{Node}
-use Rattle.record.specs.Soundness.{limit, sound}
-use Rattle.record.proofs.Facts.{clauses}
-use Rattle.sending.specs.Sending.{bitsSent, returnSent}
-use Rattle.sending.proofs.Laws.{bitsSent-lt}
+use Rattle.node_record.specs.declared.Node.{Node}
+use Rattle.node_record.specs.Soundness.{limit, sound}
+use Rattle.node_record.proofs.Facts.{clauses}
+use Rattle.node_sending.specs.Sending.{bitsSent, returnSent}
+use Rattle.node_sending.proofs.Laws.{bitsSent-lt}
 use Rattle.node.specs.Calls.{itsTurn, sendOf}
 
 refused-no-bytes : (r : Refusal) (n : ℕ) (out after : List ℕ) → _≡_ {A = Written × List ℕ} (Refused r, out) (Bytes n, after) → ⊥

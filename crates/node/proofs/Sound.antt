@@ -17,19 +17,19 @@ use Rattle.ring.proofs.Senders.{sender-range}
 use Rattle.message.specs.declared.Reading.{Reading}
 use Rattle.message.specs.declared.Reading.the-variants as reading
 use Rattle.message.specs.Message.{readOf}
-use Rattle.record.specs.declared.Node.{Node}
-use Rattle.record.specs.declared.State.{State}
-use Rattle.record.specs.declared.State.the-variants.{Member, Listening, Following, Knocking, Out}
-use Rattle.record.specs.declared.Cause.the-variants.{SwitchedOff}
-use Rattle.record.specs.States.{isListening, isOut}
-use Rattle.record.specs.Soundness.{limit, sound}
-use Rattle.record.proofs.Facts.{clauses, sound-by}
-use Rattle.record.proofs.Tracking.{tracks, sound-tracking}
-use Rattle.changes.specs.Changes.{counted, starting}
-use Rattle.changes.proofs.Sound.{in-range, out-sound, fresh-sound, starting-sound}
-use Rattle.steps.specs.Steps.{trackingSlot}
-use Rattle.steps.proofs.Sound.{tracking-slot-sound}
-use Rattle.hearing.proofs.Sound.{FromOther, listening-slot-sound}
+use Rattle.node_record.specs.declared.Node.{Node}
+use Rattle.node_record.specs.declared.State.{State}
+use Rattle.node_record.specs.declared.State.the-variants.{Member, Listening, Following, Knocking, Out}
+use Rattle.node_record.specs.declared.Cause.the-variants.{SwitchedOff}
+use Rattle.node_record.specs.States.{isListening, isOut}
+use Rattle.node_record.specs.Soundness.{limit, sound}
+use Rattle.node_record.proofs.Facts.{clauses, sound-by}
+use Rattle.node_record.proofs.Tracking.{tracks, sound-tracking}
+use Rattle.node_changes.specs.Changes.{counted, starting}
+use Rattle.node_changes.proofs.Sound.{in-range, out-sound, fresh-sound, starting-sound}
+use Rattle.node_steps.specs.Steps.{trackingSlot}
+use Rattle.node_steps.proofs.Sound.{tracking-slot-sound}
+use Rattle.node_hearing.proofs.Sound.{FromOther, listening-slot-sound}
 use Rattle.node.specs.declared.Answer.the-variants.{Done, Refused}
 use Rattle.node.specs.Slot.{heardFrom, slotIn, afterSlot}
 use Rattle.node.specs.Calls.{done, refused, noNode, setUpOf, stepOf, slotOf, offOf, restartOf}

@@ -13,16 +13,16 @@ use Rattle.nodeset.proofs.Tests.{by-cases, both}
 use Rattle.ring.proofs.Ranges.{ring-size, node-number}
 use Rattle.message.specs.declared.Reading.{Reading}
 use Rattle.message.specs.declared.Reading.the-variants as reading
-use Rattle.record.specs.declared.Node.{Node}
-use Rattle.record.specs.declared.State.{State}
-use Rattle.record.specs.declared.State.the-variants.{Member, Listening, Following, Knocking, Out}
-use Rattle.record.specs.States.{isOut, isListening}
-use Rattle.record.specs.Soundness.{sound}
-use Rattle.record.proofs.Facts.{clauses}
-use Rattle.steps.specs.Steps.{isHeard, trackingSlot}
-use Rattle.steps.specs.Lessons.{lessonOf, trackingBy}
-use Rattle.steps.proofs.Taught.{tracking-taught}
-use Rattle.hearing.specs.Hearing.{listeningSlot}
+use Rattle.node_record.specs.declared.Node.{Node}
+use Rattle.node_record.specs.declared.State.{State}
+use Rattle.node_record.specs.declared.State.the-variants.{Member, Listening, Following, Knocking, Out}
+use Rattle.node_record.specs.States.{isOut, isListening}
+use Rattle.node_record.specs.Soundness.{sound}
+use Rattle.node_record.proofs.Facts.{clauses}
+use Rattle.node_steps.specs.Steps.{isHeard, trackingSlot}
+use Rattle.node_steps.specs.Lessons.{lessonOf, trackingBy}
+use Rattle.node_steps.proofs.Taught.{tracking-taught}
+use Rattle.node_hearing.specs.Hearing.{listeningSlot}
 use Rattle.node.specs.Slot.{heardFrom, slotIn, afterSlot, lessonFor, afterBy}
 
 -- ---- what a sound record gives

@@ -12,14 +12,14 @@ use Rattle.message.specs.declared.Reading.{Reading}
 use Rattle.message.specs.declared.Written.{Written}
 use Rattle.message.specs.declared.Written.the-variants as written
 use Rattle.message.specs.Message.{readOf, writeOf}
-use Rattle.record.specs.declared.Node.{Node}
-use Rattle.record.specs.declared.State.the-variants.{Out}
-use Rattle.record.specs.States.{isOut, leavingCause}
-use Rattle.record.specs.Soundness.{sound, limit}
+use Rattle.node_record.specs.declared.Node.{Node}
+use Rattle.node_record.specs.declared.State.the-variants.{Out}
+use Rattle.node_record.specs.States.{isOut, leavingCause}
+use Rattle.node_record.specs.Soundness.{sound, limit}
 use Rattle.node.specs.declared.Stepped.{Stepped}
 use Rattle.node.specs.declared.Answer.the-variants.{Done, Refused}
-use Rattle.changes.specs.Changes.{noWindow, starting, outFor, fresh, counted}
-use Rattle.sending.specs.Sending.{sends, bitsSent, returnSent}
+use Rattle.node_changes.specs.Changes.{noWindow, starting, outFor, fresh, counted}
+use Rattle.node_sending.specs.Sending.{sends, bitsSent, returnSent}
 use Rattle.node.specs.Slot.{afterSlot}
 
 -- A call that was made, and one that was refused.

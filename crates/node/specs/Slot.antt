@@ -5,14 +5,14 @@ use lib.Dec.{eqb}
 use Rattle.refusal.specs.Causes.{cause}
 use Rattle.message.specs.declared.Reading.{Reading}
 use Rattle.message.specs.declared.Reading.the-variants.{Refused}
-use Rattle.record.specs.declared.Node.{Node}
-use Rattle.record.specs.declared.State.{State}
-use Rattle.record.specs.declared.State.the-variants.{Member, Listening, Following, Knocking, Out}
-use Rattle.record.specs.States.{isOut, isListening}
-use Rattle.steps.specs.declared.Lesson.{Lesson}
-use Rattle.steps.specs.Steps.{trackingSlot}
-use Rattle.steps.specs.Lessons.{lessonOf, trackingBy}
-use Rattle.hearing.specs.Hearing.{listeningSlot}
+use Rattle.node_record.specs.declared.Node.{Node}
+use Rattle.node_record.specs.declared.State.{State}
+use Rattle.node_record.specs.declared.State.the-variants.{Member, Listening, Following, Knocking, Out}
+use Rattle.node_record.specs.States.{isOut, isListening}
+use Rattle.node_steps.specs.declared.Lesson.{Lesson}
+use Rattle.node_steps.specs.Steps.{trackingSlot}
+use Rattle.node_steps.specs.Lessons.{lessonOf, trackingBy}
+use Rattle.node_hearing.specs.Hearing.{listeningSlot}
 
 -- "A message handed over in the own slot is ignored"; "the own slot hears nothing": there it is as if unreadable.
 abbrev pub heardFrom : ℕ → Reading → Node → Reading
@@ -30,7 +30,7 @@ slotIn (Out cause) s heard v = v
 unfoldable pub afterSlot : ℕ → Reading → Node → Node
 afterSlot s heard v = slotIn (v .state) s (heardFrom s heard v) v
 
--- Inner: the same by what the slot tells those who hold one set (steps' specs/Lessons); the law is `after-taught` in proofs/Taught.
+-- Inner: the same by what the slot tells those who hold one set (node_steps' specs/Lessons); the law is `after-taught` in proofs/Taught.
 abbrev pub lessonFor : Lesson → ℕ → Reading → Node → Lesson
 lessonFor l s heard v = cond (eqb (l .set) (v .set)) l (lessonOf s heard v)
 

@@ -3,13 +3,13 @@
 // sound is refused.
 use message::Reading;
 use message::Written;
-use record::Cause;
-use record::Node;
-use record::State;
-use record::Window;
+use node_record::Cause;
+use node_record::Node;
+use node_record::State;
+use node_record::Window;
+use node_steps::Lesson;
 use refusal::Refusal;
 use ring::Speaker;
-use steps::Lesson;
 ghost use mathlib.Core.Path.{_≡_};
 ghost use mathlib.Core.Bool.{true};
 ghost use Rattle.ring.specs.Ring.{ringSize};
@@ -71,7 +71,7 @@ pub fn set_up(n: u32, k: u32, own: u32) -> Stepped
             answer: Answer::Refused(Refusal::NodeNumber),
         };
     }
-    let v = changes::starting(n, k, own);
+    let v = node_changes::starting(n, k, own);
     Stepped {
         node: v,
         answer: Answer::Done,
@@ -82,13 +82,13 @@ pub fn set_up(n: u32, k: u32, own: u32) -> Stepped
 pub fn off(v: Node) -> Stepped
     ensures { λ r. ⌜ r ≡ offOf v ⌝ }
 {
-    if !record::is_sound(v) {
+    if !node_record::is_sound(v) {
         return Stepped {
             node: v,
             answer: Answer::Refused(Refusal::Unsound),
         };
     }
-    let w = changes::out_for(Cause::SwitchedOff, v);
+    let w = node_changes::out_for(Cause::SwitchedOff, v);
     Stepped {
         node: w,
         answer: Answer::Done,
@@ -99,20 +99,20 @@ pub fn off(v: Node) -> Stepped
 pub fn restart(v: Node) -> Stepped
     ensures { λ r. ⌜ r ≡ restartOf v ⌝ }
 {
-    if !record::is_sound(v) {
+    if !node_record::is_sound(v) {
         return Stepped {
             node: v,
             answer: Answer::Refused(Refusal::Unsound),
         };
     }
     let state = v.state;
-    if !record::is_out(state) {
+    if !node_record::is_out(state) {
         return Stepped {
             node: v,
             answer: Answer::Refused(Refusal::NotOut),
         };
     }
-    let w = changes::fresh(v);
+    let w = node_changes::fresh(v);
     Stepped {
         node: w,
         answer: Answer::Done,
@@ -136,7 +136,7 @@ fn lesson_for(s: u32, heard: Reading, lesson: Lesson, v: Node) -> Lesson
     if lesson.set == v.set {
         return lesson;
     }
-    steps::lesson_with(s, heard, v.n, v.k, v.set)
+    node_steps::lesson_with(s, heard, v.n, v.k, v.set)
 }
 
 // The record after a slot of which s is the sender, by what the slot tells those who hold one set. The
@@ -145,14 +145,14 @@ pub fn after_slot(s: u32, heard: Reading, lesson: Lesson, v: Node) -> Node
     ensures { λ r. ⌜ r ≡ afterBy lesson s heard v ⌝ }
 {
     let state = v.state;
-    if record::is_out(state) {
+    if node_record::is_out(state) {
         return v;
     }
     let told = heard_from(s, heard, v);
-    if record::is_listening(state) {
-        return hearing::listening_slot(s, told, v);
+    if node_record::is_listening(state) {
+        return node_hearing::listening_slot(s, told, v);
     }
-    steps::tracking_slot(s, told, lesson_for(s, told, lesson, v), v)
+    node_steps::tracking_slot(s, told, lesson_for(s, told, lesson, v), v)
 }
 
 // One slot, in which the reader found this in the bytes heard; any refused reading is nothing heard.
@@ -160,13 +160,13 @@ pub fn after_slot(s: u32, heard: Reading, lesson: Lesson, v: Node) -> Node
 pub fn step(heard: Reading, v: Node) -> Stepped
     ensures { λ r. ⌜ r ≡ stepOf heard v ⌝ }
 {
-    if !record::is_sound(v) {
+    if !node_record::is_sound(v) {
         return Stepped {
             node: v,
             answer: Answer::Refused(Refusal::Unsound),
         };
     }
-    if record::LIMIT <= v.slots {
+    if node_record::LIMIT <= v.slots {
         return Stepped {
             node: v,
             answer: Answer::Refused(Refusal::SlotLimit),
@@ -182,7 +182,7 @@ pub fn step(heard: Reading, v: Node) -> Stepped
     };
     let mut counted = v;
     counted.slots = v.slots + 1;
-    let lesson = steps::lesson_of(s, heard, counted);
+    let lesson = node_steps::lesson_of(s, heard, counted);
     let w = after_slot(s, heard, lesson, counted);
     Stepped {
         node: w,
@@ -207,7 +207,7 @@ fn its_turn(v: Node) -> bool
     let Speaker::Node(s) = speaker else {
         return false;
     };
-    (s == v.own) & sending::sends(v)
+    (s == v.own) & node_sending::sends(v)
 }
 
 // Writes what the node sends in the next slot, if that is its own, to the start of out, and leaves
@@ -215,14 +215,19 @@ fn its_turn(v: Node) -> bool
 pub fn send(v: Node, out: &mut [u8]) -> Written
     ensures { λ r. ⌜ (r, now (out .exit)) ≡ sendOf v (now (out .entry)) ⌝ }
 {
-    if !record::is_sound(v) {
+    if !node_record::is_sound(v) {
         return Written::Refused(Refusal::Unsound);
     }
-    if record::LIMIT <= v.slots {
+    if node_record::LIMIT <= v.slots {
         return Written::Refused(Refusal::SlotLimit);
     }
     if !its_turn(v) {
         return Written::Refused(Refusal::NotItsSlot);
     }
-    message::write(v.k, sending::bits_sent(v), sending::return_sent(v), out)
+    message::write(
+        v.k,
+        node_sending::bits_sent(v),
+        node_sending::return_sent(v),
+        out,
+    )
 }

@@ -1,8 +1,8 @@
 // A record as the first 51 bytes of a block.
-use record::Cause;
-use record::Node;
-use record::State;
-use record::Window;
+use node_record::Cause;
+use node_record::Node;
+use node_record::State;
+use node_record::Window;
 use run_io::block;
 use run_io::block::Block;
 

@@ -3,7 +3,7 @@ use crate::bytes;
 use message::Written;
 use node::Answer;
 use node::Stepped;
-use record::Node;
+use node_record::Node;
 use run_io::block;
 use run_io::block::Block;
 ghost use mathlib.Core.Path.{_≡_};

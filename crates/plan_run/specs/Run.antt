@@ -1,5 +1,5 @@
 -- Document 01, "The bench program": what a line does to a plan's bench, and what there is to print of it. The bench is 32 rows, of which the first n are its
--- table; the calls are those of the bench (doors' specs/Doors).
+-- table; the calls are those of the bench (bench_by_value's specs/ByValue).
 use Prim.Native.Nat.{ℕ}
 use mathlib.Core.Bool.{true, false}
 use mathlib.Core.List.{List}
@@ -8,8 +8,8 @@ use Rattle.refusal.specs.declared.Refusal.{Refusal}
 use Rattle.node.specs.Calls.{noNode}
 use Rattle.bench.specs.declared.Command.the-variants as command
 use Rattle.bench.specs.declared.Outcome.the-variants as outcome
-use Rattle.doors.specs.declared.Ran.{Ran}
-use Rattle.doors.specs.Doors.{Rows, callOf}
+use Rattle.bench_by_value.specs.declared.Ran.{Ran}
+use Rattle.bench_by_value.specs.ByValue.{Rows, callOf}
 use Rattle.plan_line.specs.declared.Opening.{Opening}
 use Rattle.plan_line.specs.declared.Opening.the-variants as opening
 use Rattle.plan_line.specs.declared.Order.{Order}

@@ -1,11 +1,11 @@
 // What a plan line does to a plan's bench (document 01, "The bench program"): the bench is 32 rows
-// by value, of which the first n are its table; the call is that of `doors`.
+// by value, of which the first n are its table; the call is that of `bench_by_value`.
 use bench::Command;
 use bench::Outcome;
-use doors::Ran;
+use bench_by_value::Ran;
+use node_record::Node;
 use plan_line::Opening;
 use plan_line::Order;
-use record::Node;
 use refusal::Refusal;
 ghost use mathlib.Core.Path.{_≡_};
 ghost use Rattle.plan_run.specs.Run.{actOf, ranBy, ranOf, noRows, openedBy, openedOf};
@@ -44,7 +44,7 @@ fn ran_by(n: u32, rows: [Node; 32], act: Act) -> Ran
     match act {
         Act::Call(command) => {
             let mut pairs = [0u8; 64];
-            doors::call(&mut pairs, rows, n, command)
+            bench_by_value::call(&mut pairs, rows, n, command)
         }
         Act::Refuse(cause) => Ran {
             rows,
@@ -75,7 +75,7 @@ fn opened_by(opening: Opening) -> Opened
     match opening {
         Opening::Ring(n, k) => {
             let mut pairs = [0u8; 64];
-            let ran = doors::call(&mut pairs, no_rows(), n, Command::SetUp(n, k));
+            let ran = bench_by_value::call(&mut pairs, no_rows(), n, Command::SetUp(n, k));
             let rows = ran.rows;
             let outcome = ran.outcome;
             Opened { n, rows, outcome }

@@ -6,10 +6,10 @@ use mathlib.Core.Bool.{true}
 use mathlib.Core.List.{List, [], _∷_, map, reverse}
 use lib.Dec.{lit≤}
 use lib.ListN.{replicate}
-use Rattle.record.specs.declared.Node.{Node}
-use Rattle.record.specs.declared.State.{State}
-use Rattle.record.specs.declared.State.the-variants.{Member, Out}
-use Rattle.record.specs.declared.Cause.the-variants.{Unconfirmed}
+use Rattle.node_record.specs.declared.Node.{Node}
+use Rattle.node_record.specs.declared.State.{State}
+use Rattle.node_record.specs.declared.State.the-variants.{Member, Out}
+use Rattle.node_record.specs.declared.Cause.the-variants.{Unconfirmed}
 use Rattle.bench.specs.Table.{Table}
 use Rattle.bench.specs.Calls.{setUpOf}
 use Rattle.bench.specs.Runs.{tableAfter}

@@ -6,7 +6,7 @@ use mathlib.Core.List.{List, [], _∷_, reverse}
 use native.Mathlib.Omega.{arith}
 use lib.Dec.{lit≤}
 use lib.ListN.{length}
-use Rattle.record.specs.declared.Node.{Node}
+use Rattle.node_record.specs.declared.Node.{Node}
 use Rattle.nodeset.proofs.Tests.{both}
 use Rattle.node.specs.Calls.{noNode}
 use Rattle.bench.specs.Table.{Table, slotsOf}

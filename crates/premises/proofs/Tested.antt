@@ -11,7 +11,7 @@ use Rattle.nodeset.specs.Sums.{sum, num}
 use Rattle.nodeset.specs.Sets.{has, size}
 use Rattle.nodeset.proofs.Sums.{sum-same, sum-zero}
 use Rattle.nodeset.proofs.Tests.{by-cases, both, all, or-left, or-right, or-else}
-use Rattle.record.specs.States.{isMember, isOut}
+use Rattle.node_record.specs.States.{isMember, isOut}
 use Rattle.bench.specs.Table.{Table, recordOf, slotsOf, speaker}
 use Rattle.bench.specs.Calls.{transmits}
 use Rattle.bench.specs.Runs.{Call, slot, off, restart, tableAfter, isSlot, listOf, Entry, noEntry, entry}

@@ -2,7 +2,7 @@
 use mathlib.Core.Path.{refl}
 use mathlib.Core.List.{[], _∷_}
 use Rattle.message.specs.Message.{bytesOf, messageOf, little, saidBy, readOf, writeOf}
-use Rattle.record.specs.declared.Node.{Node}
+use Rattle.node_record.specs.declared.Node.{Node}
 use Rattle.bench.proofs.Computed.{computed}
 use Rattle.worked_examples.specs.Examples.{AllHold, examples}
 

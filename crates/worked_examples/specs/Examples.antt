@@ -15,10 +15,10 @@ use Rattle.message.specs.declared.Reading.{Reading}
 use Rattle.message.specs.declared.Reading.the-variants as reading
 use Rattle.message.specs.declared.Written.the-variants as written
 use Rattle.message.specs.Message.{readOf, writeOf}
-use Rattle.record.specs.declared.Node.{Node}
-use Rattle.record.specs.declared.State.{State}
-use Rattle.record.specs.declared.State.the-variants as state
-use Rattle.record.specs.States.{causeNumber}
+use Rattle.node_record.specs.declared.Node.{Node}
+use Rattle.node_record.specs.declared.State.{State}
+use Rattle.node_record.specs.declared.State.the-variants as state
+use Rattle.node_record.specs.States.{causeNumber}
 use Rattle.bench.specs.declared.Listed.the-variants as listed
 use Rattle.bench.specs.declared.Fate.the-variants as fate
 use Rattle.bench.specs.declared.Outcome.{Outcome}

@@ -9,8 +9,8 @@ use Rattle.refusal.specs.declared.Refusal.{Refusal}
 use Rattle.refusal.specs.declared.Refusal.the-variants.{RingSize, SponsorCount, NodeNumber, Unsound, SlotLimit, OutputShort, NotOut}
 use Rattle.nodeset.specs.Sets.{within}
 use Rattle.ring.specs.Ring.{ringSize, sponsorCount, nodeNumber}
-use Rattle.record.specs.States.{isOut}
-use Rattle.record.specs.Soundness.{limit}
+use Rattle.node_record.specs.States.{isOut}
+use Rattle.node_record.specs.Soundness.{limit}
 use Rattle.bench.specs.Table.{Table, recordOf, tableSound, ringOf, slotsOf}
 use Rattle.bench.specs.Calls.{Called, done, ifPassed, startTable, setUpOf, afterSlot, slotOf, afterOff, offOf, afterRestart, restartOf}
 use Rattle.bench.specs.Runs.{slot, off, restart, callOf, isDone, isSlot}

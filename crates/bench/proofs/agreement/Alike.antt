@@ -5,16 +5,16 @@ use mathlib.Core.Bool.{Bool, true, false, cond, false≢true}
 use lib.Dec.{eqb, ltb}
 use Rattle.ring.specs.declared.Found.the-variants as found
 use Rattle.message.specs.declared.Reading.{Reading}
-use Rattle.record.specs.declared.Node.{Node}
-use Rattle.record.specs.declared.Window.{Window}
-use Rattle.record.specs.declared.State.{State}
-use Rattle.record.specs.declared.State.the-variants.{Member, Listening, Following, Knocking, Out}
-use Rattle.record.specs.declared.Cause.{Cause}
-use Rattle.record.specs.States.{isMember, isListening}
-use Rattle.record.proofs.Tracking.{tracks}
-use Rattle.changes.specs.Changes.{counted, withSet, withWindow, followingWith, listeningAfter}
-use Rattle.steps.specs.Steps.{marked, trackingSlot}
-use Rattle.hearing.specs.Hearing.{overheard, clean, windowEnd, listeningSlot}
+use Rattle.node_record.specs.declared.Node.{Node}
+use Rattle.node_record.specs.declared.Window.{Window}
+use Rattle.node_record.specs.declared.State.{State}
+use Rattle.node_record.specs.declared.State.the-variants.{Member, Listening, Following, Knocking, Out}
+use Rattle.node_record.specs.declared.Cause.{Cause}
+use Rattle.node_record.specs.States.{isMember, isListening}
+use Rattle.node_record.proofs.Tracking.{tracks}
+use Rattle.node_changes.specs.Changes.{counted, withSet, withWindow, followingWith, listeningAfter}
+use Rattle.node_steps.specs.Steps.{marked, trackingSlot}
+use Rattle.node_hearing.specs.Hearing.{overheard, clean, windowEnd, listeningSlot}
 use Rattle.node.specs.Slot.{slotIn}
 use Rattle.bench.proofs.agreement.Marks.{no-both}
 use Rattle.bench.proofs.agreement.Outcome.{choose, Gone, isout, listens, Settled, gone, kept, backed, became, joined, Departed, left, settled, Inside, missed, went, Noted, knocks, silent, awaits, ignores, setAfter}

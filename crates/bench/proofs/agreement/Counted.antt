@@ -11,19 +11,19 @@ use Rattle.ring.specs.declared.Found.the-variants as found
 use Rattle.ring.specs.Ring.{sender}
 use Rattle.ring.specs.Answers.{decidedOf}
 use Rattle.message.specs.declared.Reading.{Reading}
-use Rattle.record.specs.declared.Node.{Node}
-use Rattle.record.specs.declared.Window.{Window}
-use Rattle.record.specs.declared.State.{State}
-use Rattle.record.specs.declared.State.the-variants.{Member, Listening, Following, Knocking, Out}
-use Rattle.record.specs.declared.Cause.{Cause}
-use Rattle.record.specs.declared.Cause.the-variants.{Unconfirmed, NothingHeard, MissedReturn, SwitchedOff}
-use Rattle.record.specs.States.{isMember, isFollowing, isKnocking, isOut}
-use Rattle.record.specs.Soundness.{limit, sound}
-use Rattle.changes.specs.Changes.{listeningAfter, followingWith, withWindow, outFor, fresh, leave, counted, withSet, withReturning}
-use Rattle.steps.specs.Steps.{isHeard, missedReturn, marked, noted, tooFew, nothingHeard, joins, joined, join, settle, trackingSlot}
-use Rattle.steps.specs.Inner.{judged, departs, departing, insideSlot, outsideSlot, slotByCases}
-use Rattle.steps.proofs.Cases.{slot-by-cases}
-use Rattle.hearing.specs.Hearing.{overheard, clean, windowEnd, listeningSlot}
+use Rattle.node_record.specs.declared.Node.{Node}
+use Rattle.node_record.specs.declared.Window.{Window}
+use Rattle.node_record.specs.declared.State.{State}
+use Rattle.node_record.specs.declared.State.the-variants.{Member, Listening, Following, Knocking, Out}
+use Rattle.node_record.specs.declared.Cause.{Cause}
+use Rattle.node_record.specs.declared.Cause.the-variants.{Unconfirmed, NothingHeard, MissedReturn, SwitchedOff}
+use Rattle.node_record.specs.States.{isMember, isFollowing, isKnocking, isOut}
+use Rattle.node_record.specs.Soundness.{limit, sound}
+use Rattle.node_changes.specs.Changes.{listeningAfter, followingWith, withWindow, outFor, fresh, leave, counted, withSet, withReturning}
+use Rattle.node_steps.specs.Steps.{isHeard, missedReturn, marked, noted, tooFew, nothingHeard, joins, joined, join, settle, trackingSlot}
+use Rattle.node_steps.specs.Inner.{judged, departs, departing, insideSlot, outsideSlot, slotByCases}
+use Rattle.node_steps.proofs.Cases.{slot-by-cases}
+use Rattle.node_hearing.specs.Hearing.{overheard, clean, windowEnd, listeningSlot}
 use Rattle.node.specs.declared.Stepped.{Stepped}
 use Rattle.node.specs.Slot.{heardFrom, slotIn, afterSlot}
 use Rattle.node.specs.Calls.{done, refused, stepOf, offOf, restartOf}

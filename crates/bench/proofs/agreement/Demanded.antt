@@ -18,8 +18,8 @@ use Rattle.nodeset.proofs.Counts.{distance-same}
 use Rattle.ring.specs.declared.Found.the-variants.{Member}
 use Rattle.ring.specs.Ring.{sender}
 use Rattle.ring.proofs.Senders.{sender-period}
-use Rattle.record.specs.Soundness.{sound, limit}
-use Rattle.steps.specs.Steps.{isFound}
+use Rattle.node_record.specs.Soundness.{sound, limit}
+use Rattle.node_steps.specs.Steps.{isFound}
 use Rattle.bench.specs.Table.{Table, recordOf, slotsOf, speaker}
 use Rattle.bench.specs.Calls.{setUpOf}
 use Rattle.bench.specs.Runs.{Call, slot, off, restart, tableAfter, isSlot, listOf, Entry, entry}

@@ -16,11 +16,11 @@ use Rattle.ring.specs.Ring.{sender, ks}
 use Rattle.ring.proofs.Senders.{sender-range, sender-period, its-slot}
 use Rattle.message.specs.declared.Reading.{Reading}
 use Rattle.message.specs.declared.Reading.the-variants as reading
-use Rattle.record.specs.declared.Node.{Node}
-use Rattle.record.specs.declared.Window.{Window}
-use Rattle.changes.specs.Changes.{listeningAfter, followingWith, withWindow}
-use Rattle.steps.specs.Steps.{isHeard}
-use Rattle.hearing.specs.Hearing.{overheard, clean, windowEnd, listeningSlot}
+use Rattle.node_record.specs.declared.Node.{Node}
+use Rattle.node_record.specs.declared.Window.{Window}
+use Rattle.node_changes.specs.Changes.{listeningAfter, followingWith, withWindow}
+use Rattle.node_steps.specs.Steps.{isHeard}
+use Rattle.node_hearing.specs.Hearing.{overheard, clean, windowEnd, listeningSlot}
 use Rattle.bench.proofs.agreement.Past.{Past}
 use Rattle.bench.proofs.agreement.History.{World, K, KFact}
 use Rattle.bench.proofs.agreement.Invariant.{Tracking, ListeningInv}

@@ -5,8 +5,8 @@ use mathlib.Core.Logic.{_≢_, _⊎_}
 use mathlib.Core.Bool.{true, false}
 use Rattle.nodeset.specs.Sets.{has}
 use Rattle.ring.specs.Ring.{sender}
-use Rattle.record.specs.declared.Node.{Node}
-use Rattle.record.specs.States.{isMember, isKnocking}
+use Rattle.node_record.specs.declared.Node.{Node}
+use Rattle.node_record.specs.States.{isMember, isKnocking}
 use Rattle.bench.proofs.agreement.History.{World, Untold}
 
 module _ (W : World) where

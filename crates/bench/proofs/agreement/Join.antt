@@ -15,11 +15,11 @@ use Rattle.ring.specs.Answers.{beforeOf}
 use Rattle.ring.proofs.Members as members
 use Rattle.ring.proofs.Senders.{sender-range}
 use Rattle.ring.proofs.Walks as walks
-use Rattle.record.specs.declared.Node.{Node}
-use Rattle.record.specs.declared.State.the-variants.{Member, Following}
-use Rattle.record.specs.States.{isMember, isKnocking}
-use Rattle.changes.specs.Changes.{withSet, withReturning}
-use Rattle.steps.specs.Steps.{marksAfter, missedReturn, returnHeard, marked, joins}
+use Rattle.node_record.specs.declared.Node.{Node}
+use Rattle.node_record.specs.declared.State.the-variants.{Member, Following}
+use Rattle.node_record.specs.States.{isMember, isKnocking}
+use Rattle.node_changes.specs.Changes.{withSet, withReturning}
+use Rattle.node_steps.specs.Steps.{marksAfter, missedReturn, returnHeard, marked, joins}
 use Rattle.bench.proofs.agreement.History.{World, sender-most, Untold, lst, told-in-time, num-is}
 use Rattle.bench.proofs.agreement.Invariant.{Tracking, Off, Knock, Awaits, aware, unaware}
 use Rattle.bench.proofs.agreement.Marks.{no-both, not-true, not-false, has-with-keeps}

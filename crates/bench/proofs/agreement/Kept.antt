@@ -8,7 +8,7 @@ use lib.ListN.{length}
 use Rattle.nodeset.specs.Sets.{full}
 use Rattle.nodeset.proofs.Tests.{by-cases, both, chosen}
 use Rattle.ring.specs.Ring.{nodeNumber}
-use Rattle.record.specs.declared.Cause.the-variants.{SwitchedOff}
+use Rattle.node_record.specs.declared.Cause.the-variants.{SwitchedOff}
 use Rattle.node.specs.declared.Stepped.{Stepped}
 use Rattle.node.specs.Calls.{offOf, restartOf}
 use Rattle.bench.specs.Table.{Table, tableSound, ringOf, slotsOf}

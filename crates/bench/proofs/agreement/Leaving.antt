@@ -14,7 +14,7 @@ use Rattle.ring.specs.declared.Found.the-variants.{Member}
 use Rattle.ring.specs.Ring.{sender}
 use Rattle.ring.proofs.Senders.{same-slot, size-round}
 use Rattle.ring.proofs.Walks.{member}
-use Rattle.steps.specs.Steps.{isFound}
+use Rattle.node_steps.specs.Steps.{isFound}
 use Rattle.bench.specs.Demand.{memberAfter}
 use Rattle.bench.proofs.agreement.History.{World, K, lst, span, num-is, sum-more}
 use Rattle.bench.proofs.agreement.Depart.{since-next}

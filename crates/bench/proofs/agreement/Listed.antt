@@ -15,9 +15,9 @@ use Rattle.ring.specs.Ring.{sender}
 use Rattle.ring.specs.Answers.{sponsoredOf}
 use Rattle.ring.proofs.Senders.{sender-range, sender-once, same-slot}
 use Rattle.message.specs.declared.Reading.{Reading}
-use Rattle.record.specs.declared.Node.{Node}
-use Rattle.record.specs.States.{isMember}
-use Rattle.steps.specs.Steps.{isHeard, returnIn, marksAfter}
+use Rattle.node_record.specs.declared.Node.{Node}
+use Rattle.node_record.specs.States.{isMember}
+use Rattle.node_steps.specs.Steps.{isHeard, returnIn, marksAfter}
 use Rattle.bench.proofs.agreement.History.{World, sender-most, Untold, K, lst, told-in-time, ks-is, Decision, sponsored-since, Sponsored, num-is}
 use Rattle.bench.proofs.agreement.Invariant.{Tracking, Off}
 use Rattle.bench.proofs.agreement.Marks.{no-both, not-true, not-false, bitsIn, Told, sponsors, mark-of-sender, off-before, on-before}

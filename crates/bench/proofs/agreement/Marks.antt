@@ -14,8 +14,8 @@ use Rattle.ring.specs.Ring.{ks}
 use Rattle.ring.specs.Answers.{sponsoredOf}
 use Rattle.message.specs.declared.Reading.{Reading}
 use Rattle.message.specs.declared.Reading.the-variants.{Heard, Refused}
-use Rattle.record.specs.declared.Node.{Node}
-use Rattle.steps.specs.Steps.{isHeard, withFound, confirmed, marksAfter}
+use Rattle.node_record.specs.declared.Node.{Node}
+use Rattle.node_steps.specs.Steps.{isHeard, withFound, confirmed, marksAfter}
 
 pub no-both : {b : Bool} → b ≡ true → b ≡ false → ⊥
 no-both p q = true≢false (sym p ∙ q)

@@ -9,16 +9,16 @@ use Rattle.ring.specs.declared.Found.the-variants as found
 use Rattle.ring.specs.Ring.{sender}
 use Rattle.ring.specs.Answers.{decidedOf}
 use Rattle.message.specs.declared.Reading.{Reading}
-use Rattle.record.specs.declared.Node.{Node}
-use Rattle.record.specs.declared.State.the-variants.{Member, Out}
-use Rattle.record.specs.declared.Cause.{Cause}
-use Rattle.record.specs.States.{isMember, isListening}
-use Rattle.record.proofs.Tracking.{tracks}
-use Rattle.changes.specs.Changes.{counted, withSet}
-use Rattle.steps.specs.Steps.{isHeard, marked, noted, settle, trackingSlot}
-use Rattle.steps.specs.Inner.{insideSlot, outsideSlot}
-use Rattle.steps.proofs.Cases.{slot-inside, slot-outside}
-use Rattle.hearing.specs.Hearing.{listeningSlot}
+use Rattle.node_record.specs.declared.Node.{Node}
+use Rattle.node_record.specs.declared.State.the-variants.{Member, Out}
+use Rattle.node_record.specs.declared.Cause.{Cause}
+use Rattle.node_record.specs.States.{isMember, isListening}
+use Rattle.node_record.proofs.Tracking.{tracks}
+use Rattle.node_changes.specs.Changes.{counted, withSet}
+use Rattle.node_steps.specs.Steps.{isHeard, marked, noted, settle, trackingSlot}
+use Rattle.node_steps.specs.Inner.{insideSlot, outsideSlot}
+use Rattle.node_steps.proofs.Cases.{slot-inside, slot-outside}
+use Rattle.node_hearing.specs.Hearing.{listeningSlot}
 use Rattle.node.specs.Slot.{slotIn}
 use Rattle.bench.proofs.agreement.History.{World, K}
 use Rattle.bench.proofs.agreement.Invariant.{Tracking, ListeningInv, Awaits, aware, unaware}

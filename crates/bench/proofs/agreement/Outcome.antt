@@ -1,4 +1,4 @@
--- What a slot makes of a tracking node, as the cases of the rules: the order of the steps (steps' specs/Steps) is opened here and nowhere else. Assumes nothing.
+-- What a slot makes of a tracking node, as the cases of the rules: the order of the steps (node_steps' specs/Steps) is opened here and nowhere else. Assumes nothing.
 use Prim.Native.Nat.{ℕ}
 use mathlib.Core.Path.{_≡_, refl, sym, ap, _∙_}
 use mathlib.Core.Logic.{_≢_, _⊎_, inl, inr}
@@ -11,15 +11,15 @@ use Rattle.ring.specs.declared.Found.{Found}
 use Rattle.ring.specs.declared.Found.the-variants as found
 use Rattle.ring.specs.Answers.{decidedOf}
 use Rattle.message.specs.declared.Reading.{Reading}
-use Rattle.record.specs.declared.Node.{Node}
-use Rattle.record.specs.declared.State.{State}
-use Rattle.record.specs.declared.State.the-variants.{Member, Listening, Following, Knocking, Out}
-use Rattle.record.specs.declared.Cause.{Cause}
-use Rattle.record.specs.declared.Cause.the-variants.{Unconfirmed, NothingHeard, MissedReturn}
-use Rattle.record.specs.States.{isMember, isFollowing, isKnocking}
-use Rattle.changes.specs.Changes.{outFor, fresh, leave, withSet, withReturning}
-use Rattle.steps.specs.Steps.{isHeard, missedReturn, marked, noted, tooFew, nothingHeard, joins, stateOnList, settledAs, join, settle}
-use Rattle.steps.specs.Inner.{judged, departs, departing, insideSlot}
+use Rattle.node_record.specs.declared.Node.{Node}
+use Rattle.node_record.specs.declared.State.{State}
+use Rattle.node_record.specs.declared.State.the-variants.{Member, Listening, Following, Knocking, Out}
+use Rattle.node_record.specs.declared.Cause.{Cause}
+use Rattle.node_record.specs.declared.Cause.the-variants.{Unconfirmed, NothingHeard, MissedReturn}
+use Rattle.node_record.specs.States.{isMember, isFollowing, isKnocking}
+use Rattle.node_changes.specs.Changes.{outFor, fresh, leave, withSet, withReturning}
+use Rattle.node_steps.specs.Steps.{isHeard, missedReturn, marked, noted, tooFew, nothingHeard, joins, stateOnList, settledAs, join, settle}
+use Rattle.node_steps.specs.Inner.{judged, departs, departing, insideSlot}
 
 -- a choice, case by case
 pub choose : {A : Type 0} (P : A → Type 0) (b : Bool) (x y : A) → (b ≡ true → P x) → (b ≡ false → P y) → P (cond b x y)

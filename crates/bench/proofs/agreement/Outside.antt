@@ -10,13 +10,13 @@ use borrow.Author.Tests.{eq-eqb}
 use Rattle.nodeset.specs.Sets.{has}
 use Rattle.ring.specs.Ring.{sender}
 use Rattle.message.specs.declared.Reading.{Reading}
-use Rattle.record.specs.declared.Node.{Node}
-use Rattle.record.specs.declared.State.{State}
-use Rattle.record.specs.declared.State.the-variants.{Member, Listening, Following, Knocking, Out}
-use Rattle.record.specs.States.{isMember, isFollowing, isKnocking}
-use Rattle.changes.specs.Changes.{withReturning}
-use Rattle.steps.specs.Steps.{isHeard}
-use Rattle.sending.specs.Sending.{sends}
+use Rattle.node_record.specs.declared.Node.{Node}
+use Rattle.node_record.specs.declared.State.{State}
+use Rattle.node_record.specs.declared.State.the-variants.{Member, Listening, Following, Knocking, Out}
+use Rattle.node_record.specs.States.{isMember, isFollowing, isKnocking}
+use Rattle.node_changes.specs.Changes.{withReturning}
+use Rattle.node_steps.specs.Steps.{isHeard}
+use Rattle.node_sending.specs.Sending.{sends}
 use Rattle.bench.proofs.agreement.History.{World, Untold, one-knock, num-isnt}
 use Rattle.bench.proofs.agreement.Invariant.{Tracking, Off, Knock, Awaits, aware, unaware}
 use Rattle.bench.proofs.agreement.Marks.{no-both, not-true, not-false}

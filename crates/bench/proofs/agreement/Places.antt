@@ -9,8 +9,8 @@ use lib.Dec.{eqb}
 use lib.ListN.{length, getD}
 use borrow.Author.Tests.{eqb-true, eq-eqb}
 use Rattle.nodeset.proofs.Tests.{both, all}
-use Rattle.record.specs.declared.Node.{Node}
-use Rattle.record.specs.Soundness.{sound}
+use Rattle.node_record.specs.declared.Node.{Node}
+use Rattle.node_record.specs.Soundness.{sound}
 use Rattle.node.specs.Calls.{noNode}
 use Rattle.bench.specs.Table.{Table, recordOf, eachFrom, each, inPlace, placedFrom, tableSound, slotsOf}
 

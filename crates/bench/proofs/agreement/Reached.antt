@@ -6,11 +6,11 @@ use mathlib.Core.Bool.{Bool, true, false, cond, not, _&&_, _||_, true≢false, f
 use Rattle.ring.specs.declared.Found.the-variants as found
 use Rattle.message.specs.declared.Reading.{Reading}
 use Rattle.message.specs.declared.Reading.the-variants as reading
-use Rattle.record.specs.declared.State.{State}
-use Rattle.record.specs.declared.State.the-variants.{Member, Listening, Following, Knocking, Out}
-use Rattle.record.specs.States.{isMember, isListening, isFollowing, isOut}
-use Rattle.record.proofs.Tracking.{tracks}
-use Rattle.steps.specs.Steps.{isHeard}
+use Rattle.node_record.specs.declared.State.{State}
+use Rattle.node_record.specs.declared.State.the-variants.{Member, Listening, Following, Knocking, Out}
+use Rattle.node_record.specs.States.{isMember, isListening, isFollowing, isOut}
+use Rattle.node_record.proofs.Tracking.{tracks}
+use Rattle.node_steps.specs.Steps.{isHeard}
 use Rattle.node.specs.Slot as node
 use Rattle.node.specs.Calls as calls
 use Rattle.bench.specs.Calls.{unheard}

@@ -20,11 +20,11 @@ use Rattle.ring.proofs.Senders.{sender-range}
 use Rattle.ring.proofs.Walks as walks
 use Rattle.message.specs.declared.Reading.{Reading}
 use Rattle.message.specs.declared.Reading.the-variants.{Heard, Refused}
-use Rattle.record.specs.declared.Node.{Node}
-use Rattle.record.specs.declared.State.{State}
-use Rattle.record.specs.declared.State.the-variants.{Member, Listening, Following, Knocking, Out}
-use Rattle.record.specs.States.{isMember, isKnocking}
-use Rattle.steps.specs.Steps.{isHeard, returnIn, isFound, marksAfter, missedReturn, returnHeard, marked, joins}
+use Rattle.node_record.specs.declared.Node.{Node}
+use Rattle.node_record.specs.declared.State.{State}
+use Rattle.node_record.specs.declared.State.the-variants.{Member, Listening, Following, Knocking, Out}
+use Rattle.node_record.specs.States.{isMember, isKnocking}
+use Rattle.node_steps.specs.Steps.{isHeard, returnIn, isFound, marksAfter, missedReturn, returnHeard, marked, joins}
 use Rattle.bench.proofs.agreement.History.{World, Untold, lst, told-in-time, one-knock, num-is}
 use Rattle.bench.proofs.agreement.Invariant.{Knock, Awaits, aware, unaware}
 use Rattle.bench.proofs.agreement.Marks.{no-both, not-true, not-false}

@@ -14,10 +14,10 @@ use Rattle.nodeset.specs.Sets.{within}
 use Rattle.nodeset.proofs.Tests.{by-cases, both, all}
 use Rattle.ring.specs.Ring.{ringSize, sponsorCount, nodeNumber, sender}
 use Rattle.message.specs.declared.Reading.{Reading}
-use Rattle.record.specs.declared.Node.{Node}
-use Rattle.record.specs.Soundness.{limit, sound}
-use Rattle.changes.specs.Changes.{starting}
-use Rattle.changes.proofs.Sound.{starting-sound}
+use Rattle.node_record.specs.declared.Node.{Node}
+use Rattle.node_record.specs.Soundness.{limit, sound}
+use Rattle.node_changes.specs.Changes.{starting}
+use Rattle.node_changes.proofs.Sound.{starting-sound}
 use Rattle.node.specs.Calls.{stepOf, offOf, restartOf}
 use Rattle.node.proofs.Sound.{step-sound, off-sound, restart-sound}
 use Rattle.bench.specs.Table.{Table, recordOf, each, tableSound, ringOf, slotsOf, speaker}

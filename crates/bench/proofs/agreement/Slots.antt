@@ -16,15 +16,15 @@ use Rattle.ring.specs.Answers.{sponsoredOf}
 use Rattle.ring.proofs.Senders.{sender-range, sender-period}
 use Rattle.message.specs.declared.Reading.{Reading}
 use Rattle.message.specs.declared.Reading.the-variants as reading
-use Rattle.record.specs.declared.Node.{Node}
-use Rattle.record.specs.declared.State.the-variants.{Member}
-use Rattle.record.specs.States.{isMember, isListening, isOut}
-use Rattle.record.specs.Soundness.{sound, limit}
-use Rattle.record.proofs.Tracking.{tracks}
-use Rattle.changes.specs.Changes.{counted}
-use Rattle.steps.specs.Steps.{isHeard}
-use Rattle.sending.specs.Sending.{sends, hasFound, markBits, bitsSent, returnSent}
-use Rattle.sending.proofs.Laws.{has-markBits}
+use Rattle.node_record.specs.declared.Node.{Node}
+use Rattle.node_record.specs.declared.State.the-variants.{Member}
+use Rattle.node_record.specs.States.{isMember, isListening, isOut}
+use Rattle.node_record.specs.Soundness.{sound, limit}
+use Rattle.node_record.proofs.Tracking.{tracks}
+use Rattle.node_changes.specs.Changes.{counted}
+use Rattle.node_steps.specs.Steps.{isHeard}
+use Rattle.node_sending.specs.Sending.{sends, hasFound, markBits, bitsSent, returnSent}
+use Rattle.node_sending.proofs.Laws.{has-markBits}
 use Rattle.node.specs.Slot as node
 use Rattle.node.specs.declared.Stepped.{Stepped}
 use Rattle.node.specs.Calls as calls

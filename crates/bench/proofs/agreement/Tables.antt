@@ -14,10 +14,10 @@ use Rattle.nodeset.proofs.Laws.{has-full, full-lt}
 use Rattle.nodeset.proofs.Counts.{size-none}
 use Rattle.ring.specs.Ring.{sender}
 use Rattle.ring.proofs.Senders.{sender-range}
-use Rattle.record.specs.declared.Node.{Node}
-use Rattle.record.specs.declared.Cause.{Cause}
-use Rattle.record.specs.States.{isMember}
-use Rattle.changes.specs.Changes.{starting, outFor, fresh}
+use Rattle.node_record.specs.declared.Node.{Node}
+use Rattle.node_record.specs.declared.Cause.{Cause}
+use Rattle.node_record.specs.States.{isMember}
+use Rattle.node_changes.specs.Changes.{starting, outFor, fresh}
 use Rattle.node.specs.Calls.{noNode}
 use Rattle.bench.specs.declared.Listed.the-variants as listed
 use Rattle.bench.specs.Table.{Table, recordOf, each, slotsOf}

@@ -7,8 +7,8 @@ use native.Mathlib.Omega.{arith}
 use lib.ListN.{length, getD}
 use Rattle.nodeset.specs.Sets.{distance}
 use Rattle.nodeset.proofs.Tests.{by-cases}
-use Rattle.record.specs.declared.Node.{Node}
-use Rattle.record.specs.States.{isMember}
+use Rattle.node_record.specs.declared.Node.{Node}
+use Rattle.node_record.specs.States.{isMember}
 use Rattle.node.specs.declared.Answer.{Answer}
 use Rattle.node.specs.declared.Answer.the-variants.{Done, Refused}
 use Rattle.node.specs.Calls.{noNode}

@@ -31,8 +31,8 @@ use denote.Triple.Spec.{Meets, tripleOf}
 use denote.Triple.Table.{entered, cited}
 use denote.Triple.Walked.{says, Stays, stay-dropped, stay-slice, walkOf, goes-dropped, goes-slice, ends-at, walked, walk-meets}
 use denote.Exit.{yes}
-use Rattle.record.specs.declared.Node.{Node}
-use Rattle.record.proofs.Node as T
+use Rattle.node_record.specs.declared.Node.{Node}
+use Rattle.node_record.proofs.Node as T
 use Rattle.bench.specs.declared.Command.{Command}
 use Rattle.bench.proofs.Command as Q
 use Rattle.bench.proofs.Command.Laws as Q′

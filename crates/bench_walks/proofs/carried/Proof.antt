@@ -2,7 +2,7 @@
 use borrow.Author.Needs.{needs}
 use mathlib.Core.Path.{sym, ap, _∙_}
 use Rattle.bench_walks.specs.declared.Order.{Order}
-use Rattle.changes.specs.Changes.{starting}
+use Rattle.node_changes.specs.Changes.{starting}
 use Rattle.bench_walks.specs.Orders.{carried}
 use Rattle.bench_walks.proofs.carried.Statement.{statement}
 use Rattle.bench_walks.proofs.carried.Tie as tie

@@ -34,12 +34,12 @@ use denote.Triple.Spec.{Meets, tripleOf}
 use denote.Triple.Table.{entered, cited}
 use denote.Triple.Walked.{says, Stays, stay-dropped, stay-slice, walkOf, goes-dropped, goes-slice, ends-at}
 use denote.Exit.{yes}
-use Rattle.record.specs.declared.Node.{Node}
+use Rattle.node_record.specs.declared.Node.{Node}
 use Rattle.node.specs.Calls.{noNode}
 use Rattle.bench_walks.specs.declared.Notes.{Notes}
 use Rattle.bench_walks.specs.declared.Order.{Order}
-use Rattle.record.proofs.Node as T
-use Rattle.record.proofs.Node.Laws as T′
+use Rattle.node_record.proofs.Node as T
+use Rattle.node_record.proofs.Node.Laws as T′
 use Rattle.bench_walks.proofs.Notes as P
 use Rattle.bench_walks.proofs.Notes.Laws as P′
 use Rattle.bench_walks.proofs.Order as O

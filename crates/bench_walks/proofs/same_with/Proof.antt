@@ -3,8 +3,8 @@ use borrow.Author.Needs.{needs}
 use mathlib.Core.Path.{_≡_, refl, sym, ap, _∙_}
 use mathlib.Core.Bool.{true, false}
 use Rattle.nodeset.proofs.Tests.{failed, passed, chosen, otherwise}
-use Rattle.record.specs.declared.Node.{Node}
-use Rattle.record.specs.States.{isMember}
+use Rattle.node_record.specs.declared.Node.{Node}
+use Rattle.node_record.specs.States.{isMember}
 use Rattle.bench.specs.declared.Listed.{Listed}
 use Rattle.bench.specs.declared.Listed.the-variants as listed
 use Rattle.bench_walks.specs.Orders.{sameWith}

@@ -3,9 +3,9 @@ use borrow.Author.Needs.{needs}
 use mathlib.Core.Path.{sym, ap, _∙_}
 use Rattle.nodeset.proofs.Tests.{told, chosen, otherwise}
 use Rattle.message.specs.declared.Reading.{Reading}
-use Rattle.steps.specs.declared.Lesson.{Lesson}
-use Rattle.steps.specs.Lessons.{trackingBy}
-use Rattle.hearing.specs.Hearing.{listeningSlot}
+use Rattle.node_steps.specs.declared.Lesson.{Lesson}
+use Rattle.node_steps.specs.Lessons.{trackingBy}
+use Rattle.node_hearing.specs.Hearing.{listeningSlot}
 use Rattle.node.specs.Slot.{lessonFor, afterBy}
 use Rattle.node.proofs.after_slot.Statement.{statement}
 use Rattle.node.proofs.after_slot.Tie as tie

@@ -3,7 +3,7 @@ use borrow.Author.Needs.{needs}
 use mathlib.Core.Path.{refl, sym, _∙_}
 use borrow.Author.Tests.{eq-eqb, ne-eqb}
 use Rattle.nodeset.proofs.Tests.{chosen, otherwise}
-use Rattle.steps.proofs.Taught.{lesson-same}
+use Rattle.node_steps.proofs.Taught.{lesson-same}
 use Rattle.node.proofs.lesson_for.Statement.{statement}
 use Rattle.node.proofs.lesson_for.Tie as tie
 

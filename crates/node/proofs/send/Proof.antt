@@ -7,7 +7,7 @@ use denote.Ref.{now}
 use Rattle.message.specs.Message.{writeOf}
 use borrow.Author.Tests.{le-leb, lt-leb}
 use Rattle.nodeset.proofs.Tests.{failed, passed, chosen, otherwise}
-use Rattle.record.proofs.Facts.{clauses}
+use Rattle.node_record.proofs.Facts.{clauses}
 use Rattle.node.specs.Calls.{sendOf}
 use Rattle.node.proofs.send.Statement.{statement}
 use Rattle.node.proofs.send.Tie as tie

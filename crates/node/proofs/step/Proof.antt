@@ -8,12 +8,12 @@ use borrow.Author.Tests.{le-leb, lt-leb}
 use Rattle.nodeset.proofs.Tests.{failed, passed, chosen, otherwise}
 use Rattle.ring.proofs.Speakers.{is-sender, no-refusal}
 use Rattle.message.specs.declared.Reading.{Reading}
-use Rattle.record.specs.declared.Node.{Node}
-use Rattle.record.specs.Soundness.{sound}
-use Rattle.record.proofs.Facts.{clauses}
-use Rattle.changes.specs.Changes.{counted}
-use Rattle.steps.specs.declared.Lesson.{Lesson}
-use Rattle.steps.specs.Lessons.{lessonOf}
+use Rattle.node_record.specs.declared.Node.{Node}
+use Rattle.node_record.specs.Soundness.{sound}
+use Rattle.node_record.proofs.Facts.{clauses}
+use Rattle.node_changes.specs.Changes.{counted}
+use Rattle.node_steps.specs.declared.Lesson.{Lesson}
+use Rattle.node_steps.specs.Lessons.{lessonOf}
 use Rattle.node.specs.Slot.{afterSlot, afterBy}
 use Rattle.node.specs.Calls.{done, stepOf}
 use Rattle.node.proofs.Taught.{sound-own, sound-marks, after-taught}

@@ -3,7 +3,7 @@ use borrow.Author.Needs.{needs}
 use mathlib.Core.Path.{sym, ap, _∙_}
 use Rattle.bench.specs.declared.Command.the-variants as command
 use Rattle.bench.specs.declared.Outcome.the-variants as outcome
-use Rattle.doors.specs.Doors.{Rows, callOf}
+use Rattle.bench_by_value.specs.ByValue.{Rows, callOf}
 use Rattle.plan_run.specs.Run.{openedAs, openedBy}
 use Rattle.plan_run.proofs.opened_by.Statement.{statement}
 use Rattle.plan_run.proofs.opened_by.Tie as tie

@@ -4,8 +4,8 @@ use Prim.Native.Nat.{ℕ, _+_}
 use mathlib.Core.Path.{ap, _∙_}
 use Rattle.bench.specs.declared.Fate.{Fate}
 use Rattle.message.specs.declared.Reading.{Reading}
-use Rattle.steps.specs.declared.Lesson.{Lesson}
-use Rattle.steps.specs.Lessons.{lessonOf}
+use Rattle.node_steps.specs.declared.Lesson.{Lesson}
+use Rattle.node_steps.specs.Lessons.{lessonOf}
 use Rattle.bench_walks.specs.declared.Turn.{Turn}
 use Rattle.bench_walks.specs.Orders.{fateBy}
 use Rattle.bench_walks.proofs.orders.turn_of.Statement.{statement}

@@ -2,7 +2,7 @@
 use borrow.Author.Needs.{needs}
 use mathlib.Core.Path.{sym, ap, _∙_}
 use mathlib.Core.Bool.{or-false}
-use Rattle.record.specs.declared.State.{State}
+use Rattle.node_record.specs.declared.State.{State}
 use Rattle.bench.specs.Pairs.{sameState}
 use Rattle.bench_walks.proofs.pairs.same_state.Statement.{statement}
 use Rattle.bench_walks.proofs.pairs.same_state.Tie as tie

@@ -2,7 +2,7 @@
 use borrow.Author.Needs.{needs}
 use mathlib.Core.Path.{ap, _∙_}
 use Rattle.message.specs.declared.Reading.{Reading}
-use Rattle.record.specs.declared.Node.{Node}
+use Rattle.node_record.specs.declared.Node.{Node}
 use Rattle.node.specs.Slot.{afterBy}
 use Rattle.bench_walks.specs.Orders.{heardAt}
 use Rattle.bench_walks.proofs.records.step_at.Statement.{statement}

@@ -5,7 +5,7 @@ use mathlib.Core.Path.{_≡_, sym, ap, _∙_}
 use mathlib.Core.Bool.{Bool, _&&_}
 use Rattle.nodeset.proofs.Tests.{chosen, otherwise}
 use borrow.Author.Tests.{eq-eqb, ne-eqb}
-use Rattle.record.specs.declared.Node.{Node}
+use Rattle.node_record.specs.declared.Node.{Node}
 use Rattle.bench_walks.specs.declared.Survey.{Survey}
 use Rattle.bench_walks.proofs.surveys.seen.Statement.{statement}
 use Rattle.bench_walks.proofs.surveys.seen.Tie as tie

@@ -1,0 +1,23 @@
+-- The bench's calls on 32 rows, the first n of which are its table.
+use Prim.Native.Nat.{ℕ}
+use mathlib.Core.List.{List, _++_}
+use lib.ListN.{take, drop}
+use Rattle.node_record.specs.declared.Node.{Node}
+use Rattle.bench.specs.declared.Command.{Command}
+use Rattle.bench.specs.Table.{Table}
+use Rattle.bench.specs.Outcomes.{Ended, endedOf}
+use Rattle.bench_by_value.specs.declared.Ran.{Ran}
+
+abbrev pub Rows : Type 0
+Rows = List Node
+
+abbrev pub tableOf : ℕ → Rows → Table
+tableOf n rows = take n rows
+
+-- The rows after a call on the table, and the answer.
+abbrev pub ended : ℕ → Rows → Ended → Ran
+ended n rows e = record { rows = e .table ++ drop n rows; outcome = e .reply .outcome; pairs = e .reply .pairs }
+
+-- A call where so many bytes are lent for the pairs.
+unfoldable pub callOf : ℕ → Command → ℕ → Rows → Ran
+callOf n c room rows = ended n rows (endedOf c room (tableOf n rows))

@@ -1,0 +1,185 @@
+// Node records made anew: whole ones, and copies with a field changed. An inner layer: it takes
+// every record as it is; the calls of `node` test records first.
+use node_record::Cause;
+use node_record::Node;
+use node_record::State;
+use node_record::Window;
+use node_record::is_member;
+ghost use mathlib.Core.Path.{_≡_};
+ghost use Rattle.node_changes.specs.Changes.{starting, holding, outFor, listeningAfter, fresh, followingWith, leave, withSet, withMarks, withReturning, withWindow};
+
+// Listening data of a node that does not listen.
+const NO_WINDOW: Window = Window {
+    done: 0,
+    heard: 0,
+    shortest: 0,
+    return_seen: false,
+    last: 0,
+};
+
+// A member of a full set, all marks on.
+pub fn starting(n: u32, k: u32, own: u32) -> Node
+    ensures { λ r. ⌜ r ≡ starting n k own ⌝ }
+{
+    let all = nodeset::full(n);
+    let w = NO_WINDOW;
+    Node {
+        n,
+        k,
+        own,
+        slots: 0,
+        state: State::Member,
+        set: all,
+        present: all,
+        returning: 0,
+        return_heard: false,
+        listening: w,
+    }
+}
+
+// A member that holds a set and has no marks, of whom nothing else is known.
+pub fn holding(n: u32, k: u32, set: u32) -> Node
+    ensures { λ r. ⌜ r ≡ holding n k set ⌝ }
+{
+    let w = NO_WINDOW;
+    Node {
+        n,
+        k,
+        own: 0,
+        slots: 0,
+        state: State::Member,
+        set,
+        present: 0,
+        returning: 0,
+        return_heard: false,
+        listening: w,
+    }
+}
+
+// Out for a cause.
+pub fn out_for(cause: Cause, v: Node) -> Node
+    ensures { λ r. ⌜ r ≡ outFor cause v ⌝ }
+{
+    let w = NO_WINDOW;
+    Node {
+        n: v.n,
+        k: v.k,
+        own: v.own,
+        slots: v.slots,
+        state: State::Out(cause),
+        set: 0,
+        present: 0,
+        returning: 0,
+        return_heard: false,
+        listening: w,
+    }
+}
+
+// Listening with no slot done, after a last clean window with these nodes.
+pub fn listening_after(last: u32, v: Node) -> Node
+    ensures { λ r. ⌜ r ≡ listeningAfter last v ⌝ }
+{
+    let w = Window {
+        done: 0,
+        heard: 0,
+        shortest: v.k,
+        return_seen: false,
+        last,
+    };
+    Node {
+        n: v.n,
+        k: v.k,
+        own: v.own,
+        slots: v.slots,
+        state: State::Listening,
+        set: 0,
+        present: 0,
+        returning: 0,
+        return_heard: false,
+        listening: w,
+    }
+}
+
+// Listening afresh.
+pub fn fresh(v: Node) -> Node
+    ensures { λ r. ⌜ r ≡ fresh v ⌝ }
+{
+    listening_after(0, v)
+}
+
+// Following with a set, all of it marked.
+pub fn following_with(set: u32, v: Node) -> Node
+    ensures { λ r. ⌜ r ≡ followingWith set v ⌝ }
+{
+    let w = NO_WINDOW;
+    Node {
+        n: v.n,
+        k: v.k,
+        own: v.own,
+        slots: v.slots,
+        state: State::Following,
+        set,
+        present: set,
+        returning: 0,
+        return_heard: false,
+        listening: w,
+    }
+}
+
+// A node that must leave.
+pub fn leave(cause: Cause, v: Node) -> Node
+    ensures { λ r. ⌜ r ≡ leave cause v ⌝ }
+{
+    let state = v.state;
+    if is_member(state) {
+        return out_for(cause, v);
+    }
+    fresh(v)
+}
+
+// The record with another set.
+pub fn with_set(set: u32, v: Node) -> Node
+    ensures { λ r. ⌜ r ≡ withSet set v ⌝ }
+{
+    let mut w = v;
+    w.set = set;
+    w
+}
+
+// The record with other marks and another return heard.
+pub fn with_marks(present: u32, heard: bool, v: Node) -> Node
+    ensures { λ r. ⌜ r ≡ withMarks present heard v ⌝ }
+{
+    let mut w = v;
+    w.present = present;
+    w.return_heard = heard;
+    w
+}
+
+// The record in a state, with another returning node.
+pub fn with_returning(state: State, r: u32, v: Node) -> Node
+    ensures { λ w. ⌜ w ≡ withReturning state r v ⌝ }
+{
+    let window = v.listening;
+    Node {
+        n: v.n,
+        k: v.k,
+        own: v.own,
+        slots: v.slots,
+        state,
+        set: v.set,
+        present: v.present,
+        returning: r,
+        return_heard: v.return_heard,
+        listening: window,
+    }
+}
+
+// The record with other listening data.
+pub fn with_window(window: Window, v: Node) -> Node
+    ensures { λ r. ⌜ r ≡ withWindow window v ⌝ }
+{
+    let mut w = v;
+    w.listening = window;
+    w
+}

@@ -1,0 +1,131 @@
+-- One slot of a listening node (specs/Hearing) keeps its record sound. Assumes nothing.
+use Prim.Native.Nat.{ℕ, _^_, _≤_, _<_}
+use mathlib.Core.Path.{_≡_, sym, ap, _∙_}
+use mathlib.Core.Logic.{_≢_, inr}
+use mathlib.Core.Bool.{true, false, not, _||_, true≢false}
+use native.Mathlib.Omega.{arith}
+use lib.Dec.{eqb, leb, ltb}
+use borrow.Author.Tests.{leb-true, le-leb, ltb-true, lt-ltb, eqb-true, eq-eqb, not-true}
+use Rattle.nodeset.specs.Sets.{has, within, size}
+use Rattle.nodeset.proofs.Tests.{by-cases, both, all, or-left}
+use Rattle.nodeset.proofs.Bits.{has-none}
+use Rattle.nodeset.proofs.Laws.{has-with, has-with-other, with-lt}
+use Rattle.ring.proofs.Ranges.{ring-size}
+use Rattle.message.specs.declared.Reading.{Reading}
+use Rattle.message.specs.declared.Reading.the-variants as reading
+use Rattle.node_record.specs.declared.Node.{Node}
+use Rattle.node_record.specs.declared.Window.{Window}
+use Rattle.node_record.specs.States.{isListening}
+use Rattle.node_record.specs.Soundness.{implies, windowInRange, windowEmpty, sound}
+use Rattle.node_record.proofs.Facts.{clauses, sound-by, implied, implies-by, window-listening}
+use Rattle.node_changes.specs.Changes.{withWindow}
+use Rattle.node_changes.proofs.Sound.{in-range, fresh-sound, listening-sound, following-sound}
+use Rattle.node_hearing.specs.Hearing.{overheard, clean, windowEnd, listeningSlot}
+
+-- the ranges of the listening data, as facts
+record Ranges (n k own : ℕ) (w : Window) : Type 0 where
+  heard-in : w .heard < 2 ^ n
+  short : w .shortest ≤ k
+  silent : w .heard ≡ 0 → w .shortest ≡ k
+  last-in : w .last < 2 ^ n
+  last-two : (eqb (w .last) 0 || leb 2 (size n (w .last))) ≡ true
+  heard-others : has (w .heard) own ≡ false
+  last-others : has (w .last) own ≡ false
+
+ranges : (n k own : ℕ) (w : Window) → windowInRange n k own w ≡ true → Ranges n k own w
+ranges n k own w e =
+    let b₁ = both (ltb (w .done) n) _ e in
+    let b₂ = both (within n (w .heard)) _ (b₁ .1) in
+    let b₃ = both (leb (w .shortest) k) _ (b₂ .1) in
+    let b₄ = both (implies (eqb (w .heard) 0) (eqb (w .shortest) k)) _ (b₃ .1) in
+    let b₅ = both (within n (w .last)) _ (b₄ .1) in
+    let b₆ = both (eqb (w .last) 0 || leb 2 (size n (w .last))) _ (b₅ .1) in
+    let b₇ = both (not (has (w .heard) own)) (not (has (w .last) own)) (b₆ .1) in
+    record {
+      heard-in = ltb-true (w .heard) (2 ^ n) (b₂ .0);
+      short = leb-true (w .shortest) k (b₃ .0);
+      silent = λ z. eqb-true (w .shortest) k (implied (eqb (w .heard) 0) (eqb (w .shortest) k) (b₄ .0) (eq-eqb (w .heard) 0 z));
+      last-in = ltb-true (w .last) (2 ^ n) (b₅ .0);
+      last-two = b₆ .0;
+      heard-others = not-true (has (w .heard) own) (b₇ .0);
+      last-others = not-true (has (w .last) own) (b₇ .1);
+    }
+
+in-window : (n k own : ℕ) (w : Window) → w .done < n → Ranges n k own w → windowInRange n k own w ≡ true
+in-window n k own w h r =
+    all (lt-ltb (w .done) n h)
+    (all (lt-ltb (w .heard) (2 ^ n) (r .heard-in))
+    (all (le-leb (w .shortest) k (r .short))
+    (all (implies-by (eqb (w .heard) 0) (eqb (w .shortest) k) (λ z. eq-eqb (w .shortest) k (r .silent (eqb-true (w .heard) 0 z))))
+    (all (lt-ltb (w .last) (2 ^ n) (r .last-in))
+    (all (r .last-two) (all (ap not (r .heard-others)) (ap not (r .last-others))))))))
+
+-- ---- one slot more in the window
+
+-- nothing is heard, or a node other than this one
+abbrev pub FromOther : ℕ → Reading → ℕ → Type 0
+FromOther s (reading.Heard bits returnBit) own = s ≢ own
+FromOther s (reading.Refused r) own = Unit {0}
+
+overheard-ranges : (n k own s : ℕ) (heard : Reading) (w : Window) → n ≤ 32 → 1 ≤ s → s ≤ n → FromOther s heard own → Ranges n k own w → Ranges n k own (overheard s heard w)
+overheard-ranges n k own s (reading.Heard bits returnBit) w h a b d r = record {
+  heard-in = with-lt n (w .heard) s b (r .heard-in);
+  short = omega (arith, r .short);
+  silent = λ z. absurd (true≢false (sym (has-with (w .heard) s a (omega arith)) ∙ ap (λ (q : ℕ). has q s) z ∙ has-none s));
+  last-in = r .last-in;
+  last-two = r .last-two;
+  heard-others = has-with-other (w .heard) s own d ∙ r .heard-others;
+  last-others = r .last-others;
+}
+overheard-ranges n k own s (reading.Refused c) w h a b d r = record {
+  heard-in = r .heard-in;
+  short = r .short;
+  silent = r .silent;
+  last-in = r .last-in;
+  last-two = r .last-two;
+  heard-others = r .heard-others;
+  last-others = r .last-others;
+}
+
+-- a listening record with another window in range
+window-sound : (w : Window) (v : Node) → sound v ≡ true → isListening (v .state) ≡ true → windowInRange (v .n) (v .k) (v .own) w ≡ true → sound (withWindow w v) ≡ true
+window-sound w v e l h =
+    let c = clauses v e in
+    sound-by (withWindow w v)
+    (record {
+      ring = c .ring;
+      sponsors = c .sponsors;
+      own = c .own;
+      slots = c .slots;
+      sets = c .sets;
+      returning = c .returning;
+      ownIn = c .ownIn;
+      knock = c .knock;
+      empty = c .empty;
+      heard = c .heard;
+      window = all (implies-by (isListening (v .state)) (windowInRange (v .n) (v .k) (v .own) w) (λ t. h)) (or-left (isListening (v .state)) (windowEmpty w) l);
+      enough = c .enough;
+    })
+
+-- ---- the end of a window
+
+window-end-sound : (w : Window) (v : Node) → sound v ≡ true → Ranges (v .n) (v .k) (v .own) w → sound (windowEnd w v) ≡ true
+unfolding windowEnd clean
+window-end-sound w v e r =
+    by-cases (clean (v .n) (v .k) w)
+    (λ c.
+    let two : 2 ≤ size (v .n) (w .heard) = leb-true 2 (size (v .n) (w .heard)) (both (leb 2 (size (v .n) (w .heard))) _ c .0) in
+    rw c (by-cases (eqb (w .last) (w .heard))
+    (λ s. rw s (following-sound (w .heard) v (in-range v e) (r .heard-in) two (r .heard-others)))
+    (λ s. rw s (listening-sound (w .heard) v (in-range v e) (r .heard-in) (inr two) (r .heard-others)))))
+    (λ c. rw c (fresh-sound v (in-range v e)))
+
+pub listening-slot-sound : (s : ℕ) (heard : Reading) (v : Node) → 1 ≤ s → s ≤ v .n → FromOther s heard (v .own) → sound v ≡ true → isListening (v .state) ≡ true → sound (listeningSlot s heard v) ≡ true
+unfolding listeningSlot
+listening-slot-sound s heard v a b d e l =
+    let c = clauses v e in
+    let w = overheard s heard (v .listening) in
+    let r = overheard-ranges (v .n) (v .k) (v .own) s heard (v .listening) (ring-size (v .n) (c .ring) .1) a b d (ranges (v .n) (v .k) (v .own) (v .listening) (window-listening v (c .window) l)) in
+    by-cases (ltb (w .done) (v .n))
+    (λ t. rw t (window-sound w v e l (in-window (v .n) (v .k) (v .own) w (ltb-true (w .done) (v .n) t) r)))
+    (λ t. rw t (window-end-sound w v e r))

@@ -1,0 +1,225 @@
+// The node record (document 01, "The node record"): what it holds, and when it is sound.
+ghost use mathlib.Core.Path.{_≡_};
+ghost use Rattle.node_record.specs.States.{isMember, isListening, isFollowing, isKnocking, isOut, causeNumber};
+ghost use Rattle.node_record.specs.Soundness.{numbersSound, setsSound, returningSound, ownSound, knockSound, emptySound, heardSound, windowInRange, windowEmpty, windowSound, enoughSound, sound};
+
+// Why a node is out.
+pub enum Cause {
+    Unconfirmed,
+    NothingHeard,
+    MissedReturn,
+    SwitchedOff,
+}
+
+pub enum State {
+    Member,
+    Listening,
+    Following,
+    Knocking,
+    Out(Cause),
+}
+
+// The listening data: slots done in this window, nodes heard in it, the shortest run of ones in
+// it, whether a return bit of 1 was heard in it, and the nodes of the last clean window.
+pub struct Window {
+    pub done: u32,
+    pub heard: u32,
+    pub shortest: u32,
+    pub return_seen: bool,
+    pub last: u32,
+}
+
+pub struct Node {
+    pub n: u32,
+    pub k: u32,
+    pub own: u32,
+    pub slots: u64,
+    pub state: State,
+    pub set: u32,
+    pub present: u32,
+    pub returning: u32,
+    pub return_heard: bool,
+    pub listening: Window,
+}
+
+// The slot count at which a record takes no further slot.
+pub const LIMIT: u64 = 1_000_000_000_000_000;
+
+// The number that document 01 gives the cause.
+pub fn cause_number(cause: Cause) -> u32
+    ensures { λ r. ⌜ r ≡ causeNumber cause ⌝ }
+{
+    match cause {
+        Cause::Unconfirmed => 1,
+        Cause::NothingHeard => 2,
+        Cause::MissedReturn => 3,
+        Cause::SwitchedOff => 4,
+    }
+}
+
+pub fn is_member(state: State) -> bool
+    ensures { λ r. ⌜ r ≡ isMember state ⌝ }
+{
+    match state {
+        State::Member => true,
+        State::Listening => false,
+        State::Following => false,
+        State::Knocking => false,
+        State::Out(_) => false,
+    }
+}
+
+pub fn is_listening(state: State) -> bool
+    ensures { λ r. ⌜ r ≡ isListening state ⌝ }
+{
+    match state {
+        State::Member => false,
+        State::Listening => true,
+        State::Following => false,
+        State::Knocking => false,
+        State::Out(_) => false,
+    }
+}
+
+pub fn is_following(state: State) -> bool
+    ensures { λ r. ⌜ r ≡ isFollowing state ⌝ }
+{
+    match state {
+        State::Member => false,
+        State::Listening => false,
+        State::Following => true,
+        State::Knocking => false,
+        State::Out(_) => false,
+    }
+}
+
+pub fn is_knocking(state: State) -> bool
+    ensures { λ r. ⌜ r ≡ isKnocking state ⌝ }
+{
+    match state {
+        State::Member => false,
+        State::Listening => false,
+        State::Following => false,
+        State::Knocking => true,
+        State::Out(_) => false,
+    }
+}
+
+pub fn is_out(state: State) -> bool
+    ensures { λ r. ⌜ r ≡ isOut state ⌝ }
+{
+    match state {
+        State::Member => false,
+        State::Listening => false,
+        State::Following => false,
+        State::Knocking => false,
+        State::Out(_) => true,
+    }
+}
+
+// ---- soundness: a function for each clause. Cheap tests are all made, with no branch; members are
+// counted only where the state asks for it.
+
+fn numbers_sound(v: Node) -> bool
+    ensures { λ r. ⌜ r ≡ numbersSound v ⌝ }
+{
+    ring::is_ring_size(v.n)
+        & (ring::is_sponsor_count(v.n, v.k)
+            & (ring::is_node_number(v.n, v.own) & (v.slots <= LIMIT)))
+}
+
+// Marks that are in the set hold only numbers that the set holds.
+fn sets_sound(v: Node) -> bool
+    ensures { λ r. ⌜ r ≡ setsSound v ⌝ }
+{
+    nodeset::is_within(v.n, v.set) & nodeset::is_subset(v.present, v.set)
+}
+
+fn returning_sound(v: Node) -> bool
+    ensures { λ r. ⌜ r ≡ returningSound v ⌝ }
+{
+    (v.returning <= v.n) & !nodeset::has(v.set, v.returning)
+}
+
+fn own_sound(v: Node) -> bool
+    ensures { λ r. ⌜ r ≡ ownSound v ⌝ }
+{
+    let state = v.state;
+    is_member(state) == nodeset::has(v.set, v.own)
+}
+
+fn knock_sound(v: Node) -> bool
+    ensures { λ r. ⌜ r ≡ knockSound v ⌝ }
+{
+    let state = v.state;
+    is_knocking(state) == (v.returning == v.own)
+}
+
+fn empty_sound(v: Node) -> bool
+    ensures { λ r. ⌜ r ≡ emptySound v ⌝ }
+{
+    let state = v.state;
+    let away = is_listening(state) | is_out(state);
+    !away | ((v.set == 0) & ((v.present == 0) & (v.returning == 0)))
+}
+
+fn heard_sound(v: Node) -> bool
+    ensures { λ r. ⌜ r ≡ heardSound v ⌝ }
+{
+    let state = v.state;
+    !v.return_heard | is_knocking(state)
+}
+
+fn window_in_range(n: u32, k: u32, own: u32, w: Window) -> bool
+    ensures { λ r. ⌜ r ≡ windowInRange n k own w ⌝ }
+{
+    let shortest_right = (w.heard != 0) | (w.shortest == k);
+    let last_right = (w.last == 0) | (2 <= nodeset::size(n, w.last));
+    (w.done < n)
+        & (nodeset::is_within(n, w.heard)
+            & ((w.shortest <= k)
+                & (shortest_right
+                    & (nodeset::is_within(n, w.last)
+                        & (last_right
+                            & (!nodeset::has(w.heard, own) & !nodeset::has(w.last, own)))))))
+}
+
+fn window_empty(w: Window) -> bool
+    ensures { λ r. ⌜ r ≡ windowEmpty w ⌝ }
+{
+    (w.done == 0) & ((w.heard == 0) & ((w.shortest == 0) & (!w.return_seen & (w.last == 0))))
+}
+
+fn enough_sound(v: Node) -> bool
+    ensures { λ r. ⌜ r ≡ enoughSound v ⌝ }
+{
+    let state = v.state;
+    if is_following(state) | is_knocking(state) {
+        return 2 <= nodeset::size(v.n, v.set);
+    }
+    true
+}
+
+fn window_sound(v: Node) -> bool
+    ensures { λ r. ⌜ r ≡ windowSound v ⌝ }
+{
+    let state = v.state;
+    let w = v.listening;
+    if is_listening(state) {
+        return window_in_range(v.n, v.k, v.own, w);
+    }
+    window_empty(w)
+}
+
+// Whether the record is sound.
+pub fn is_sound(v: Node) -> bool
+    ensures { λ r. ⌜ r ≡ sound v ⌝ }
+{
+    numbers_sound(v)
+        & (sets_sound(v)
+            & (returning_sound(v)
+                & (own_sound(v)
+                    & (knock_sound(v)
+                        & (empty_sound(v)
+                            & (heard_sound(v) & (window_sound(v) & enough_sound(v))))))))
+}
