@@ -147,10 +147,10 @@ two-is k a b bytes h p =
     let part = rebuilt 1 1 (take 2 rest) (ap length all ∙ long) (bytes-take 2 rest (bytes-drop (lengthOne k) bytes h)) (p .count-two) in
     sym all ∙ part ∙ ap (sectionOf 1 1) (bit-is (bitsIn (take 2 rest)) b (p .clear-two) (p .two))
 
--- Each readable message is the one that is written for what it reads as.
-pub written-read : (k a : ℕ) (b : Bool) (bytes : List ℕ) → Bytes bytes → readOf k bytes ≡ Heard a b → bytes ≡ messageOf k a b
+-- Readable bytes are the message of what they read as.
+pub message-read : (k a : ℕ) (b : Bool) (bytes : List ℕ) → Bytes bytes → readOf k bytes ≡ Heard a b → bytes ≡ messageOf k a b
 unfolding messageOf
-written-read k a b bytes h e =
+message-read k a b bytes h e =
     let p = passed-all k a b bytes e in
     sym (take-append-drop (lengthOne k) bytes)
     ∙ ap (λ (l : List ℕ). l ++ drop (lengthOne k) bytes) (one-is k a b bytes h p)
@@ -190,6 +190,23 @@ put-all k a b out n after e =
       told = cc answer;
       left = ap (λ (o : Outcome). o .1) (p3 .1);
     }
+
+-- The writer is not refused where k is in range, no acknowledgement is past k and there is room.
+pub puts : (k a : ℕ) (b : Bool) (out : List ℕ) → 2 ≤ k → k ≤ 31 → a < 2 ^ k → lengthOf k ≤ length out
+    → writeOf k a b out ≡ (Written (lengthOf k), messageOf k a b ++ drop (lengthOf k) out)
+unfolding writeOf
+puts k a b out low high h room =
+    simp (le-leb 2 k low, le-leb k 31 high, lt-ltb a (2 ^ k) h, le-leb (lengthOf k) (length out) room)
+
+-- Each readable message is the one that the writer writes for what it reads as, where there is room; what stood after it stands there still.
+pub written-read : (k a : ℕ) (b : Bool) (bytes out : List ℕ) → Bytes bytes → readOf k bytes ≡ Heard a b → length bytes ≤ length out
+    → writeOf k a b out ≡ (Written (length bytes), bytes ++ drop (length bytes) out)
+written-read k a b bytes out h e room =
+    let r = heard-range k a b bytes e in
+    let long : length bytes ≡ lengthOf k = passed-all k a b bytes e .sized in
+    let is = message-read k a b bytes h e in
+    let wrote = puts k a b out (r .0) (r .1) (r .2) (omega arith) in
+    cc
 
 -- What the writer leaves in the lent bytes is read back.
 pub read-back : (k a : ℕ) (b : Bool) (out : List ℕ) (n : ℕ) (after : List ℕ) → writeOf k a b out ≡ (Written n, after) → readOf k (take n after) ≡ Heard a b

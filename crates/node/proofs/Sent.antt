@@ -1,6 +1,6 @@
 -- A message that is sent is readable, and reads as what the rules say is sent; of the writer's refusals only 9 can come of sending. Assumes nothing.
 use Prim.Native.Nat.{ℕ, _<_, _^_}
-use mathlib.Core.Path.{_≡_, ap}
+use mathlib.Core.Path.{_≡_, refl, ap}
 use mathlib.Core.Bool.{Bool, true, false, cond}
 use mathlib.Core.List.{List, _++_}
 use native.Mathlib.Omega.{arith}
@@ -29,17 +29,22 @@ refused-no-bytes r n out after e =
     let z : _≡_ {A = ℕ} 0 1 = cc in
     omega arith
 
-pub sent-read : (v : Node) (out : List ℕ) (n : ℕ) (after : List ℕ) → sendOf v out ≡ (Bytes n, after) → readOf (v .k) (take n after) ≡ Heard (bitsSent v) (returnSent v)
+-- where bytes are sent, it was the node's turn, and the writer wrote them
+pub sent-by : (v : Node) (out : List ℕ) (n : ℕ) (after : List ℕ) → sendOf v out ≡ (Bytes n, after)
+    → (itsTurn v ≡ true) × (writeOf (v .k) (bitsSent v) (returnSent v) out ≡ (Bytes n, after))
 unfolding sendOf
-sent-read v out n after e = go (sound v) (leb limit (v .slots)) (itsTurn v) e
+sent-by v out n after e = go (sound v) (leb limit (v .slots)) (itsTurn v) e
   where
     go : (a b c : Bool)
         → cond a (cond b (Refused SlotLimit, out) (cond c (writeOf (v .k) (bitsSent v) (returnSent v) out) (Refused NotItsSlot, out))) (Refused Unsound, out) ≡ (Bytes n, after)
-        → readOf (v .k) (take n after) ≡ Heard (bitsSent v) (returnSent v)
+        → (c ≡ true) × (writeOf (v .k) (bitsSent v) (returnSent v) out ≡ (Bytes n, after))
     go true true c e = absurd (refused-no-bytes SlotLimit n out after e)
-    go true false true e = read-back (v .k) (bitsSent v) (returnSent v) out n after e
+    go true false true e = (refl, e)
     go true false false e = absurd (refused-no-bytes NotItsSlot n out after e)
     go false b c e = absurd (refused-no-bytes Unsound n out after e)
+
+pub sent-read : (v : Node) (out : List ℕ) (n : ℕ) (after : List ℕ) → sendOf v out ≡ (Bytes n, after) → readOf (v .k) (take n after) ≡ Heard (bitsSent v) (returnSent v)
+sent-read v out n after e = read-back (v .k) (bitsSent v) (returnSent v) out n after (sent-by v out n after e .1)
 
 -- a node whose turn it is, below the limit, sends, or is lent too few bytes
 pub sent-or-short : (v : Node) (out : List ℕ) → sound v ≡ true → v .slots < limit → itsTurn v ≡ true

@@ -1,0 +1,209 @@
+-- Demand 1 holds: each definition is a chain of tests, and each test that fails gives a number of the call's list and leaves what was lent. Assumes nothing.
+use Prim.Native.Nat.{ℕ, zero, suc, _-_, _^_}
+use mathlib.Core.Path.{_≡_, refl, ap}
+use mathlib.Core.Bool.{Bool, true, false, cond}
+use mathlib.Core.List.{List, [], _∷_}
+use lib.Dec.{eqb, ltb, leb}
+use lib.ListN.{length}
+use borrow.Author.Tests.{leb-false}
+use Rattle.refusal.specs.declared.Refusal.{Refusal}
+use Rattle.refusal.specs.declared.Refusal.the-variants.{RingSize, SponsorCount, NodeNumber, Unsound, SlotLimit, MessageLength, SectionCount, SpareBit, OutputShort, NotOut}
+use Rattle.nodeset.specs.Sums.{num}
+use Rattle.nodeset.specs.Sets.{has, size, within}
+use Rattle.nodeset.proofs.Tests.{by-cases}
+use Rattle.ring.specs.declared.Speaker.{Speaker}
+use Rattle.ring.specs.declared.Found.{Found}
+use Rattle.ring.specs.declared.Found.the-variants as found
+use Rattle.ring.specs.Answers.{onRing, onSponsoredRing, sponsoredOf, decidedOf}
+use Rattle.ring.specs.Ring.{ringSize, nodeNumber, sponsorCount, previous, memberBefore, sponsored, decided, walk, ks}
+use Rattle.message.specs.declared.Reading.{Reading}
+use Rattle.message.specs.declared.Reading.the-variants as reading
+use Rattle.message.specs.declared.Written.the-variants as written
+use Rattle.message.specs.Message.{Outcome, ifRead, ifWritten, inRange, lengthOf, partOne, partTwo, readOf, saidBy, sectionIn, writeOf}
+use Rattle.node_record.specs.Soundness.{sound, limit}
+use Rattle.node_record.specs.States.{isOut}
+use Rattle.node_record.specs.declared.Node.{Node}
+use Rattle.node.specs.declared.Answer.the-variants as answer
+use Rattle.node.specs.declared.Stepped.{Stepped}
+use Rattle.node.specs.Calls.{itsTurn, setUpOf, stepOf, sendOf, offOf, restartOf}
+use Rattle.node.proofs.Sent.{sent-or-short}
+use Rattle.bench.specs.declared.Command.{Command}
+use Rattle.bench.specs.declared.Command.the-variants as command
+use Rattle.bench.specs.Table.{Table, tableSound, ringOf, slotsOf, recordOf}
+use Rattle.bench.specs.Calls as bench
+use Rattle.bench.specs.Pairs.{SlotBytes}
+use Rattle.bench.specs.Outcomes.{calledOf, endedOf, outcomeOf, BytesAfter}
+use Rattle.demands.specs.Demand1.{Demand1, EndsBy, RunsBy, StepsBy, WritesBy, numbersFor, ofFound, ofReading, ofSpeaker, ofAnswer}
+
+-- ---- a test, in each of the forms that the definitions use: P holds either way
+
+either : {A : Type 0} (P : A → Type 0) (b : Bool) {x y : A} → P x → P y → P (cond b x y)
+either P true p q = p
+either P false p q = q
+
+either-read : (P : Reading → Type 0) (b : Bool) (cause : Refusal) {r : Reading} → P r → P (reading.Refused cause) → P (ifRead b cause r)
+either-read P true cause p q = p
+either-read P false cause p q = q
+
+either-written : (P : Outcome → Type 0) (b : Bool) (cause : Refusal) {out : List ℕ} {o : Outcome} → P o → P (written.Refused cause, out) → P (ifWritten b cause out o)
+either-written P true cause p q = p
+either-written P false cause p q = q
+
+either-passed : (P : bench.Called → Type 0) (b : Bool) (cause : Refusal) {t : Table} {c : bench.Called}
+    → P c → P (record { table = t; answer = answer.Refused cause }) → P (bench.ifPassed b cause t c)
+either-passed P true cause p q = p
+either-passed P false cause p q = q
+
+-- ---- the ring
+
+module _ (numbers : List ℕ) where
+  abbrev Ends : Found → Type 0
+  Ends f = EndsBy numbers (ofFound f)
+
+  walked : (left n set x j : ℕ) → Ends (walk left n set x j)
+  unfolding walk
+  walked zero n set x j = tt
+  walked (suc left) n set x j =
+      let p = previous n x in
+      let more = j - num (has set p) in
+      either Ends (eqb more 0) tt (walked left n set p more)
+
+  member-before : (n set x j : ℕ) → Ends (memberBefore n set x j)
+  unfolding memberBefore
+  member-before n set x j = either Ends (eqb j 0) tt (walked (n - 1) n set x j)
+
+on-ring : (n x : ℕ) (f : Found) → Ends (1 ∷ 3 ∷ []) f → Ends (1 ∷ 3 ∷ []) (onRing n x f)
+on-ring n x f e = let P = Ends (1 ∷ 3 ∷ []) in either P (ringSize n) (either P (nodeNumber n x) e refl) refl
+
+on-sponsored-ring : (n k x : ℕ) (f : Found) → Ends (1 ∷ 2 ∷ 3 ∷ []) f → Ends (1 ∷ 2 ∷ 3 ∷ []) (onSponsoredRing n k x f)
+on-sponsored-ring n k x f e =
+    let P = Ends (1 ∷ 2 ∷ 3 ∷ []) in
+    either P (ringSize n) (either P (sponsorCount n k) (either P (nodeNumber n x) e refl) refl) refl
+
+sponsors : (n k set x j : ℕ) → Ends (1 ∷ 2 ∷ 3 ∷ []) (sponsoredOf n k set x j)
+unfolding sponsored
+sponsors n k set x j =
+    let numbers : List ℕ = 1 ∷ 2 ∷ 3 ∷ [] in
+    on-sponsored-ring n k x (sponsored n k set x j) (either (Ends numbers) (leb j (ks k (size n set))) (member-before numbers n set x j) tt)
+
+decides : (n k set x : ℕ) → Ends (1 ∷ 2 ∷ 3 ∷ []) (decidedOf n k set x)
+unfolding decided
+decides n k set x = on-sponsored-ring n k x (decided n k set x) (member-before (1 ∷ 2 ∷ 3 ∷ []) n set x (ks k (size n set)))
+
+-- ---- the message
+
+reads : (k : ℕ) (bytes : List ℕ) → EndsBy (2 ∷ 6 ∷ 7 ∷ 8 ∷ []) (ofReading (readOf k bytes))
+unfolding readOf saidBy
+reads k bytes =
+    let P : Reading → Type 0 = λ r. EndsBy (2 ∷ 6 ∷ 7 ∷ 8 ∷ []) (ofReading r) in
+    let one = sectionIn k (partOne k bytes) in
+    let two = sectionIn 1 (partTwo k bytes) in
+    either-read P (inRange k) SponsorCount
+    (either-read P (eqb (length bytes) (lengthOf k)) MessageLength
+    (either-read P (one .counted) SectionCount
+    (either-read P (two .counted) SectionCount
+    (either-read P (one .clear) SpareBit
+    (either-read P (two .clear) SpareBit tt refl) refl) refl) refl) refl) refl
+
+writes : (k a : ℕ) (b : Bool) (out : List ℕ) → WritesBy (2 ∷ 8 ∷ 9 ∷ []) out (writeOf k a b out)
+unfolding writeOf
+writes k a b out =
+    let P = WritesBy (2 ∷ 8 ∷ 9 ∷ []) out in
+    either-written P (inRange k) SponsorCount
+    (either-written P (ltb a (2 ^ k)) SpareBit
+    (either-written P (leb (lengthOf k) (length out)) OutputShort (tt, tt) (refl, refl)) (refl, refl)) (refl, refl)
+
+-- ---- the node record
+
+sets-up : (n k own : ℕ) → EndsBy (1 ∷ 2 ∷ 3 ∷ []) (ofAnswer (setUpOf n k own .answer))
+unfolding setUpOf
+sets-up n k own =
+    let P : Stepped → Type 0 = λ s. EndsBy (1 ∷ 2 ∷ 3 ∷ []) (ofAnswer (s .answer)) in
+    either P (ringSize n) (either P (sponsorCount n k) (either P (nodeNumber n own) tt refl) refl) refl
+
+steps : (heard : Reading) (v : Node) → StepsBy (4 ∷ 5 ∷ []) v (stepOf heard v)
+unfolding stepOf
+steps heard v =
+    let P = StepsBy (4 ∷ 5 ∷ []) v in
+    either P (sound v) (either P (leb limit (v .slots)) (refl, refl) (tt, tt)) (refl, refl)
+
+switches-off : (v : Node) → StepsBy (4 ∷ []) v (offOf v)
+unfolding offOf
+switches-off v = either (StepsBy (4 ∷ []) v) (sound v) (tt, tt) (refl, refl)
+
+restarts : (v : Node) → StepsBy (4 ∷ 11 ∷ []) v (restartOf v)
+unfolding restartOf
+restarts v =
+    let P = StepsBy (4 ∷ 11 ∷ []) v in
+    either P (sound v) (either P (isOut (v .state)) (tt, tt) (refl, refl)) (refl, refl)
+
+-- "of the writer's refusals only 9 can come of sending" (node's proofs/Sent)
+sends : (v : Node) (out : List ℕ) → WritesBy (4 ∷ 5 ∷ 10 ∷ 9 ∷ []) out (sendOf v out)
+unfolding sendOf
+sends v out =
+    let P = WritesBy (4 ∷ 5 ∷ 10 ∷ 9 ∷ []) out in
+    by-cases (sound v)
+    (λ s. by-cases (leb limit (v .slots))
+    (λ l. rw (s, l) (refl, refl))
+    (λ l. by-cases (itsTurn v)
+    (λ i. rw (sent-or-short v out s (leb-false limit (v .slots) l) i) (either-written P (leb (lengthOf (v .k)) (length out)) OutputShort (tt, tt) (refl, refl)))
+    (λ i. rw (s, l, i) (refl, refl))))
+    (λ s. rw s (refl, refl))
+
+-- ---- the bench
+
+abbrev Runs : Command → Table → List ℕ → List ℕ → bench.Called → Type 0
+Runs c t out after called = RunsBy (numbersFor c) (outcomeOf c t called) (t, out) (called .table, after)
+
+-- a call that is refused leaves the table; where it leaves the bytes, all is as it came
+untouched : (t : Table) (out after : List ℕ) → after ≡ out → _≡_ {A = Table × List ℕ} (t, after) (t, out)
+untouched t out after same = ap (λ (l : List ℕ). (t, l)) same
+
+runs : (c : Command) (t : Table) (out after : List ℕ) → BytesAfter c t out after → Runs c t out after (calledOf c (length out) t)
+unfolding bench.setUpOf bench.slotOf bench.offOf bench.restartOf bench.lookOf
+runs (command.SetUp n k) t out after same =
+    let P = Runs (command.SetUp n k) t out after in
+    let kept = untouched t out after same in
+    either-passed P (ringSize n) RingSize
+    (either-passed P (sponsorCount n k) SponsorCount
+    (either-passed P (eqb (length t) n) Unsound (tt, tt) (refl, kept)) (refl, kept)) (refl, kept)
+runs (command.Slot lost missed) t out after told =
+    let P : bench.Called → Type 0 = λ c. SlotBytes t c out after → Runs (command.Slot lost missed) t out after c in
+    let kept = untouched t out after in
+    either-passed P (tableSound t) Unsound
+    (either-passed P (within (ringOf t) missed) NodeNumber
+    (either-passed P (ltb (slotsOf t) limit) SlotLimit
+    (either-passed P (leb 64 (length out)) OutputShort
+    (λ _. (tt, tt)) (λ same. (refl, kept same))) (λ same. (refl, kept same))) (λ same. (refl, kept same))) (λ same. (refl, kept same)) told
+runs (command.Off a) t out after same =
+    let P = Runs (command.Off a) t out after in
+    let kept = untouched t out after same in
+    either-passed P (tableSound t) Unsound (either-passed P (nodeNumber (ringOf t) a) NodeNumber (tt, tt) (refl, kept)) (refl, kept)
+runs (command.Restart a) t out after same =
+    let P = Runs (command.Restart a) t out after in
+    let kept = untouched t out after same in
+    either-passed P (tableSound t) Unsound
+    (either-passed P (nodeNumber (ringOf t) a) NodeNumber
+    (either-passed P (isOut (recordOf t a .state)) NotOut (tt, tt) (refl, kept)) (refl, kept)) (refl, kept)
+runs (command.Look lost) t out after same =
+    either-passed (Runs (command.Look lost) t out after) (tableSound t) Unsound (tt, tt) (refl, untouched t out after same)
+
+-- ---- the demand
+
+pub demand1 : Demand1
+unfolding endedOf
+demand1 = record {
+  sender = λ n s. either (λ (a : Speaker). EndsBy (1 ∷ []) (ofSpeaker a)) (ringSize n) tt refl;
+  before = λ n set x j. on-ring n x (memberBefore n set x j) (member-before (1 ∷ 3 ∷ []) n set x j);
+  sponsored = sponsors;
+  decided = decides;
+  read = reads;
+  write = writes;
+  set-up = sets-up;
+  slot = λ bytes v. steps (readOf (v .k) bytes) v;
+  step = steps;
+  send = sends;
+  off = switches-off;
+  restart = restarts;
+  bench = runs;
+}

@@ -1,0 +1,124 @@
+-- Demand 1: every message, plan text, node record and sequence of calls ends in a result or a numbered refusal, and a refusal changes no record and no lent
+-- byte. There is a clause for each call, over the definition that its contract cites and for all numbers, bytes, records and tables; so it holds of each call
+-- of every sequence, whatever the calls before it left. What is left are plan texts: what a line does is in the contracts of `plan_line` and `plan_run`;
+-- that a whole text ends so joins when the program is proved as a whole.
+use Prim.Native.Nat.{ℕ}
+use mathlib.Core.Path.{_≡_}
+use mathlib.Core.Bool.{Bool, true, false, _||_}
+use mathlib.Core.List.{List, [], _∷_}
+use lib.Dec.{eqb}
+use lib.ListN.{length}
+use Rattle.refusal.specs.declared.Refusal.{Refusal}
+use Rattle.refusal.specs.Causes.{numberOf}
+use Rattle.ring.specs.declared.Speaker.{Speaker}
+use Rattle.ring.specs.declared.Speaker.the-variants as speaker
+use Rattle.ring.specs.declared.Found.{Found}
+use Rattle.ring.specs.declared.Found.the-variants as found
+use Rattle.ring.specs.Answers.{senderOf, beforeOf, sponsoredOf, decidedOf}
+use Rattle.message.specs.declared.Reading.{Reading}
+use Rattle.message.specs.declared.Reading.the-variants as reading
+use Rattle.message.specs.declared.Written.{Written}
+use Rattle.message.specs.declared.Written.the-variants as written
+use Rattle.message.specs.Message.{readOf, writeOf}
+use Rattle.node_record.specs.declared.Node.{Node}
+use Rattle.node.specs.declared.Answer.{Answer}
+use Rattle.node.specs.declared.Answer.the-variants as answer
+use Rattle.node.specs.declared.Stepped.{Stepped}
+use Rattle.node.specs.Calls.{setUpOf, stepOf, slotOf, sendOf, offOf, restartOf}
+use Rattle.bench.specs.declared.Command.{Command}
+use Rattle.bench.specs.declared.Command.the-variants as command
+use Rattle.bench.specs.declared.Outcome.{Outcome}
+use Rattle.bench.specs.declared.Outcome.the-variants as outcome
+use Rattle.bench.specs.Table.{Table}
+use Rattle.bench.specs.Outcomes.{endedOf, BytesAfter}
+
+-- ---- how a call ends
+
+-- In a result, or in a refusal.
+pub data Ending : Type 0 where
+  result : Ending
+  refusal : Refusal → Ending
+
+abbrev pub ofSpeaker : Speaker → Ending
+ofSpeaker (speaker.Node x) = result
+ofSpeaker (speaker.Refused cause) = refusal cause
+
+abbrev pub ofFound : Found → Ending
+ofFound (found.Member x) = result
+ofFound found.Nobody = result
+ofFound (found.Refused cause) = refusal cause
+
+abbrev pub ofReading : Reading → Ending
+ofReading (reading.Heard bits returnBit) = result
+ofReading (reading.Refused cause) = refusal cause
+
+abbrev pub ofWritten : Written → Ending
+ofWritten (written.Bytes count) = result
+ofWritten (written.Refused cause) = refusal cause
+
+abbrev pub ofAnswer : Answer → Ending
+ofAnswer answer.Done = result
+ofAnswer (answer.Refused cause) = refusal cause
+
+abbrev pub ofOutcome : Outcome → Ending
+ofOutcome outcome.Quiet = result
+ofOutcome (outcome.Slot slot sender fate list distance) = result
+ofOutcome (outcome.Refused cause) = refusal cause
+
+-- ---- what is demanded of it
+
+-- One of these numbers.
+abbrev pub isAmong : ℕ → List ℕ → Bool
+isAmong x [] = false
+isAmong x (y ∷ ys) = eqb x y || isAmong x ys
+
+-- "ends in a result or a numbered refusal": the cause's number ("Causes and their numbers") is one of these.
+abbrev pub EndsBy : List ℕ → Ending → Type 0
+EndsBy numbers result = Unit {0}
+EndsBy numbers (refusal cause) = isAmong (numberOf cause) numbers ≡ true
+
+-- "a refusal changes no record and no lent byte": they are after the call as they were before it.
+abbrev pub Keeps : {A : Type 0} → Ending → A → A → Type 0
+Keeps result before after = Unit {0}
+Keeps (refusal cause) before after = after ≡ before
+
+-- Both: of a call that writes into lent bytes, of one on a record, and of one on a table with lent bytes.
+abbrev pub WritesBy : List ℕ → List ℕ → Written × List ℕ → Type 0
+WritesBy numbers out r = EndsBy numbers (ofWritten (r .0)) × Keeps (ofWritten (r .0)) out (r .1)
+
+abbrev pub StepsBy : List ℕ → Node → Stepped → Type 0
+StepsBy numbers v r = EndsBy numbers (ofAnswer (r .answer)) × Keeps (ofAnswer (r .answer)) v (r .node)
+
+abbrev pub RunsBy : List ℕ → Outcome → Table × List ℕ → Table × List ℕ → Type 0
+RunsBy numbers o before after = EndsBy numbers (ofOutcome o) × Keeps (ofOutcome o) before after
+
+-- By which numbers a call of the bench may be refused, in the order of its tests.
+abbrev pub numbersFor : Command → List ℕ
+numbersFor (command.SetUp n k) = 1 ∷ 2 ∷ 4 ∷ []
+numbersFor (command.Slot lost missed) = 4 ∷ 3 ∷ 5 ∷ 9 ∷ []
+numbersFor (command.Off a) = 4 ∷ 3 ∷ []
+numbersFor (command.Restart a) = 4 ∷ 3 ∷ 11 ∷ []
+numbersFor (command.Look lost) = 4 ∷ []
+
+-- ---- the demand, call by call: by which numbers it may be refused, in the order of its tests
+
+pub record Demand1 : Type 0 where
+  -- the ring (`before_found` answers as `before` does, or hands on the refusal that it is given)
+  pub sender : (n s : ℕ) → EndsBy (1 ∷ []) (ofSpeaker (senderOf n s))
+  pub before : (n set x j : ℕ) → EndsBy (1 ∷ 3 ∷ []) (ofFound (beforeOf n set x j))
+  pub sponsored : (n k set x j : ℕ) → EndsBy (1 ∷ 2 ∷ 3 ∷ []) (ofFound (sponsoredOf n k set x j))
+  pub decided : (n k set x : ℕ) → EndsBy (1 ∷ 2 ∷ 3 ∷ []) (ofFound (decidedOf n k set x))
+  -- the message; the reader writes to no byte
+  pub read : (k : ℕ) (bytes : List ℕ) → EndsBy (2 ∷ 6 ∷ 7 ∷ 8 ∷ []) (ofReading (readOf k bytes))
+  pub write : (k acknowledgements : ℕ) (returnBit : Bool) (out : List ℕ)
+      → WritesBy (2 ∷ 8 ∷ 9 ∷ []) out (writeOf k acknowledgements returnBit out)
+  -- the node record; set-up is given none, and sending returns none
+  pub set-up : (n k own : ℕ) → EndsBy (1 ∷ 2 ∷ 3 ∷ []) (ofAnswer (setUpOf n k own .answer))
+  pub slot : (bytes : List ℕ) (v : Node) → StepsBy (4 ∷ 5 ∷ []) v (slotOf bytes v)
+  pub step : (heard : Reading) (v : Node) → StepsBy (4 ∷ 5 ∷ []) v (stepOf heard v)
+  pub send : (v : Node) (out : List ℕ) → WritesBy (4 ∷ 5 ∷ 10 ∷ 9 ∷ []) out (sendOf v out)
+  pub off : (v : Node) → StepsBy (4 ∷ []) v (offOf v)
+  pub restart : (v : Node) → StepsBy (4 ∷ 11 ∷ []) v (restartOf v)
+  -- the bench: set-up, slot, off, restart and a look; `out` are the lent bytes and `after` those after the call
+  pub bench : (c : Command) (t : Table) (out after : List ℕ) → BytesAfter c t out after
+      → let ended = endedOf c (length out) t in RunsBy (numbersFor c) (ended .reply .outcome) (t, out) (ended .table, after)
