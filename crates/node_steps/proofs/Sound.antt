@@ -330,7 +330,7 @@ join-sound s v j k two =
 
     known : nodeNumber (v .n) (v .returning) ≡ true
     known =
-        let f = nearest (beforeOf (v .n) (v .set) (v .returning) 1) j in
+        let f = nearest (beforeOf (v .n) (v .set) (v .returning) 1) (both (not (eqb (v .returning) 0)) (isFound s (beforeOf (v .n) (v .set) (v .returning) 1)) j .1) in
         on-ring (v .n) (v .returning) (f .0) _ (f .1) .1
 
 settle-sound : (inside : Bool) (s : ℕ) (v : Node) → Tracking v → sound (settle inside s v) ≡ true

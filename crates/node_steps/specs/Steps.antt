@@ -103,9 +103,9 @@ nothingHeard v = eqb (size (v .n) (without (v .present) (v .own))) 0
 
 -- ---- step 5
 
--- "the sender .. is the nearest member before the returning node" (before 0 there is none)
+-- There is a returning node, and "the sender .. is the nearest member before" it.
 abbrev pub joins : ℕ → Node → Bool
-joins s v = isFound s (beforeOf (v .n) (v .set) (v .returning) 1)
+joins s v = not (eqb (v .returning) 0) && isFound s (beforeOf (v .n) (v .set) (v .returning) 1)
 
 -- The state of a node once the returning one is on the list: a knocking node, which is that one, is a member.
 abbrev pub stateOnList : State → State

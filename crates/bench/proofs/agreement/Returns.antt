@@ -6,10 +6,10 @@ use mathlib.Core.Bool.{Bool, true, false, not, _&&_, _||_, false≢true}
 use native.Mathlib.Omega.{arith}
 use native.Mathlib.Decide.{ℕ-discrete, decLt}
 use lib.Dec.{eqb}
-use borrow.Author.Tests.{eqb-true, eq-eqb, leb-true}
+use borrow.Author.Tests.{eqb-true, eq-eqb, ne-eqb, leb-true}
 use Rattle.nodeset.specs.Sums.{num}
 use Rattle.nodeset.specs.Sets.{has}
-use Rattle.nodeset.proofs.Tests.{by-cases, both}
+use Rattle.nodeset.proofs.Tests.{by-cases, both, all}
 use Rattle.nodeset.proofs.Sums.{num-le}
 use Rattle.ring.specs.declared.Found.{Found}
 use Rattle.ring.specs.declared.Found.the-variants as found
@@ -42,14 +42,19 @@ found-it s (found.Member m) e = ap found.Member (eqb-true m s e)
 found-it s found.Nobody e = absurd (false≢true e)
 found-it s (found.Refused c) e = absurd (false≢true e)
 
+-- before 0 there is no member
+before-some : (s : ℕ) (v : Node) → beforeOf (v .n) (v .set) (v .returning) 1 ≡ found.Member s → v .returning ≢ 0
+before-some s v f z =
+    let p : 1 ≤ v .returning = leb-true 1 (v .returning) (both _ _ (members.on-ring (v .n) (v .returning) s (memberBefore (v .n) (v .set) (v .returning) 1) f .1) .0) in
+    omega arith
+
 pub joins-yes : (s : ℕ) (v : Node) → joins s v ≡ true → (v .returning ≢ 0) × (beforeOf (v .n) (v .set) (v .returning) 1 ≡ found.Member s)
 joins-yes s v e =
-    let f : beforeOf (v .n) (v .set) (v .returning) 1 ≡ found.Member s = found-it s (beforeOf (v .n) (v .set) (v .returning) 1) e in
-    let p : 1 ≤ v .returning = leb-true 1 (v .returning) (both _ _ (members.on-ring (v .n) (v .returning) s (memberBefore (v .n) (v .set) (v .returning) 1) f .1) .0) in
-    (λ z. omega arith, f)
+    let f : beforeOf (v .n) (v .set) (v .returning) 1 ≡ found.Member s = found-it s (beforeOf (v .n) (v .set) (v .returning) 1) (both (not (eqb (v .returning) 0)) (isFound s (beforeOf (v .n) (v .set) (v .returning) 1)) e .1) in
+    (before-some s v f, f)
 
 pub joins-if : (s : ℕ) (v : Node) → beforeOf (v .n) (v .set) (v .returning) 1 ≡ found.Member s → joins s v ≡ true
-joins-if s v e = ap (isFound s) e ∙ eq-eqb s s refl
+joins-if s v e = all (ap not (ne-eqb (v .returning) 0 (before-some s v e))) (ap (isFound s) e ∙ eq-eqb s s refl)
 
 pub not-missed : (r : Reading) (v : Node) → missedReturn r v ≡ false → v .returning ≡ 0 → returnIn r ≡ false
 not-missed r v e z =
