@@ -3,6 +3,7 @@
 pub mod adversary;
 pub mod careful;
 pub mod child;
+pub mod events;
 pub mod lasting;
 pub mod library;
 pub mod messages;

@@ -2,20 +2,11 @@
 
 use super::protocol::{Call, Command, Held, Told, HEAD, ROWS};
 use comparison::child;
+use comparison::events::KINDS;
 use comparison::messages::hex;
 use comparison::record_bytes::{shown_record, Reader, RECORD};
 use comparison::report::Count;
 use std::io::Read;
-
-/// The six kinds, as events; a kind's number is its place, from 1.
-pub const KINDS: [&str; 6] = [
-    "change: 1, left",
-    "change: 2, listening to following",
-    "change: 3, knocked",
-    "change: 4, joined",
-    "change: 5, knocking to following",
-    "change: 6, to listening",
-];
 
 /// Runs the program on the commands and compares every answer: what the call tells, each byte of the buffer
 /// and each of the rows, those after the table too. Notes what is expected.

@@ -1,9 +1,10 @@
 //! Runs from set-up on, with losses, misses, offs and restarts, and refused calls and looks in between.
 
-use super::compare::{compare, KINDS};
+use super::compare::compare;
 use super::protocol::{Call, Command, ROWS};
 use super::script::{any_record, no_node, one_not_out, Script, SHORT};
 use comparison::adversary::Adversary;
+use comparison::events::KINDS;
 use comparison::lasting::Lasting;
 use comparison::model::bench;
 use comparison::model::node::Node;

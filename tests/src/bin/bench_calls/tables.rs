@@ -1,8 +1,9 @@
 //! Tables that are loaded as they stand: ones of any sound records, and ones that are no table.
 
-use super::compare::{compare, KINDS};
+use super::compare::compare;
 use super::protocol::{Call, Command};
 use super::script::{Script, ENOUGH};
+use comparison::events::KINDS;
 use comparison::model::bench::check_table;
 use comparison::model::node::{Node, State, CLAUSES};
 use comparison::model::refusal;

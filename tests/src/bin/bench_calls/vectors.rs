@@ -1,7 +1,8 @@
 //! Runs whose pairs are typed from document 01; neither side makes an expected answer.
 
-use super::compare::{compare, KINDS};
+use super::compare::compare;
 use super::protocol::{Call, Command, Held, HEAD};
+use comparison::events::KINDS;
 use comparison::report::Count;
 
 const OK: Call = Call::Slot { lost: false, missed: 0 };

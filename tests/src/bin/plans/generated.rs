@@ -2,32 +2,17 @@
 
 use super::compare::{compare, SLOTS};
 use comparison::adversary::{those, Adversary};
+use comparison::events::KINDS;
 use comparison::lasting::Lasting;
-use comparison::model::bench::{Kind, Slot};
+use comparison::model::bench::Slot;
 use comparison::model::node::State;
 use comparison::plan::Plan;
 use comparison::random::Random;
 use comparison::report::Count;
 
-const CHANGES: &[&str] = &[
-    "change: 1, left",
-    "change: 2, listening to following",
-    "change: 3, knocked",
-    "change: 4, joined",
-    "change: 5, knocking to following",
-    "change: 6, to listening",
-];
-
 fn note_changes(count: &mut Count, slot: &Slot) {
     for &(_, kind) in &slot.changes {
-        count.event(match kind {
-            Kind::Left => "change: 1, left",
-            Kind::Follows => "change: 2, listening to following",
-            Kind::Knocked => "change: 3, knocked",
-            Kind::Joined => "change: 4, joined",
-            Kind::FollowsAgain => "change: 5, knocking to following",
-            Kind::Listens => "change: 6, to listening",
-        });
+        count.event(KINDS[kind as usize - 1]);
     }
 }
 
@@ -94,7 +79,7 @@ pub fn every_n_and_k(count: &mut Count) -> Result<(), String> {
         }
     }
     count.needs(SLOTS)?;
-    count.needs(CHANGES)
+    count.needs(&KINDS)
 }
 
 /// 15,000 plans for n from 3 to 9: each is short, but long enough to leave, return and leave again.
@@ -106,21 +91,8 @@ pub fn small_rings(count: &mut Count) -> Result<(), String> {
         compare_drawn(count, &mut adversary, n, k)?;
     }
     count.needs(SLOTS)?;
-    count.needs(CHANGES)
+    count.needs(&KINDS)
 }
-
-/// What plans that live on must meet.
-const OF_LASTING: &[&str] = &[
-    "change: 1, left",
-    "change: 2, listening to following",
-    "change: 3, knocked",
-    "change: 4, joined",
-    "change: 5, knocking to following",
-    "slot: silent",
-    "slot: lost",
-    "slot: knock",
-    "slot: sent",
-];
 
 /// A few plans of 50,000 lines in which the nodes go and come back all the time, each with a refused line
 /// at its end.
@@ -137,5 +109,6 @@ pub fn long(count: &mut Count) -> Result<(), String> {
         plan.text.extend(b"off 99\n");
         compare(count, &plan.text)?;
     }
-    count.needs(OF_LASTING)
+    count.needs(&SLOTS[..4])?;
+    count.needs(&KINDS[..5])
 }
