@@ -80,7 +80,7 @@ pairsTold before called = go (called .answer)
     go answer.Done = changeCount before (called .table)
     go (answer.Refused cause) = 0
 
--- A slot that is refused changes no lent byte. (A slot that runs changes the states that it changes.)
+-- A slot that runs tells whose states it changed; one that is refused changes no lent byte.
 abbrev pub SlotBytes : Table → Called → List ℕ → List ℕ → Type 0
 SlotBytes before called out written = go (called .answer)
   where
