@@ -1,6 +1,6 @@
 pub mod Ranges
 pub mod Senders
 pub mod Speakers
-pub mod Members
 pub mod Walks
-pub mod Nexts
+pub mod Members
+pub mod Places
