@@ -38,9 +38,9 @@ use Rattle.bench.specs.Table.{Table, recordOf, eachFrom, tableSound, slotsOf, s
 use Rattle.bench.specs.Calls.{listIn, farthest, greatest, fateOf, transmits, afterSlot}
 use Rattle.bench.specs.Runs.{slot, callOf, isSlot}
 use Rattle.bench.specs.Outcomes.{Ended, slotOutcome, quietOutcome, outcomeOf, endedBy, endedOf, BytesAfter}
-use Rattle.bench.proofs.agreement.Places.{Placed, sound-placed, placed-sound, slots-of-placed}
-use Rattle.bench.proofs.agreement.Accepted.{is-slot, slot-done}
-use Rattle.bench.proofs.agreement.Runs.{placed-call}
+use Rattle.bench.proofs.Places.{Placed, sound-placed, placed-sound, slots-of-placed}
+use Rattle.bench.proofs.Accepted.{is-slot, slot-done}
+use Rattle.bench.proofs.Runs.{placed-call}
 use Rattle.bench_walks.specs.Survey.{foldFrom, surveyOf, fineTable, noMembers, membersOf}
 use Rattle.bench_walks.specs.Orders.{ifGood, fateBy, turnOf, orderOf, orderFor, carried, carriedFrom, listWith, sameWith, sighted, noSight, noticed, noNotes, noticedFrom, notesOf, answerTo, reachOf, outcomeBy, replyBy, writtenBy}
 use Rattle.bench_walks.proofs.Partly.{take-least}

@@ -39,8 +39,8 @@ use Rattle.bench.specs.Table.{Table, eachFrom, placedFrom, tableSound, slotsOf,
 use Rattle.bench.specs.Calls as bench
 use Rattle.bench.specs.Calls.{Called, done, ifPassed, setUpOf, startTable, offOf, afterOff, restartOf, afterRestart, slotOf, heardBy, spoken, transmits, unheard, lookOf}
 use Rattle.bench.specs.Outcomes.{calledOf}
-use Rattle.bench.proofs.agreement.Places.{sound-placed}
-use Rattle.bench.proofs.agreement.Counted.{step-done}
+use Rattle.bench.proofs.Places.{sound-placed}
+use Rattle.bench.proofs.Counted.{step-done}
 use Rattle.bench_walks.specs.Survey.{surveyOf, fineTable}
 use Rattle.bench_walks.specs.Orders.{ifGood, saidBy, turnOf, orderFor, heardAt, stepAt, carried, fateBy, answerTo}
 use Rattle.bench_calls.proofs.Surveys.{Placed, placed, fine-table, Said, said}

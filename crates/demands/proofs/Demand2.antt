@@ -28,8 +28,8 @@ use Rattle.bench.specs.declared.Command.the-variants.{Slot}
 use Rattle.bench.specs.Table.{Table, recordOf, ringOf, slotsOf, speaker, tableSound}
 use Rattle.bench.specs.Calls as bench
 use Rattle.bench.specs.Outcomes.{endedOf}
-use Rattle.bench.proofs.agreement.Places.{sound-placed}
-use Rattle.bench.proofs.agreement.Runs.{after-slot-record}
+use Rattle.bench.proofs.Places.{sound-placed}
+use Rattle.bench.proofs.Runs.{after-slot-record}
 use Rattle.demands.specs.Demand2.{Demand2, nextSender}
 
 -- ---- a record

@@ -12,12 +12,12 @@ use Rattle.node.specs.Calls.{noNode}
 use Rattle.bench.specs.Table.{Table, slotsOf}
 use Rattle.bench.specs.Calls.{setUpOf, greatest}
 use Rattle.bench.specs.Runs.{Call, tableAfter}
-use Rattle.bench.specs.Demand.{LostOrSilent, decidingRan, Premises, Agree, InTime, EverySequence}
+use Rattle.agreement.specs.Demand.{next, onwards, isDeciding, decidingRan, LostOrSilent, Premises, Agree, InTime, EverySequence}
 use Rattle.bench.proofs.Computed.{computed}
-use Rattle.bench.proofs.agreement.Places.{Placed}
-use Rattle.bench.proofs.agreement.Runs.{start-placed, run-length}
-use Rattle.bench.proofs.agreement.Beginnings.{at-end}
-use Rattle.bench.proofs.agreement.Throughout.{nothing-apart}
+use Rattle.bench.proofs.Places.{Placed}
+use Rattle.bench.proofs.Runs.{start-placed, run-length}
+use Rattle.agreement.proofs.Beginnings.{at-end}
+use Rattle.agreement.proofs.Throughout.{nothing-apart}
 use Rattle.premises.specs.Plans.{twoMiss, twoKnocks, threeLeft, noThird, missesTwice}
 use Rattle.premises.specs.Needed.{Premise, few-failures, one-outside, list-kept, all-heard, Holds, Others, InRange, Bites, Without}
 use Rattle.premises.proofs.Scan.{noted, scan}
@@ -103,7 +103,7 @@ module _ (a b c d : Node) where
   list-bites = bites-agree 4 3 (lit≤ tt, lit≤ tt, lit≤ tt, lit≤ tt) four refl (reverse threeLeft) list-kept 0 refl refl refl
 
   pub list-bites-in-time : Bites list-kept (InTime 4 3) 4 3 four (reverse noThird)
-  unfolding computed every noted scan
+  unfolding computed every noted scan next onwards isDeciding decidingRan
   list-bites-in-time = bites-in-time 4 3 (lit≤ tt, lit≤ tt, lit≤ tt, lit≤ tt) four refl (reverse noThird) list-kept 2 refl refl (lit≤ tt, lit≤ tt, refl, refl) (lit≤ tt) refl
 
   pub hearing-bites : Bites all-heard (Agree 4) 4 2 four (reverse missesTwice)

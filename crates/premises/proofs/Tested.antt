@@ -15,9 +15,9 @@ use Rattle.node_record.specs.States.{isMember, isOut}
 use Rattle.bench.specs.Table.{Table, recordOf, slotsOf, speaker}
 use Rattle.bench.specs.Calls.{transmits}
 use Rattle.bench.specs.Runs.{Call, slot, off, restart, tableAfter, isSlot, listOf, Entry, noEntry, entry}
-use Rattle.bench.specs.Demand.{AtEach, KeepsList, AllHear, HearEverything}
-use Rattle.bench.proofs.agreement.Places.{Placed}
-use Rattle.bench.proofs.agreement.Entries.{entry-later}
+use Rattle.agreement.specs.Demand.{AtEach, KeepsList, AllHear, HearEverything}
+use Rattle.bench.proofs.Places.{Placed}
+use Rattle.agreement.proofs.Entries.{entry-later}
 use Rattle.premises.specs.Needed.{Premise, few-failures, one-outside, list-kept, all-heard, Holds}
 use Rattle.premises.proofs.Scan.{Notes, noted, Scan, SlotTest, scan, atSlots, Right, scan-right}
 

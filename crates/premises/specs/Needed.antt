@@ -7,9 +7,9 @@ use Rattle.nodeset.specs.Sums.{sum, num}
 use Rattle.bench.specs.Table.{Table}
 use Rattle.bench.specs.Calls.{setUpOf}
 use Rattle.bench.specs.Runs.{Call, entry}
-use Rattle.bench.specs.Demand.{AtEach, KeepsList, HearEverything, Claims, EverySequence}
+use Rattle.agreement.specs.Demand.{AtEach, KeepsList, HearEverything, Claims, EverySequence}
 
--- ---- the premises, one by one (the fields of Premises, bench's specs/Demand)
+-- ---- the premises, one by one (the fields of Premises, agreement's specs/Demand)
 
 pub data Premise : Type 0 where
   few-failures : Premise
