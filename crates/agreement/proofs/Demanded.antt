@@ -63,7 +63,7 @@ module _ (G : Given) where
     listed-at : W .E (suc N) .listed ≡ has L (sender n (suc N))
     enough-at : k < size n L
 
-  slot-facts : (c : Call) (cs : List Call) → Beginning all (c ∷ cs) → KeepsList n k start c cs → HearEverything n start c cs → isSlot c (tableAfter start cs) ≡ true → (r : Run G cs) → Slot c cs (slotsOf (tableAfter start cs) + n) (r .0)
+  slot-facts : (c : Call) (cs : List Call) → Beginning all (c ∷ cs) → KeepsList n k start c cs → HearEverything n k start c cs → isSlot c (tableAfter start cs) ≡ true → (r : Run G cs) → Slot c cs (slotsOf (tableAfter start cs) + n) (r .0)
   unfolding KeepsList HearEverything
   slot-facts (slot lost missed room) cs b kl he e r = record {
     speaker-at = speaker-is W N (r .0) t lost missed (r .1) eq (kl e .0) (he e) good below;
@@ -153,7 +153,7 @@ module _ (G : Given) where
           in-round (yes z) = let bad : ⊥ = omega (arith, full-round W _ (r′ .0) (r′ .1 .kept) (ends-enough c cs kl e r′) (s + n) (suc x) (omega arith) ago′ z) in absurd bad
           in-round (no z) = omega arith
 
-  status : (cs : List Call) → Beginning all cs → AtEach (KeepsList n k start) cs → AtEach (HearEverything n start) cs → (s : ℕ) → 1 ≤ s → s ≤ slotsOf (tableAfter start cs)
+  status : (cs : List Call) → Beginning all cs → AtEach (KeepsList n k start) cs → AtEach (HearEverything n k start) cs → (s : ℕ) → 1 ≤ s → s ≤ slotsOf (tableAfter start cs)
       → Status (slotsOf (tableAfter start cs) + n) (s + n) (decidingRan n k start s cs)
   unfolding AtEach
   status [] b kl he s h l = let bad : ⊥ = omega (arith, none-yet G) in absurd bad
@@ -186,7 +186,7 @@ module _ (G : Given) where
   member-set : (i : ℕ) → MemberAt n T i → recordOf T i .set ≡ final .0
   member-set i m = final .1 .nodes i (m .0) (m .1) .track (member-tracks (recordOf T i .state) (m .2)) .set-is
 
-  agrees : Agree n start all
+  agrees : Agree n k start all
   agrees i j a b = ap (λ (x : ℕ). distance n x (recordOf T j .set)) (member-set i a ∙ sym (member-set j b)) ∙ distance-same n (recordOf T j .set)
 
   past-now : (s : ℕ) → W .E (s + n) ≡ past start all s
@@ -210,15 +210,15 @@ module _ (G : Given) where
       go (over x) = x
       go (waiting x e ago recent w) = let bad : ⊥ = omega arith in absurd bad
 
-  module _ (s : ℕ) (c : Call) (before : List Call) (is : all ≡ c ∷ before) (f : LostOrSilent start s before) (nd : decidingRan n k start s before ≡ false) (dg : isDeciding n k start s c before ≡ true) where
+  module _ (s : ℕ) (c : Call) (before : List Call) (is : all ≡ c ∷ before) (f : LostOrSilent n k start s before) (nd : decidingRan n k start s before ≡ false) (dg : isDeciding n k start s c before ≡ true) where
     b : Beginning all (c ∷ before)
     b = subst (λ (x : List Call). Beginning all x) is whole
 
     kl : AtEach (KeepsList n k start) (c ∷ before)
     kl = subst (AtEach (KeepsList n k start)) is (premises .list-kept)
 
-    he : AtEach (HearEverything n start) (c ∷ before)
-    he = subst (AtEach (HearEverything n start)) is (premises .all-heard)
+    he : AtEach (HearEverything n k start) (c ∷ before)
+    he = subst (AtEach (HearEverything n k start)) is (premises .all-heard)
 
     is-slot : isSlot c (tableAfter start before) ≡ true
     unfolding isDeciding
@@ -255,7 +255,7 @@ module _ (G : Given) where
 pub demand3 : Demand3
 unfolding EverySequence
 demand3 n k three most two fewer lent one-each cs p = record {
-  agree = after (Agree n first) (λ x q. agrees (given x q));
+  agree = after (Agree n k first) (λ x q. agrees (given x q));
   stays = after (Stays n k first) (λ x q. stays-on (given x q));
   leaves = at-each n k (omega arith) first placed (Leaves n k first) (λ c x q s. leaves-all (given (c ∷ x) q) s c x refl) cs p;
   in-time = after (InTime n k first) (λ x q. decided-in-time (given x q));

@@ -11,7 +11,7 @@ use borrow.Author.Tests.{eq-eqb, ne-eqb}
 use Rattle.nodeset.specs.Sums.{sum, num}
 use Rattle.nodeset.proofs.Sums.{sum-none, sum-next, sum-split, sum-zero, sum-same}
 use Rattle.nodeset.proofs.Tests.{chosen, otherwise, all}
-use Rattle.bench.specs.Table.{Table, ringOf, slotsOf}
+use Rattle.bench.specs.Table.{Table, nodeCount, slotsOf}
 use Rattle.bench.specs.Calls.{transmits}
 use Rattle.bench.specs.Runs.{Call, slot, off, restart, tableAfter, isSlot, isListed, misses, failuresIn, Entry, noEntry, entry}
 use Rattle.agreement.specs.Demand.{Premises}
@@ -73,12 +73,12 @@ fair-slot n t lost missed l = record {
     f : ℕ → ℕ
     f i = num (misses lost missed t i)
 
-    count : (a b : Bool) → (a && not b) ≡ true → sum f 1 n ≤ cond a (cond b 1 (sum f 1 (ringOf t))) (num (isListed t))
+    count : (a b : Bool) → (a && not b) ≡ true → sum f 1 n ≤ cond a (cond b 1 (sum f 1 (nodeCount t))) (num (isListed t))
     count true false p = omega (arith, ap (sum f 1) l)
     count true true p = absurd (false≢true p)
     count false b p = absurd (false≢true p)
 
-    unsent : (a b : Bool) → (a && not b) ≡ false → isListed t ≡ true → 1 ≤ cond a (cond b 1 (sum f 1 (ringOf t))) (num (isListed t))
+    unsent : (a b : Bool) → (a && not b) ≡ false → isListed t ≡ true → 1 ≤ cond a (cond b 1 (sum f 1 (nodeCount t))) (num (isListed t))
     unsent true false p q = absurd (true≢false p)
     unsent true true p q = omega arith
     unsent false b p q = omega (arith, num-is q)

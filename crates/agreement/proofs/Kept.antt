@@ -10,9 +10,9 @@ use Rattle.nodeset.proofs.Tests.{by-cases, both, chosen}
 use Rattle.ring.specs.Ring.{nodeNumber}
 use Rattle.node_record.specs.declared.Cause.the-variants.{SwitchedOff}
 use Rattle.node.specs.declared.Stepped.{Stepped}
-use Rattle.node.specs.Calls.{offOf, restartOf}
-use Rattle.bench.specs.Table.{Table, tableSound, ringOf, slotsOf}
-use Rattle.bench.specs.Calls.{setUpOf, afterSlot}
+use Rattle.node.specs.Calls as node
+use Rattle.bench.specs.Table.{Table, tableSound, nodeCount, slotsOf}
+use Rattle.bench.specs.Calls.{setUpOf, tableAfterSlot}
 use Rattle.bench.specs.Runs.{Call, slot, off, restart, tableAfter, isSlot}
 use Rattle.agreement.specs.Demand.{AtEach, KeepsList, HearEverything, Premises}
 use Rattle.agreement.proofs.Past.{pastOf, past}
@@ -76,7 +76,7 @@ module _ (G : Given) where
   first = (full n, moved n _ (full n) _ _ (omega (arith, none-yet)) (start-table n k three most two fewer lent one-each) (start-keeps W lent one-each))
 
   -- a slot that is accepted
-  slot-table : (lost : Bool) (missed room : ℕ) (cs : List Call) → isSlot (slot lost missed room) (tableAfter start cs) ≡ true → tableAfter start (slot lost missed room ∷ cs) ≡ afterSlot lost missed (tableAfter start cs)
+  slot-table : (lost : Bool) (missed room : ℕ) (cs : List Call) → isSlot (slot lost missed room) (tableAfter start cs) ≡ true → tableAfter start (slot lost missed room ∷ cs) ≡ tableAfterSlot lost missed (tableAfter start cs)
   unfolding tableAfter
   slot-table lost missed room cs e = slot-done lost missed room (tableAfter start cs) e
 
@@ -90,16 +90,16 @@ module _ (G : Given) where
       let z : suc (slotsOf (tableAfter start cs) + n) - n ≡ slotsOf (tableAfter start cs) + 1 = omega arith in
       ap (past start all) z ∙ past-here n k pos start begins all (slot lost missed room) cs b e
 
-  slot-case : (lost : Bool) (missed room : ℕ) (cs : List Call) → Beginning all (slot lost missed room ∷ cs) → KeepsList n k start (slot lost missed room) cs → HearEverything n start (slot lost missed room) cs
+  slot-case : (lost : Bool) (missed room : ℕ) (cs : List Call) → Beginning all (slot lost missed room ∷ cs) → KeepsList n k start (slot lost missed room) cs → HearEverything n k start (slot lost missed room) cs
       → isSlot (slot lost missed room) (tableAfter start cs) ≡ true → Run cs → Run (slot lost missed room ∷ cs)
   unfolding KeepsList HearEverything
   slot-case lost missed room cs b kl he e r = go (slot-keeps W (slotsOf (tableAfter start cs) + n) (r .0) (tableAfter start cs) lost missed (r .1) (past-at lost missed room cs b e) (kl e .0) (he e)
       (λ i h l. placed cs .at i h l .is-sound) (below-limit n k _ _ pos (placed cs) lost missed room e) (rw (← tb) (kl e .1)))
     where
-      tb : tableAfter start (slot lost missed room ∷ cs) ≡ afterSlot lost missed (tableAfter start cs)
+      tb : tableAfter start (slot lost missed room ∷ cs) ≡ tableAfterSlot lost missed (tableAfter start cs)
       tb = slot-table lost missed room cs e
 
-      go : (L′ : ℕ) × TableInv W (suc (slotsOf (tableAfter start cs) + n)) L′ (afterSlot lost missed (tableAfter start cs)) → Run (slot lost missed room ∷ cs)
+      go : (L′ : ℕ) × TableInv W (suc (slotsOf (tableAfter start cs) + n)) L′ (tableAfterSlot lost missed (tableAfter start cs)) → Run (slot lost missed room ∷ cs)
       go x = (x .0, moved _ _ (x .0) _ _ (omega (arith, slots-next n k pos start begins (slot lost missed room) cs, num-is e)) tb (x .1))
 
   -- a call that is no slot
@@ -107,28 +107,28 @@ module _ (G : Given) where
   other-case c cs e t tb L inv = (L, moved _ _ L _ _ (omega (arith, slots-next n k pos start begins c cs, num-isnt e)) tb inv)
 
   off-case : (a : ℕ) (cs : List Call) → Run cs → Run (off a ∷ cs)
-  unfolding tableAfter offOf
-  off-case a cs r = by-cases (nodeNumber (ringOf (tableAfter start cs)) a)
+  unfolding tableAfter node.offOf
+  off-case a cs r = by-cases (nodeNumber (nodeCount (tableAfter start cs)) a)
       (λ e. other-case (off a) cs (off-no-slot a (tableAfter start cs)) _ (off-done a (tableAfter start cs) (sound-table cs) e) (r .0)
-      (off-keeps W _ (r .0) (tableAfter start cs) (r .1) a SwitchedOff (λ v. offOf v .node) (λ h l. ap (λ (x : Stepped). x .node) (chosen _ _ (placed cs .at a h l .is-sound)))))
+      (off-keeps W _ (r .0) (tableAfter start cs) (r .1) a SwitchedOff (λ v. node.offOf v .node) (λ h l. ap (λ (x : Stepped). x .node) (chosen _ _ (placed cs .at a h l .is-sound)))))
       (λ e. other-case (off a) cs (off-no-slot a (tableAfter start cs)) (tableAfter start cs) (off-refused a (tableAfter start cs) (sound-table cs) e) (r .0) (r .1))
 
   restart-case : (a : ℕ) (cs : List Call) → Run cs → Run (restart a ∷ cs)
-  unfolding tableAfter restartOf
+  unfolding tableAfter node.restartOf
   restart-case a cs r = by-cases (restarts a (tableAfter start cs))
       (λ e. other-case (restart a) cs (restart-no-slot a (tableAfter start cs)) _ (restart-done a (tableAfter start cs) (sound-table cs) e) (r .0)
-      (restart-keeps W _ (r .0) (tableAfter start cs) (r .1) a (λ v. restartOf v .node)
-      (λ h l. ap (λ (x : Stepped). x .node) (chosen _ _ (placed cs .at a h l .is-sound) ∙ chosen _ _ (both (nodeNumber (ringOf (tableAfter start cs)) a) _ e .1)))))
+      (restart-keeps W _ (r .0) (tableAfter start cs) (r .1) a (λ v. node.restartOf v .node)
+      (λ h l. ap (λ (x : Stepped). x .node) (chosen _ _ (placed cs .at a h l .is-sound) ∙ chosen _ _ (both (nodeNumber (nodeCount (tableAfter start cs)) a) _ e .1)))))
       (λ e. other-case (restart a) cs (restart-no-slot a (tableAfter start cs)) (tableAfter start cs) (restart-refused a (tableAfter start cs) (sound-table cs) e) (r .0) (r .1))
 
-  call-case : (c : Call) (cs : List Call) → Beginning all (c ∷ cs) → KeepsList n k start c cs → HearEverything n start c cs → Run cs → Run (c ∷ cs)
+  call-case : (c : Call) (cs : List Call) → Beginning all (c ∷ cs) → KeepsList n k start c cs → HearEverything n k start c cs → Run cs → Run (c ∷ cs)
   call-case (slot lost missed room) cs b kl he r = by-cases (isSlot (slot lost missed room) (tableAfter start cs))
       (λ e. slot-case lost missed room cs b kl he e r)
       (λ e. other-case (slot lost missed room) cs e (tableAfter start cs) (refused-table lost missed room cs e) (r .0) (r .1))
   call-case (off a) cs b kl he r = off-case a cs r
   call-case (restart a) cs b kl he r = restart-case a cs r
 
-  pub run : (cs : List Call) → Beginning all cs → AtEach (KeepsList n k start) cs → AtEach (HearEverything n start) cs → Run cs
+  pub run : (cs : List Call) → Beginning all cs → AtEach (KeepsList n k start) cs → AtEach (HearEverything n k start) cs → Run cs
   unfolding AtEach
   run [] b kl he = first
   run (c ∷ cs) b kl he = call-case c cs b (kl .1) (he .1) (run cs (shorter b) (kl .0) (he .0))

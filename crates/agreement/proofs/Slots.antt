@@ -28,7 +28,7 @@ use Rattle.node_sending.proofs.Laws.{has-markBits}
 use Rattle.node.specs.Slot as node
 use Rattle.node.specs.declared.Stepped.{Stepped}
 use Rattle.bench.specs.Table.{Table, recordOf, slotsOf, speaker}
-use Rattle.bench.specs.Calls.{transmits, unheard, spoken, heardBy, afterSlot}
+use Rattle.bench.specs.Calls.{transmits, unheard, spoken, heardBy, tableAfterSlot}
 use Rattle.bench.specs.Runs.{slot, listOf, isListed, misses}
 use Rattle.agreement.specs.Demand.{AllHear}
 use Rattle.agreement.proofs.Past.{Past, pastOf}
@@ -222,10 +222,10 @@ module _ (W : World) where
             go (no ne) = named p ne ∙ ap not (not-true (has missed i) (λ q. no-both (all-hear p ne q) (listening-neither (recordOf t i .state) li))) ∙ sym p
 
     abbrev after : Table
-    after = afterSlot lost missed t
+    after = tableAfterSlot lost missed t
 
     -- the node after the slot
-    node-after : (i : ℕ) → 1 ≤ i → i ≤ n → recordOf (afterSlot lost missed t) i ≡ node.slotIn (recordOf t i .state) s (hd i) (counted (recordOf t i))
+    node-after : (i : ℕ) → 1 ≤ i → i ≤ n → recordOf (tableAfterSlot lost missed t) i ≡ node.slotIn (recordOf t i .state) s (hd i) (counted (recordOf t i))
     unfolding node.afterSlot
     node-after i h l =
         after-slot-record lost missed t i h (omega (arith, inv .len))
@@ -245,7 +245,7 @@ module _ (W : World) where
             let z : recordOf t i .slots + 1 + n ≡ suc N = omega (arith, nv .slots-is) in
             ap (λ (x : ℕ). sender x (recordOf t i .slots + 1)) (nv .n-is) ∙ sym (sender-period n n-pos (recordOf t i .slots + 1) (omega arith)) ∙ ap (sender n) z
 
-    len-after : length (afterSlot lost missed t) ≡ n
+    len-after : length (tableAfterSlot lost missed t) ≡ n
     len-after = after-slot-length lost missed t ∙ inv .len
 
     listed-table : (onL : has L s ≡ true) → k + 1 ≤ size n (listOf after) → TableInv W (suc N) (listOf after) after
@@ -315,5 +315,5 @@ module _ (W : World) where
             both a b p q = rw (p, q) refl
 
     -- a slot keeps the invariant
-    pub slot-keeps : k + 1 ≤ size n (listOf (afterSlot lost missed t)) → (L′ : ℕ) × TableInv W (suc N) L′ (afterSlot lost missed t)
+    pub slot-keeps : k + 1 ≤ size n (listOf (tableAfterSlot lost missed t)) → (L′ : ℕ) × TableInv W (suc N) L′ (tableAfterSlot lost missed t)
     slot-keeps ends = by-cases (has L s) (λ p. (listOf after, listed-table p ends)) (λ p. (L, outside-table p))

@@ -12,7 +12,7 @@ use Rattle.node_record.specs.States.{isMember}
 use Rattle.node.specs.declared.Answer.{Answer}
 use Rattle.node.specs.declared.Answer.the-variants.{Done, Refused}
 use Rattle.node.specs.Calls.{noNode}
-use Rattle.bench.specs.Table.{Table, recordOf, ringOf}
+use Rattle.bench.specs.Table.{Table, recordOf, nodeCount}
 use Rattle.bench.specs.Calls.{setUpOf, slotOf, lookOf, farthest, greatest}
 use Rattle.bench.specs.Outcomes.{slotOutcome, endedOf}
 use Rattle.bench.specs.Runs.{Call, slot, off, restart, callOf, tableAfter, isDone, isSlot}
@@ -74,16 +74,16 @@ also-each P Q h (c ∷ cs) a = (also-each P Q h cs (a .0), h c cs (a .1))
 
 module _ (n k : ℕ) (pos : 1 ≤ n) (start : Table) (begins : Placed n k 0 start) where
   -- as the bench's call works it out
-  told-zero : (cs : List Call) → Agree n start cs → greatest (ringOf (tableAfter start cs)) (tableAfter start cs) ≡ 0
+  told-zero : (cs : List Call) → Agree n k start cs → greatest (nodeCount (tableAfter start cs)) (tableAfter start cs) ≡ 0
   told-zero cs h =
-      let l : ringOf (tableAfter start cs) ≡ n = run-length n k pos start begins cs in
+      let l : nodeCount (tableAfter start cs) ≡ n = run-length n k pos start begins cs in
       ap (λ (m : ℕ). greatest m (tableAfter start cs)) l ∙ nothing-apart n (tableAfter start cs) l h
 
-  look-tells : (cs : List Call) → Agree n start cs → LookTells start cs
+  look-tells : (cs : List Call) → Agree n k start cs → LookTells n k start cs
   unfolding endedOf lookOf
   look-tells cs h lost room = rw (never-unsound n k pos start begins cs) (told-zero cs h)
 
-  slot-tells : (c : Call) (cs : List Call) → Agree n start (c ∷ cs) → SlotTells start c cs
+  slot-tells : (c : Call) (cs : List Call) → Agree n k start (c ∷ cs) → SlotTells n k start c cs
   unfolding endedOf tableAfter callOf isSlot
   slot-tells (slot lost missed room) cs h = go (slotOf lost missed room (tableAfter start cs) .answer)
     where
@@ -109,5 +109,5 @@ distance-throughout n k three most two fewer lent one-each cs p = record {
     pos : 1 ≤ n
     pos = omega arith
 
-    agree : AfterEach (Agree n first) cs
+    agree : AfterEach (Agree n k first) cs
     agree = demand3 n k three most two fewer lent one-each cs p .agree

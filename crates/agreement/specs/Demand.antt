@@ -16,7 +16,8 @@ use Rattle.node_record.specs.States.{isMember, isOut}
 use Rattle.node_steps.specs.Steps.{isFound}
 use Rattle.bench.specs.Table.{Table, recordOf, slotsOf, speaker}
 use Rattle.bench.specs.Calls.{transmits, setUpOf}
-use Rattle.bench.specs.Runs.{Call, slot, off, restart, tableAfter, isSlot, listOf, entry}
+use Rattle.bench.specs.Runs as runs
+use Rattle.bench.specs.Runs.{Call, slot, off, restart, isSlot, listOf, Entry}
 
 -- ---- over a whole sequence
 
@@ -29,13 +30,7 @@ AtEach P (c ∷ cs) = AtEach P cs × P c cs
 abbrev pub AfterEach : (List Call → Type 0) → List Call → Type 0
 AfterEach P cs = P [] × AtEach (λ c before. P (c ∷ before)) cs
 
--- ---- the premises
-
--- "It keeps k + 1 members if there is such a node and its set holds that many as each slot begins and as it ends." (Where there is none the list is empty.)
-unfoldable pub KeepsList : ℕ → ℕ → Table → Call → List Call → Type 0
-KeepsList n k start c cs =
-    isSlot c (tableAfter start cs) ≡ true
-    → (k + 1 ≤ size n (listOf (tableAfter start cs))) × (k + 1 ≤ size n (listOf (tableAfter start (c ∷ cs))))
+-- ---- of a table
 
 -- ""Hears everything" binds a returning node from each restart until its own record is in the member state or out .. and lost messages do not count against it":
 -- nobody who is listening, following or knocking is named where a message is sent and not lost. "A sender .. is unaffected by being named."
@@ -46,20 +41,6 @@ AllHear n (slot lost missed room) t =
     → (isMember (recordOf t i .state) || isOut (recordOf t i .state)) ≡ true
 AllHear n (off a) t = Unit {0}
 AllHear n (restart a) t = Unit {0}
-
-unfoldable pub HearEverything : ℕ → Table → Call → List Call → Type 0
-HearEverything n start c cs = isSlot c (tableAfter start cs) ≡ true → AllHear n c (tableAfter start cs)
-
--- "Any n slots in a row" are the slots a + 1 to a + n, for each a: "all the slots where fewer than n have run", since in a slot that did not run nothing fails.
-pub record Premises (n k : ℕ) (start : Table) (cs : List Call) : Type 0 where
-  -- at most k - 1 failures in any n slots in a row
-  pub few-failures : (a : ℕ) → sum (λ u. entry start cs u .failures) (suc a) n ≤ k - 1
-  -- at most one transmission from outside the list in any n slots in a row
-  pub one-outside : (a : ℕ) → sum (λ u. num (entry start cs u .outside)) (suc a) n ≤ 1
-  pub list-kept : AtEach (KeepsList n k start) cs
-  pub all-heard : AtEach (HearEverything n start) cs
-
--- ---- the deciding slot
 
 -- The node whose slot comes just after that of node x.
 unfoldable pub next : ℕ → ℕ → ℕ
@@ -77,26 +58,6 @@ onwards (suc left) n set x j =
 abbrev pub memberAfter : ℕ → ℕ → ℕ → ℕ → Found
 memberAfter n set x k = onwards n n set x k
 
--- Is the call c, made after the calls cs, a slot after slot s "whose sender is the k-th member after that node, round the ring, on the list as that slot
--- begins"? That node is the sender of s.
-unfoldable pub isDeciding : ℕ → ℕ → Table → ℕ → Call → List Call → Bool
-isDeciding n k start s c cs =
-    isSlot c (tableAfter start cs)
-    && (leb s (slotsOf (tableAfter start cs))
-    && isFound (speaker (tableAfter start cs)) (memberAfter n (listOf (tableAfter start cs)) (sender n s) k))
-
--- "Its deciding slot is the first" such: has it been?
-unfoldable pub decidingRan : ℕ → ℕ → Table → ℕ → List Call → Bool
-decidingRan n k start s [] = false
-decidingRan n k start s (c ∷ cs) = decidingRan n k start s cs || isDeciding n k start s c cs
-
--- ---- the claims
-
--- "A listed node's lost or silent slot s": slot s has run, its sender was on the list, and no message was sent and not lost.
-abbrev pub LostOrSilent : Table → ℕ → List Call → Type 0
-LostOrSilent start s cs =
-    (1 ≤ s) × (s ≤ slotsOf (tableAfter start cs)) × (entry start cs s .listed ≡ true) × (entry start cs s .sent ≡ false)
-
 abbrev pub MemberAt : ℕ → Table → ℕ → Type 0
 MemberAt n t i = (1 ≤ i) × (i ≤ n) × (isMember (recordOf t i .state) ≡ true)
 
@@ -107,34 +68,84 @@ OnAll n t x = (i : ℕ) → MemberAt n t i → has (recordOf t i .set) x ≡ tru
 abbrev pub OffAll : ℕ → Table → ℕ → Type 0
 OffAll n t x = (i : ℕ) → MemberAt n t i → has (recordOf t i .set) x ≡ false
 
--- All lists of member-state nodes are equal: the distance of any two is zero.
-abbrev pub Agree : ℕ → Table → List Call → Type 0
-Agree n start cs =
-    (i j : ℕ) → MemberAt n (tableAfter start cs) i → MemberAt n (tableAfter start cs) j
-    → distance n (recordOf (tableAfter start cs) i .set) (recordOf (tableAfter start cs) j .set) ≡ 0
+-- ---- of the calls from a start
 
--- "Until the deciding slot ends, or the calls do, the node is on all those lists": while the deciding slot has not been.
-abbrev pub Stays : ℕ → ℕ → Table → List Call → Type 0
-Stays n k start cs =
-    (s : ℕ) → LostOrSilent start s cs → decidingRan n k start s cs ≡ false → OnAll n (tableAfter start cs) (sender n s)
+module _ (n k : ℕ) (start : Table) where
+  -- The table after the calls, and what slot u was among them.
+  abbrev tableAfter : List Call → Table
+  tableAfter cs = runs.tableAfter start cs
 
--- "At the end of it, off them all": the call c is the deciding slot, and there was none among the calls cs before it.
-abbrev pub Leaves : ℕ → ℕ → Table → Call → List Call → Type 0
-Leaves n k start c cs =
-    (s : ℕ) → LostOrSilent start s cs → decidingRan n k start s cs ≡ false → isDeciding n k start s c cs ≡ true
-    → OffAll n (tableAfter start (c ∷ cs)) (sender n s)
+  abbrev entry : List Call → ℕ → Entry
+  entry cs u = runs.entry start cs u
 
--- "If n - 1 slots ran after s, it is one of them."
-abbrev pub InTime : ℕ → ℕ → Table → List Call → Type 0
-InTime n k start cs =
-    (s : ℕ) → LostOrSilent start s cs → s + (n - 1) ≤ slotsOf (tableAfter start cs) → decidingRan n k start s cs ≡ true
+  -- ---- the premises
 
--- "This is a single claim about the whole sequence of calls, not one for each call."
-pub record Claims (n k : ℕ) (start : Table) (cs : List Call) : Type 0 where
-  pub agree : AfterEach (Agree n start) cs
-  pub stays : AfterEach (Stays n k start) cs
-  pub leaves : AtEach (Leaves n k start) cs
-  pub in-time : AfterEach (InTime n k start) cs
+  -- "It keeps k + 1 members if there is such a node and its set holds that many as each slot begins and as it ends." (Where there is none the list is empty.)
+  unfoldable pub KeepsList : Call → List Call → Type 0
+  KeepsList c cs =
+      isSlot c (tableAfter cs) ≡ true
+      → (k + 1 ≤ size n (listOf (tableAfter cs))) × (k + 1 ≤ size n (listOf (tableAfter (c ∷ cs))))
+
+  -- "Hears everything", in each slot.
+  unfoldable pub HearEverything : Call → List Call → Type 0
+  HearEverything c cs = isSlot c (tableAfter cs) ≡ true → AllHear n c (tableAfter cs)
+
+  -- "Any n slots in a row" are the slots a + 1 to a + n, for each a: "all the slots where fewer than n have run", since in a slot that did not run nothing fails.
+  pub record Premises (cs : List Call) : Type 0 where
+    -- at most k - 1 failures in any n slots in a row
+    pub few-failures : (a : ℕ) → sum (λ u. entry cs u .failures) (suc a) n ≤ k - 1
+    -- at most one transmission from outside the list in any n slots in a row
+    pub one-outside : (a : ℕ) → sum (λ u. num (entry cs u .outside)) (suc a) n ≤ 1
+    pub list-kept : AtEach KeepsList cs
+    pub all-heard : AtEach HearEverything cs
+
+  -- ---- the deciding slot
+
+  -- Is the call c, made after the calls cs, a slot after slot s "whose sender is the k-th member after that node, round the ring, on the list as that slot
+  -- begins"? That node is the sender of s.
+  unfoldable pub isDeciding : ℕ → Call → List Call → Bool
+  isDeciding s c cs =
+      isSlot c (tableAfter cs)
+      && (leb s (slotsOf (tableAfter cs))
+      && isFound (speaker (tableAfter cs)) (memberAfter n (listOf (tableAfter cs)) (sender n s) k))
+
+  -- "Its deciding slot is the first" such: has it been?
+  unfoldable pub decidingRan : ℕ → List Call → Bool
+  decidingRan s [] = false
+  decidingRan s (c ∷ cs) = decidingRan s cs || isDeciding s c cs
+
+  -- ---- the claims
+
+  -- "A listed node's lost or silent slot s": slot s has run, its sender was on the list, and no message was sent and not lost.
+  abbrev pub LostOrSilent : ℕ → List Call → Type 0
+  LostOrSilent s cs = (1 ≤ s) × (s ≤ slotsOf (tableAfter cs)) × (entry cs s .listed ≡ true) × (entry cs s .sent ≡ false)
+
+  -- All lists of member-state nodes are equal: the distance of any two is zero.
+  abbrev pub Agree : List Call → Type 0
+  Agree cs =
+      (i j : ℕ) → MemberAt n (tableAfter cs) i → MemberAt n (tableAfter cs) j
+      → distance n (recordOf (tableAfter cs) i .set) (recordOf (tableAfter cs) j .set) ≡ 0
+
+  -- "Until the deciding slot ends, or the calls do, the node is on all those lists": while the deciding slot has not been.
+  abbrev pub Stays : List Call → Type 0
+  Stays cs = (s : ℕ) → LostOrSilent s cs → decidingRan s cs ≡ false → OnAll n (tableAfter cs) (sender n s)
+
+  -- "At the end of it, off them all": the call c is the deciding slot, and there was none among the calls cs before it.
+  abbrev pub Leaves : Call → List Call → Type 0
+  Leaves c cs =
+      (s : ℕ) → LostOrSilent s cs → decidingRan s cs ≡ false → isDeciding s c cs ≡ true
+      → OffAll n (tableAfter (c ∷ cs)) (sender n s)
+
+  -- "If n - 1 slots ran after s, it is one of them."
+  abbrev pub InTime : List Call → Type 0
+  InTime cs = (s : ℕ) → LostOrSilent s cs → s + (n - 1) ≤ slotsOf (tableAfter cs) → decidingRan s cs ≡ true
+
+  -- "This is a single claim about the whole sequence of calls, not one for each call."
+  pub record Claims (cs : List Call) : Type 0 where
+    pub agree : AfterEach Agree cs
+    pub stays : AfterEach Stays cs
+    pub leaves : AtEach Leaves cs
+    pub in-time : AfterEach InTime cs
 
 -- ---- demand 3
 

@@ -17,22 +17,23 @@ NoDistance (outcome.Slot number sender fate list distance) = distance ≡ 0
 NoDistance outcome.Quiet = ⊥
 NoDistance (outcome.Refused cause) = ⊥
 
--- A look after the calls so far, whatever it is asked and however many bytes are lent, tells so.
-abbrev pub LookTells : Table → List Call → Type 0
-LookTells start cs = (lost : Bool) (room : ℕ) → NoDistance (endedOf (command.Look lost) room (tableAfter start cs) .reply .outcome)
+module _ (n k : ℕ) (start : Table) where
+  -- A look after the calls so far, whatever it is asked and however many bytes are lent, tells so.
+  abbrev pub LookTells : List Call → Type 0
+  LookTells cs = (lost : Bool) (room : ℕ) → NoDistance (endedOf (command.Look lost) room (tableAfter start cs) .reply .outcome)
 
--- So does the call c, made after the calls cs, if it is a slot that runs.
-abbrev pub SlotTells : Table → Call → List Call → Type 0
-SlotTells start (slot lost missed room) cs =
-    isSlot (slot lost missed room) (tableAfter start cs) ≡ true
-    → NoDistance (endedOf (command.Slot lost missed) room (tableAfter start cs) .reply .outcome)
-SlotTells start (off a) cs = Unit {0}
-SlotTells start (restart a) cs = Unit {0}
+  -- So does the call c, made after the calls cs, if it is a slot that runs.
+  abbrev pub SlotTells : Call → List Call → Type 0
+  SlotTells (slot lost missed room) cs =
+      isSlot (slot lost missed room) (tableAfter start cs) ≡ true
+      → NoDistance (endedOf (command.Slot lost missed) room (tableAfter start cs) .reply .outcome)
+  SlotTells (off a) cs = Unit {0}
+  SlotTells (restart a) cs = Unit {0}
 
-pub record Told (n k : ℕ) (start : Table) (cs : List Call) : Type 0 where
-  pub looks : AfterEach (LookTells start) cs
-  pub slots : AtEach (SlotTells start) cs
+  pub record CallsTell (cs : List Call) : Type 0 where
+    pub looks : AfterEach LookTells cs
+    pub slots : AtEach SlotTells cs
 
 -- Over every sequence of calls that keeps the premises of demand 3.
 abbrev pub NoDistanceTold : Type 0
-NoDistanceTold = EverySequence Premises Told
+NoDistanceTold = EverySequence Premises CallsTell

@@ -11,8 +11,8 @@ use Rattle.nodeset.specs.Sets.{within}
 use Rattle.ring.specs.Ring.{ringSize, sponsorCount, nodeNumber}
 use Rattle.node_record.specs.States.{isOut}
 use Rattle.node_record.specs.Soundness.{limit}
-use Rattle.bench.specs.Table.{Table, recordOf, tableSound, ringOf, slotsOf}
-use Rattle.bench.specs.Calls.{Called, done, ifPassed, startTable, setUpOf, afterSlot, slotOf, afterOff, offOf, afterRestart, restartOf}
+use Rattle.bench.specs.Table.{Table, recordOf, tableSound, nodeCount, slotsOf}
+use Rattle.bench.specs.Calls.{Called, done, ifPassed, startTable, setUpOf, tableAfterSlot, slotOf, tableAfterOff, offOf, tableAfterRestart, restartOf}
 use Rattle.bench.specs.Runs.{slot, off, restart, callOf, isDone, isSlot}
 
 -- ---- tests in a row
@@ -57,24 +57,24 @@ start-is n k t p q e =
 
 -- no test but that of the table itself fails
 abbrev pub slotRuns : ℕ → ℕ → Table → Bool
-slotRuns missed room t = within (ringOf t) missed && (ltb (slotsOf t) limit && leb 64 room)
+slotRuns missed room t = within (nodeCount t) missed && (ltb (slotsOf t) limit && leb 64 room)
 
 module _ (lost : Bool) (missed room : ℕ) (t : Table) where
   abbrev long : Called
-  long = ifPassed (leb 64 room) OutputShort t (done (afterSlot lost missed t))
+  long = ifPassed (leb 64 room) OutputShort t (done (tableAfterSlot lost missed t))
 
   abbrev few : Called
   few = ifPassed (ltb (slotsOf t) limit) SlotLimit t long
 
   abbrev named : Called
-  named = ifPassed (within (ringOf t) missed) NodeNumber t few
+  named = ifPassed (within (nodeCount t) missed) NodeNumber t few
 
-  slot-leaves : Leaves t (afterSlot lost missed t) (slotOf lost missed room t)
+  slot-leaves : Leaves t (tableAfterSlot lost missed t) (slotOf lost missed room t)
   unfolding slotOf
   slot-leaves =
-      let x : Table = afterSlot lost missed t in
+      let x : Table = tableAfterSlot lost missed t in
       leaves-if (tableSound t) Unsound t x named
-      (leaves-if (within (ringOf t) missed) NodeNumber t x few
+      (leaves-if (within (nodeCount t) missed) NodeNumber t x few
       (leaves-if (ltb (slotsOf t) limit) SlotLimit t x long
       (leaves-if (leb 64 room) OutputShort t x (done x) (leaves-done t x))))
 
@@ -82,11 +82,11 @@ module _ (lost : Bool) (missed room : ℕ) (t : Table) where
   unfolding isSlot slotOf
   is-slot e =
       done-past (tableSound t) Unsound t named e
-      ∙ done-if (within (ringOf t) missed) NodeNumber t few
-      ∙ ap (λ (b : Bool). within (ringOf t) missed && b)
-      (done-if (ltb (slotsOf t) limit) SlotLimit t long ∙ ap (λ (b : Bool). ltb (slotsOf t) limit && b) (done-only (leb 64 room) OutputShort t (afterSlot lost missed t)))
+      ∙ done-if (within (nodeCount t) missed) NodeNumber t few
+      ∙ ap (λ (b : Bool). within (nodeCount t) missed && b)
+      (done-if (ltb (slotsOf t) limit) SlotLimit t long ∙ ap (λ (b : Bool). ltb (slotsOf t) limit && b) (done-only (leb 64 room) OutputShort t (tableAfterSlot lost missed t)))
 
-  pub slot-done : isSlot (slot lost missed room) t ≡ true → callOf (slot lost missed room) t .table ≡ afterSlot lost missed t
+  pub slot-done : isSlot (slot lost missed room) t ≡ true → callOf (slot lost missed room) t .table ≡ tableAfterSlot lost missed t
   unfolding isSlot callOf
   slot-done e = slot-leaves .where-done e
 
@@ -98,45 +98,45 @@ module _ (lost : Bool) (missed room : ℕ) (t : Table) where
 
 -- the node is one of the ring, and out
 abbrev pub restarts : ℕ → Table → Bool
-restarts a t = nodeNumber (ringOf t) a && isOut (recordOf t a .state)
+restarts a t = nodeNumber (nodeCount t) a && isOut (recordOf t a .state)
 
 module _ (a : ℕ) (t : Table) (in-order : tableSound t ≡ true) where
-  off-leaves : Leaves t (afterOff a t) (offOf a t)
+  off-leaves : Leaves t (tableAfterOff a t) (offOf a t)
   unfolding offOf
   off-leaves =
-      let x : Table = afterOff a t in
-      leaves-if (tableSound t) Unsound t x (ifPassed (nodeNumber (ringOf t) a) NodeNumber t (done x)) (leaves-if (nodeNumber (ringOf t) a) NodeNumber t x (done x) (leaves-done t x))
+      let x : Table = tableAfterOff a t in
+      leaves-if (tableSound t) Unsound t x (ifPassed (nodeNumber (nodeCount t) a) NodeNumber t (done x)) (leaves-if (nodeNumber (nodeCount t) a) NodeNumber t x (done x) (leaves-done t x))
 
-  is-off : isDone (offOf a t .answer) ≡ nodeNumber (ringOf t) a
+  is-off : isDone (offOf a t .answer) ≡ nodeNumber (nodeCount t) a
   unfolding offOf
-  is-off = done-past (tableSound t) Unsound t (ifPassed (nodeNumber (ringOf t) a) NodeNumber t (done (afterOff a t))) in-order ∙ done-only (nodeNumber (ringOf t) a) NodeNumber t (afterOff a t)
+  is-off = done-past (tableSound t) Unsound t (ifPassed (nodeNumber (nodeCount t) a) NodeNumber t (done (tableAfterOff a t))) in-order ∙ done-only (nodeNumber (nodeCount t) a) NodeNumber t (tableAfterOff a t)
 
-  pub off-done : nodeNumber (ringOf t) a ≡ true → callOf (off a) t .table ≡ afterOff a t
+  pub off-done : nodeNumber (nodeCount t) a ≡ true → callOf (off a) t .table ≡ tableAfterOff a t
   unfolding callOf
   off-done e = off-leaves .where-done (is-off ∙ e)
 
-  pub off-refused : nodeNumber (ringOf t) a ≡ false → callOf (off a) t .table ≡ t
+  pub off-refused : nodeNumber (nodeCount t) a ≡ false → callOf (off a) t .table ≡ t
   unfolding callOf
   off-refused e = off-leaves .where-refused (is-off ∙ e)
 
   abbrev out : Called
-  out = ifPassed (isOut (recordOf t a .state)) NotOut t (done (afterRestart a t))
+  out = ifPassed (isOut (recordOf t a .state)) NotOut t (done (tableAfterRestart a t))
 
-  restart-leaves : Leaves t (afterRestart a t) (restartOf a t)
+  restart-leaves : Leaves t (tableAfterRestart a t) (restartOf a t)
   unfolding restartOf
   restart-leaves =
-      let x : Table = afterRestart a t in
-      leaves-if (tableSound t) Unsound t x (ifPassed (nodeNumber (ringOf t) a) NodeNumber t out)
-      (leaves-if (nodeNumber (ringOf t) a) NodeNumber t x out (leaves-if (isOut (recordOf t a .state)) NotOut t x (done x) (leaves-done t x)))
+      let x : Table = tableAfterRestart a t in
+      leaves-if (tableSound t) Unsound t x (ifPassed (nodeNumber (nodeCount t) a) NodeNumber t out)
+      (leaves-if (nodeNumber (nodeCount t) a) NodeNumber t x out (leaves-if (isOut (recordOf t a .state)) NotOut t x (done x) (leaves-done t x)))
 
   is-restart : isDone (restartOf a t .answer) ≡ restarts a t
   unfolding restartOf
   is-restart =
-      done-past (tableSound t) Unsound t (ifPassed (nodeNumber (ringOf t) a) NodeNumber t out) in-order
-      ∙ done-if (nodeNumber (ringOf t) a) NodeNumber t out
-      ∙ ap (λ (b : Bool). nodeNumber (ringOf t) a && b) (done-only (isOut (recordOf t a .state)) NotOut t (afterRestart a t))
+      done-past (tableSound t) Unsound t (ifPassed (nodeNumber (nodeCount t) a) NodeNumber t out) in-order
+      ∙ done-if (nodeNumber (nodeCount t) a) NodeNumber t out
+      ∙ ap (λ (b : Bool). nodeNumber (nodeCount t) a && b) (done-only (isOut (recordOf t a .state)) NotOut t (tableAfterRestart a t))
 
-  pub restart-done : restarts a t ≡ true → callOf (restart a) t .table ≡ afterRestart a t
+  pub restart-done : restarts a t ≡ true → callOf (restart a) t .table ≡ tableAfterRestart a t
   unfolding callOf
   restart-done e = restart-leaves .where-done (is-restart ∙ e)
 

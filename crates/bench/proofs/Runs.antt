@@ -18,10 +18,10 @@ use Rattle.node_record.specs.declared.Node.{Node}
 use Rattle.node_record.specs.Soundness.{limit, sound}
 use Rattle.node_changes.specs.Changes.{starting}
 use Rattle.node_changes.proofs.Sound.{starting-sound}
-use Rattle.node.specs.Calls.{stepOf, offOf, restartOf}
+use Rattle.node.specs.Calls as node
 use Rattle.node.proofs.Sound.{step-sound, off-sound, restart-sound}
-use Rattle.bench.specs.Table.{Table, recordOf, each, tableSound, ringOf, slotsOf, speaker}
-use Rattle.bench.specs.Calls.{startTable, setUpOf, unheard, spoken, heardBy, afterSlot, afterOff, afterRestart}
+use Rattle.bench.specs.Table.{Table, recordOf, each, tableSound, nodeCount, slotsOf, speaker}
+use Rattle.bench.specs.Calls.{startTable, setUpOf, unheard, spoken, heardBy, tableAfterSlot, tableAfterOff, tableAfterRestart}
 use Rattle.bench.specs.Runs.{Call, slot, off, restart, callOf, tableAfter, isSlot}
 use Rattle.bench.proofs.Choices.{choose}
 use Rattle.bench.proofs.Places.{length-each, record-each, InPlace, Placed, placed-sound, slots-of-placed}
@@ -35,20 +35,20 @@ pub heard-unless : (lost : Bool) (missed : ℕ) (t : Table) (i : ℕ) → heardB
 unfolding heardBy
 heard-unless lost missed t i = refl
 
-pub after-slot-length : (lost : Bool) (missed : ℕ) (t : Table) → length (afterSlot lost missed t) ≡ length t
-unfolding afterSlot
-after-slot-length lost missed t = length-each (λ i v. stepOf (heardBy lost missed t i) v .node) t
-
 pub after-slot-record : (lost : Bool) (missed : ℕ) (t : Table) (i : ℕ) → 1 ≤ i → i ≤ length t
-    → recordOf (afterSlot lost missed t) i ≡ stepOf (heardBy lost missed t i) (recordOf t i) .node
-unfolding afterSlot
-after-slot-record lost missed t i h l = record-each (λ i v. stepOf (heardBy lost missed t i) v .node) t i h l
+    → recordOf (tableAfterSlot lost missed t) i ≡ node.stepOf (heardBy lost missed t i) (recordOf t i) .node
+unfolding tableAfterSlot
+after-slot-record lost missed t i h l = record-each (λ i v. node.stepOf (heardBy lost missed t i) v .node) t i h l
 
-pub after-off-record : (a : ℕ) (t : Table) (i : ℕ) → 1 ≤ i → i ≤ length t → recordOf (afterOff a t) i ≡ cond (eqb i a) (offOf (recordOf t i) .node) (recordOf t i)
-after-off-record a t i h l = record-each (λ i v. cond (eqb i a) (offOf v .node) v) t i h l
+pub after-slot-length : (lost : Bool) (missed : ℕ) (t : Table) → length (tableAfterSlot lost missed t) ≡ length t
+unfolding tableAfterSlot
+after-slot-length lost missed t = length-each (λ i v. node.stepOf (heardBy lost missed t i) v .node) t
 
-pub after-restart-record : (a : ℕ) (t : Table) (i : ℕ) → 1 ≤ i → i ≤ length t → recordOf (afterRestart a t) i ≡ cond (eqb i a) (restartOf (recordOf t i) .node) (recordOf t i)
-after-restart-record a t i h l = record-each (λ i v. cond (eqb i a) (restartOf v .node) v) t i h l
+pub after-off-record : (a : ℕ) (t : Table) (i : ℕ) → 1 ≤ i → i ≤ length t → recordOf (tableAfterOff a t) i ≡ cond (eqb i a) (node.offOf (recordOf t i) .node) (recordOf t i)
+after-off-record a t i h l = record-each (λ i v. cond (eqb i a) (node.offOf v .node) v) t i h l
+
+pub after-restart-record : (a : ℕ) (t : Table) (i : ℕ) → 1 ≤ i → i ≤ length t → recordOf (tableAfterRestart a t) i ≡ cond (eqb i a) (node.restartOf (recordOf t i) .node) (recordOf t i)
+after-restart-record a t i h l = record-each (λ i v. cond (eqb i a) (node.restartOf v .node) v) t i h l
 
 -- ---- each call keeps every record sound and in its place
 
@@ -73,17 +73,17 @@ module _ (n k slots : ℕ) (t : Table) (pos : 1 ≤ n) (P : Placed n k slots t) 
   unfolding speaker
   speaker-placed = ap (λ (m : ℕ). sender m (slotsOf t + 1)) (P .length-is) ∙ ap (λ (s : ℕ). sender n (s + 1)) slots-are
 
-  placed-slot : (lost : Bool) (missed : ℕ) → slots < limit → Placed n k (slots + 1) (afterSlot lost missed t)
+  placed-slot : (lost : Bool) (missed : ℕ) → slots < limit → Placed n k (slots + 1) (tableAfterSlot lost missed t)
   placed-slot lost missed l = record { length-is = after-slot-length lost missed t ∙ P .length-is; at = at }
     where
-      at : (i : ℕ) → 1 ≤ i → i ≤ n → InPlace n k (slots + 1) i (recordOf (afterSlot lost missed t) i)
+      at : (i : ℕ) → 1 ≤ i → i ≤ n → InPlace n k (slots + 1) i (recordOf (tableAfterSlot lost missed t) i)
       at i h m = rw (after-slot-record lost missed t i h (omega (arith, P .length-is))) (go (recordOf t i) (P .at i h m) (heardBy lost missed t i))
         where
-          go : (v : Node) → InPlace n k slots i v → (r : Reading) → InPlace n k (slots + 1) i (stepOf r v .node)
+          go : (v : Node) → InPlace n k slots i v → (r : Reading) → InPlace n k (slots + 1) i (node.stepOf r v .node)
           go v p r =
-              let q : Numbers (v .n) (v .k) (v .own) (v .slots + 1) (stepOf r v .node) = step-numbers r v (p .is-sound) (omega (arith, p .slots-is)) in
+              let q : Numbers (v .n) (v .k) (v .own) (v .slots + 1) (node.stepOf r v .node) = step-numbers r v (p .is-sound) (omega (arith, p .slots-is)) in
               let z : v .slots + 1 ≡ slots + 1 = omega (arith, p .slots-is) in
-              in-place-by n k slots (slots + 1) i v (stepOf r v .node) p (step-sound r v (p .is-sound)) (record { n-is = q .n-is; k-is = q .k-is; own-is = q .own-is; slots-is = q .slots-is ∙ z })
+              in-place-by n k slots (slots + 1) i v (node.stepOf r v .node) p (step-sound r v (p .is-sound)) (record { n-is = q .n-is; k-is = q .k-is; own-is = q .own-is; slots-is = q .slots-is ∙ z })
 
   -- one record is made anew, and counts no slot
   placed-one : (a : ℕ) (f : Node → Node) → ((v : Node) → sound v ≡ true → sound (f v) ≡ true) → ((v : Node) → Numbers (v .n) (v .k) (v .own) (v .slots) (f v))
@@ -103,7 +103,7 @@ module _ (n k slots : ℕ) (t : Table) (pos : 1 ≤ n) (P : Placed n k slots t) 
   pub below-limit : (lost : Bool) (missed room : ℕ) → isSlot (slot lost missed room) t ≡ true → slots < limit
   below-limit lost missed room e =
       let r : slotRuns missed room t ≡ true = sym (is-slot lost missed room t in-order) ∙ e in
-      let b : ltb (slotsOf t) limit ≡ true = both (ltb (slotsOf t) limit) (leb 64 room) (both (within (ringOf t) missed) (ltb (slotsOf t) limit && leb 64 room) r .1) .0 in
+      let b : ltb (slotsOf t) limit ≡ true = both (ltb (slotsOf t) limit) (leb 64 room) (both (within (nodeCount t) missed) (ltb (slotsOf t) limit && leb 64 room) r .1) .0 in
       omega (arith, ltb-true (slotsOf t) limit b, slots-are)
 
   pub placed-call : (c : Call) → Placed n k (slots + num (isSlot c t)) (callOf c t .table)
@@ -112,12 +112,12 @@ module _ (n k slots : ℕ) (t : Table) (pos : 1 ≤ n) (P : Placed n k slots t) 
       (λ e. rw (e, slot-done lost missed room t e) (placed-slot lost missed (below-limit lost missed room e)))
       (λ e. rw (e, slot-refused lost missed room t e, add-zero slots) P)
   placed-call (off a) =
-      rw (off-no-slot a t, add-zero slots) (by-cases (nodeNumber (ringOf t) a)
-      (λ e. rw (off-done a t in-order e) (placed-one a (λ v. offOf v .node) off-sound off-same))
+      rw (off-no-slot a t, add-zero slots) (by-cases (nodeNumber (nodeCount t) a)
+      (λ e. rw (off-done a t in-order e) (placed-one a (λ v. node.offOf v .node) off-sound off-same))
       (λ e. rw (off-refused a t in-order e) P))
   placed-call (restart a) =
       rw (restart-no-slot a t, add-zero slots) (by-cases (restarts a t)
-      (λ e. rw (restart-done a t in-order e) (placed-one a (λ v. restartOf v .node) restart-sound restart-same))
+      (λ e. rw (restart-done a t in-order e) (placed-one a (λ v. node.restartOf v .node) restart-sound restart-same))
       (λ e. rw (restart-refused a t in-order e) P))
 
 -- ---- the common start
