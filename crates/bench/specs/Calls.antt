@@ -23,7 +23,7 @@ use Rattle.bench.specs.declared.Listed.{Listed}
 use Rattle.bench.specs.declared.Listed.the-variants as listed
 use Rattle.bench.specs.declared.Fate.{Fate}
 use Rattle.bench.specs.declared.Fate.the-variants as fate
-use Rattle.bench.specs.Table.{Table, recordOf, each, tableSound, ringOf, slotsOf, speaker}
+use Rattle.bench.specs.Table.{Table, recordOf, each, tableSound, nodeCount, slotsOf, speaker}
 
 -- The table after a call, and what is answered.
 pub record Called : Type 0 where
@@ -72,37 +72,37 @@ unfoldable pub heardBy : Bool → ℕ → Table → ℕ → Reading
 heardBy lost missed t i = cond (lost || has missed i) unheard (spoken t)
 
 -- Each record goes through the slot of the node call `step`.
-unfoldable pub afterSlot : Bool → ℕ → Table → Table
-afterSlot lost missed t = each (λ i v. node.stepOf (heardBy lost missed t i) v .node) t
+unfoldable pub tableAfterSlot : Bool → ℕ → Table → Table
+tableAfterSlot lost missed t = each (λ i v. node.stepOf (heardBy lost missed t i) v .node) t
 
 -- "A lent buffer of at least 64 bytes".
 unfoldable pub slotOf : Bool → ℕ → ℕ → Table → Called
 slotOf lost missed room t =
     ifPassed (tableSound t) (cause 4) t
-    (ifPassed (within (ringOf t) missed) (cause 3) t
+    (ifPassed (within (nodeCount t) missed) (cause 3) t
     (ifPassed (ltb (slotsOf t) limit) (cause 5) t
     (ifPassed (leb 64 room) (cause 9) t
-    (done (afterSlot lost missed t)))))
+    (done (tableAfterSlot lost missed t)))))
 
 -- ---- off: 4 and 3
 
-abbrev pub afterOff : ℕ → Table → Table
-afterOff a t = each (λ i v. cond (eqb i a) (node.offOf v .node) v) t
+abbrev pub tableAfterOff : ℕ → Table → Table
+tableAfterOff a t = each (λ i v. cond (eqb i a) (node.offOf v .node) v) t
 
 unfoldable pub offOf : ℕ → Table → Called
-offOf a t = ifPassed (tableSound t) (cause 4) t (ifPassed (nodeNumber (ringOf t) a) (cause 3) t (done (afterOff a t)))
+offOf a t = ifPassed (tableSound t) (cause 4) t (ifPassed (nodeNumber (nodeCount t) a) (cause 3) t (done (tableAfterOff a t)))
 
 -- ---- restart: 4, 3 and 11
 
-abbrev pub afterRestart : ℕ → Table → Table
-afterRestart a t = each (λ i v. cond (eqb i a) (node.restartOf v .node) v) t
+abbrev pub tableAfterRestart : ℕ → Table → Table
+tableAfterRestart a t = each (λ i v. cond (eqb i a) (node.restartOf v .node) v) t
 
 unfoldable pub restartOf : ℕ → Table → Called
 restartOf a t =
     ifPassed (tableSound t) (cause 4) t
-    (ifPassed (nodeNumber (ringOf t) a) (cause 3) t
+    (ifPassed (nodeNumber (nodeCount t) a) (cause 3) t
     (ifPassed (isOut (recordOf t a .state)) (cause 11) t
-    (done (afterRestart a t))))
+    (done (tableAfterRestart a t))))
 
 -- ---- a look: 4
 

@@ -11,7 +11,7 @@ use Rattle.bench.specs.declared.Command.the-variants as command
 use Rattle.bench.specs.declared.Outcome.{Outcome}
 use Rattle.bench.specs.declared.Outcome.the-variants as outcome
 use Rattle.bench.specs.declared.Reply.{Reply}
-use Rattle.bench.specs.Table.{Table, ringOf, slotsOf, speaker}
+use Rattle.bench.specs.Table.{Table, nodeCount, slotsOf, speaker}
 use Rattle.bench.specs.Calls.{Called, setUpOf, slotOf, offOf, restartOf, lookOf, listIn, greatest, fateOf}
 use Rattle.bench.specs.Pairs.{pairsTold, SlotBytes}
 
@@ -29,7 +29,7 @@ calledOf (command.Look lost) room t = lookOf t
 -- those of the table before the slot, the others those of the table after it.
 abbrev pub slotOutcome : Bool → Table → Table → Answer → Outcome
 slotOutcome lost before after answer.Done =
-    outcome.Slot (slotsOf after) (speaker before) (fateOf lost before) (listIn after) (greatest (ringOf after) after)
+    outcome.Slot (slotsOf after) (speaker before) (fateOf lost before) (listIn after) (greatest (nodeCount after) after)
 slotOutcome lost before after (answer.Refused cause) = outcome.Refused cause
 
 -- "`off a` and `on a` switch or restart a node, no slot": nothing is printed of them, and nothing of line one.

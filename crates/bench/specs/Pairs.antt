@@ -12,7 +12,7 @@ use Rattle.node_record.specs.declared.State.{State}
 use Rattle.node_record.specs.States.{isMember, isListening, isFollowing, isKnocking, isOut}
 use Rattle.node.specs.declared.Answer.{Answer}
 use Rattle.node.specs.declared.Answer.the-variants as answer
-use Rattle.bench.specs.Table.{Table, recordOf, ringOf}
+use Rattle.bench.specs.Table.{Table, recordOf, nodeCount}
 use Rattle.bench.specs.Calls.{Called}
 
 -- One of the states "member, listening, following, knocking, out" twice.
@@ -38,14 +38,14 @@ kindFrom a b =
 -- Node x, in a table before a slot and in the one after it: did its state change, and how?
 unfoldable pub isChanged : Table → Table → ℕ → Bool
 isChanged before after x =
-    nodeNumber (ringOf before) x && not (sameState (recordOf before x .state) (recordOf after x .state))
+    nodeNumber (nodeCount before) x && not (sameState (recordOf before x .state) (recordOf after x .state))
 
 unfoldable pub kindOf : Table → Table → ℕ → ℕ
 kindOf before after x = kindFrom (recordOf before x .state) (recordOf after x .state)
 
 -- How many nodes changed their states.
 unfoldable pub changeCount : Table → Table → ℕ
-changeCount before after = sum (λ x. num (isChanged before after x)) 1 (ringOf before)
+changeCount before after = sum (λ x. num (isChanged before after x)) 1 (nodeCount before)
 
 -- A pair, and the bytes of pairs.
 abbrev pub Pair : Type 0

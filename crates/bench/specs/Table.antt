@@ -41,12 +41,13 @@ tableSound (v ∷ t) = eqb (v .n) (suc (length t)) && placedFrom (v .n) (v .k) (
 
 -- ---- what a sound table says of the next slot
 
-abbrev pub ringOf : Table → ℕ
-ringOf t = length t
+-- n: "one per node".
+abbrev pub nodeCount : Table → ℕ
+nodeCount t = length t
 
 unfoldable pub slotsOf : Table → ℕ
 slotsOf t = recordOf t 1 .slots
 
 -- The next slot's sender.
 unfoldable pub speaker : Table → ℕ
-speaker t = sender (ringOf t) (slotsOf t + 1)
+speaker t = sender (nodeCount t) (slotsOf t + 1)

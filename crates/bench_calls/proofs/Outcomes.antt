@@ -35,12 +35,12 @@ use Rattle.bench_walks.specs.declared.Sight.{Sight}
 use Rattle.bench_walks.specs.declared.Notes.{Notes}
 use Rattle.bench_walks.specs.declared.Members.{Members}
 use Rattle.bench.specs.Table.{Table, recordOf, eachFrom, tableSound, slotsOf, speaker}
-use Rattle.bench.specs.Calls.{listIn, farthest, greatest, fateOf, transmits, afterSlot}
+use Rattle.bench.specs.Calls.{listIn, farthest, greatest, fateOf, transmits, tableAfterSlot}
 use Rattle.bench.specs.Runs.{slot, callOf, isSlot}
 use Rattle.bench.specs.Outcomes.{Ended, slotOutcome, quietOutcome, outcomeOf, endedBy, endedOf, BytesAfter}
-use Rattle.bench.proofs.agreement.Places.{Placed, sound-placed, placed-sound, slots-of-placed}
-use Rattle.bench.proofs.agreement.Accepted.{is-slot, slot-done}
-use Rattle.bench.proofs.agreement.Runs.{placed-call}
+use Rattle.bench.proofs.Places.{Placed, sound-placed, placed-sound, slots-of-placed}
+use Rattle.bench.proofs.Accepted.{is-slot, slot-done}
+use Rattle.bench.proofs.Runs.{placed-call}
 use Rattle.bench_walks.specs.Survey.{foldFrom, surveyOf, fineTable, noMembers, membersOf}
 use Rattle.bench_walks.specs.Orders.{ifGood, fateBy, turnOf, orderOf, orderFor, carried, carriedFrom, listWith, sameWith, sighted, noSight, noticed, noNotes, noticedFrom, notesOf, answerTo, reachOf, outcomeBy, replyBy, writtenBy}
 use Rattle.bench_walks.proofs.Partly.{take-least}
@@ -185,7 +185,7 @@ module _ (lost : Bool) (missed room : ℕ) (t : Table) (ok : tableSound t ≡ tr
   abbrev after : Table
   after = carriedFrom ran 0 t
 
-  table-is : after ≡ afterSlot lost missed t
+  table-is : after ≡ tableAfterSlot lost missed t
   table-is = slot-table lost missed t ok (ltb-true (slotsOf t) limit below)
 
   runs : isSlot (slot lost missed room) t ≡ true

@@ -37,10 +37,10 @@ use Rattle.bench_walks.specs.declared.Survey.{Survey}
 use Rattle.bench.specs.declared.Fate.{Fate}
 use Rattle.bench.specs.Table.{Table, eachFrom, placedFrom, tableSound, slotsOf, recordOf, speaker}
 use Rattle.bench.specs.Calls as bench
-use Rattle.bench.specs.Calls.{Called, done, ifPassed, setUpOf, startTable, offOf, afterOff, restartOf, afterRestart, slotOf, heardBy, spoken, transmits, unheard, lookOf}
+use Rattle.bench.specs.Calls.{Called, done, ifPassed, setUpOf, startTable, offOf, tableAfterOff, restartOf, tableAfterRestart, slotOf, heardBy, spoken, transmits, unheard, lookOf}
 use Rattle.bench.specs.Outcomes.{calledOf}
-use Rattle.bench.proofs.agreement.Places.{sound-placed}
-use Rattle.bench.proofs.agreement.Counted.{step-done}
+use Rattle.bench.proofs.Places.{sound-placed}
+use Rattle.bench.proofs.Counted.{step-done}
 use Rattle.bench_walks.specs.Survey.{surveyOf, fineTable}
 use Rattle.bench_walks.specs.Orders.{ifGood, saidBy, turnOf, orderFor, heardAt, stepAt, carried, fateBy, answerTo}
 use Rattle.bench_calls.proofs.Surveys.{Placed, placed, fine-table, Said, said}
@@ -112,7 +112,7 @@ off-called a room t =
     let s = said t ok in
     passes _ _ t _ (ap (λ (m : ℕ). nodeNumber m a) (s .n)) (λ h. ap done (tables (s .rows))))
   where
-    tables : placedFrom (length t) (recordOf t 1 .k) (slotsOf t) 1 t ≡ true → eachFrom (carried (order.Off a)) 0 t ≡ afterOff a t
+    tables : placedFrom (length t) (recordOf t 1 .k) (slotsOf t) 1 t ≡ true → eachFrom (carried (order.Off a)) 0 t ≡ tableAfterOff a t
     tables rows =
         by-record (recordOf t 1 .k) (slotsOf t) (carried (order.Off a)) (λ i v. cond (eqb i a) (node.offOf v .node) v) t rows
         (λ j v u p is. ap₂ (λ (i : ℕ) (w : Node). cond (eqb i a) w v) (p .own) (off-node v (p .good)))
@@ -136,7 +136,7 @@ restart-called a room t =
         ap (λ (w : Node). cond (eqb (suc j) a) w v) (restart-node v good (ap (λ (w : Node). isOut (w .state)) (is ∙ ap (recordOf t) z) ∙ out)))
         (λ e. rw e)
 
-    tables : placedFrom (length t) (recordOf t 1 .k) (slotsOf t) 1 t ≡ true → isOut (recordOf t a .state) ≡ true → eachFrom (carried (order.Restart a)) 0 t ≡ afterRestart a t
+    tables : placedFrom (length t) (recordOf t 1 .k) (slotsOf t) 1 t ≡ true → isOut (recordOf t a .state) ≡ true → eachFrom (carried (order.Restart a)) 0 t ≡ tableAfterRestart a t
     tables rows out =
         by-record (recordOf t 1 .k) (slotsOf t) (carried (order.Restart a)) (λ i v. cond (eqb i a) (node.restartOf v .node) v) t rows
         (λ j v u p is. ap (λ (i : ℕ). cond (eqb i a) (fresh v) v) (p .own) ∙ one j v (p .good) out is)
@@ -209,8 +209,8 @@ module _ (lost : Bool) (missed : ℕ) (t : Table) (ok : tableSound t ≡ true) (
       heard-at = ap (λ (i : ℕ). cond (has missed i) unheard (turn .heard)) (p .own) ∙ hears lost missed t (suc j) (survey .speaker) (s .spoken)
 
 pub slot-table : (lost : Bool) (missed : ℕ) (t : Table) → tableSound t ≡ true → slotsOf t < limit
-    → eachFrom (carried (order.Slot (turnOf lost missed (surveyOf t)))) 0 t ≡ bench.afterSlot lost missed t
-unfolding carried bench.afterSlot
+    → eachFrom (carried (order.Slot (turnOf lost missed (surveyOf t)))) 0 t ≡ bench.tableAfterSlot lost missed t
+unfolding carried bench.tableAfterSlot
 slot-table lost missed t ok below =
     let s = said t ok in
     by-record (recordOf t 1 .k) (slotsOf t) (carried (order.Slot (turnOf lost missed (surveyOf t)))) (λ i v. node.stepOf (heardBy lost missed t i) v .node) t (s .rows)

@@ -29,7 +29,7 @@ use Rattle.node.specs.Calls.{itsTurn, setUpOf, stepOf, sendOf, offOf, restartOf
 use Rattle.node.proofs.Sent.{sent-or-short}
 use Rattle.bench.specs.declared.Command.{Command}
 use Rattle.bench.specs.declared.Command.the-variants as command
-use Rattle.bench.specs.Table.{Table, tableSound, ringOf, slotsOf, recordOf}
+use Rattle.bench.specs.Table.{Table, tableSound, nodeCount, slotsOf, recordOf}
 use Rattle.bench.specs.Calls as bench
 use Rattle.bench.specs.Pairs.{SlotBytes}
 use Rattle.bench.specs.Outcomes.{calledOf, endedOf, outcomeOf, BytesAfter}
@@ -171,19 +171,19 @@ runs (command.Slot lost missed) t out after told =
     let P : bench.Called → Type 0 = λ c. SlotBytes t c out after → Runs (command.Slot lost missed) t out after c in
     let kept = untouched t out after in
     either-passed P (tableSound t) Unsound
-    (either-passed P (within (ringOf t) missed) NodeNumber
+    (either-passed P (within (nodeCount t) missed) NodeNumber
     (either-passed P (ltb (slotsOf t) limit) SlotLimit
     (either-passed P (leb 64 (length out)) OutputShort
     (λ _. (tt, tt)) (λ same. (refl, kept same))) (λ same. (refl, kept same))) (λ same. (refl, kept same))) (λ same. (refl, kept same)) told
 runs (command.Off a) t out after same =
     let P = Runs (command.Off a) t out after in
     let kept = untouched t out after same in
-    either-passed P (tableSound t) Unsound (either-passed P (nodeNumber (ringOf t) a) NodeNumber (tt, tt) (refl, kept)) (refl, kept)
+    either-passed P (tableSound t) Unsound (either-passed P (nodeNumber (nodeCount t) a) NodeNumber (tt, tt) (refl, kept)) (refl, kept)
 runs (command.Restart a) t out after same =
     let P = Runs (command.Restart a) t out after in
     let kept = untouched t out after same in
     either-passed P (tableSound t) Unsound
-    (either-passed P (nodeNumber (ringOf t) a) NodeNumber
+    (either-passed P (nodeNumber (nodeCount t) a) NodeNumber
     (either-passed P (isOut (recordOf t a .state)) NotOut (tt, tt) (refl, kept)) (refl, kept)) (refl, kept)
 runs (command.Look lost) t out after same =
     either-passed (Runs (command.Look lost) t out after) (tableSound t) Unsound (tt, tt) (refl, untouched t out after same)

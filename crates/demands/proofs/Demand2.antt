@@ -25,11 +25,11 @@ use Rattle.node.specs.Slot.{heardFrom, slotIn, afterSlot}
 use Rattle.node.specs.Calls.{done, sendOf, stepOf}
 use Rattle.node.proofs.Sent.{sent-by, sent-read}
 use Rattle.bench.specs.declared.Command.the-variants.{Slot}
-use Rattle.bench.specs.Table.{Table, recordOf, ringOf, slotsOf, speaker, tableSound}
+use Rattle.bench.specs.Table.{Table, recordOf, nodeCount, slotsOf, speaker, tableSound}
 use Rattle.bench.specs.Calls as bench
 use Rattle.bench.specs.Outcomes.{endedOf}
-use Rattle.bench.proofs.agreement.Places.{sound-placed}
-use Rattle.bench.proofs.agreement.Runs.{after-slot-record}
+use Rattle.bench.proofs.Places.{sound-placed}
+use Rattle.bench.proofs.Runs.{after-slot-record}
 use Rattle.demands.specs.Demand2.{Demand2, nextSender}
 
 -- ---- a record
@@ -47,15 +47,15 @@ passed true cause t c e = (refl, e)
 passed false cause t c e = let z : _≡_ {A = ℕ} 0 1 = cc in absurd (omega arith)
 
 each-steps : (lost : Bool) (missed room : ℕ) (t : Table) → bench.slotOf lost missed room t .answer ≡ Done
-    → (i : ℕ) → 1 ≤ i → i ≤ ringOf t
+    → (i : ℕ) → 1 ≤ i → i ≤ nodeCount t
     → stepOf (bench.heardBy lost missed t i) (recordOf t i) ≡ done (recordOf (endedOf (Slot lost missed) room t .table) i)
 unfolding bench.slotOf endedOf
 each-steps lost missed room t e i low high =
     let p₁ = passed (tableSound t) Unsound t _ e in
-    let p₂ = passed (within (ringOf t) missed) NodeNumber t _ (p₁ .1) in
+    let p₂ = passed (within (nodeCount t) missed) NodeNumber t _ (p₁ .1) in
     let p₃ = passed (ltb (slotsOf t) limit) SlotLimit t _ (p₂ .1) in
     let p₄ = passed (leb 64 room) OutputShort t _ (p₃ .1) in
-    let left : bench.slotOf lost missed room t .table ≡ bench.afterSlot lost missed t = simp (p₁ .0, p₂ .0, p₃ .0, p₄ .0) in
+    let left : bench.slotOf lost missed room t .table ≡ bench.tableAfterSlot lost missed t = simp (p₁ .0, p₂ .0, p₃ .0, p₄ .0) in
     let place = sound-placed t (p₁ .0) .at i low high in
     let below : recordOf t i .slots < limit = omega (arith, place .slots-is, ltb-true (slotsOf t) limit (p₃ .0)) in
     let stepped = steps-exactly (bench.heardBy lost missed t i) (recordOf t i) (place .is-sound) below in

@@ -17,7 +17,7 @@ use Rattle.node.specs.declared.Answer.the-variants.{Done}
 use Rattle.node.specs.Slot.{heardFrom, slotIn}
 use Rattle.node.specs.Calls.{done, stepOf, slotOf, sendOf}
 use Rattle.bench.specs.declared.Command.the-variants.{Slot}
-use Rattle.bench.specs.Table.{Table, recordOf, ringOf, speaker}
+use Rattle.bench.specs.Table.{Table, recordOf, nodeCount, speaker}
 use Rattle.bench.specs.Calls as bench
 use Rattle.bench.specs.Outcomes.{endedOf}
 
@@ -38,7 +38,7 @@ pub record Demand2 : Type 0 where
   pub by-bytes : (bytes : List ℕ) (v : Node) → slotOf bytes v ≡ stepOf (readOf (v .k) bytes) v
   -- a slot that runs on the bench is this slot of each record, and none is refused
   pub on-bench : (lost : Bool) (missed room : ℕ) (t : Table) → bench.slotOf lost missed room t .answer ≡ Done
-      → (i : ℕ) → 1 ≤ i → i ≤ ringOf t
+      → (i : ℕ) → 1 ≤ i → i ≤ nodeCount t
       → stepOf (bench.heardBy lost missed t i) (recordOf t i) ≡ done (recordOf (endedOf (Slot lost missed) room t .table) i)
   -- and what its message is heard as there is what the reader finds in the bytes that the sender sends
   pub heard-on-bench : (t : Table) (out : List ℕ) (count : ℕ) (after : List ℕ) → sendOf (recordOf t (speaker t)) out ≡ (Bytes count, after)

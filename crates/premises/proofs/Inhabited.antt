@@ -13,11 +13,11 @@ use Rattle.node_record.specs.declared.Cause.the-variants.{Unconfirmed}
 use Rattle.bench.specs.Table.{Table}
 use Rattle.bench.specs.Calls.{setUpOf}
 use Rattle.bench.specs.Runs.{tableAfter}
-use Rattle.bench.specs.Demand.{Premises, Claims, EverySequence}
+use Rattle.agreement.specs.Demand.{Premises, Claims, EverySequence}
 use Rattle.bench.proofs.Computed.{computed}
-use Rattle.bench.proofs.agreement.Places.{Placed}
-use Rattle.bench.proofs.agreement.Runs.{start-placed}
-use Rattle.bench.proofs.agreement.Demanded.{demand3}
+use Rattle.bench.proofs.Places.{Placed}
+use Rattle.bench.proofs.Runs.{start-placed}
+use Rattle.agreement.proofs.Demanded.{demand3}
 use Rattle.premises.specs.Plans.{departure, return}
 use Rattle.premises.specs.Needed.{Premise, few-failures, one-outside, list-kept, all-heard, Holds}
 use Rattle.premises.proofs.Tested.{every, test, by-test}

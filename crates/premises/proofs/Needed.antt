@@ -12,12 +12,12 @@ use Rattle.node.specs.Calls.{noNode}
 use Rattle.bench.specs.Table.{Table, slotsOf}
 use Rattle.bench.specs.Calls.{setUpOf, greatest}
 use Rattle.bench.specs.Runs.{Call, tableAfter}
-use Rattle.bench.specs.Demand.{LostOrSilent, decidingRan, Premises, Agree, InTime, EverySequence}
+use Rattle.agreement.specs.Demand.{next, onwards, isDeciding, decidingRan, LostOrSilent, Premises, Agree, InTime, EverySequence}
 use Rattle.bench.proofs.Computed.{computed}
-use Rattle.bench.proofs.agreement.Places.{Placed}
-use Rattle.bench.proofs.agreement.Runs.{start-placed, run-length}
-use Rattle.bench.proofs.agreement.Beginnings.{at-end}
-use Rattle.bench.proofs.agreement.Throughout.{nothing-apart}
+use Rattle.bench.proofs.Places.{Placed}
+use Rattle.bench.proofs.Runs.{start-placed, run-length}
+use Rattle.agreement.proofs.Beginnings.{at-end}
+use Rattle.agreement.proofs.Throughout.{nothing-apart}
 use Rattle.premises.specs.Plans.{twoMiss, twoKnocks, threeLeft, noThird, missesTwice}
 use Rattle.premises.specs.Needed.{Premise, few-failures, one-outside, list-kept, all-heard, Holds, Others, InRange, Bites, Without}
 use Rattle.premises.proofs.Scan.{noted, scan}
@@ -68,7 +68,7 @@ module _ (n k : ℕ) (range : InRange n k) (lent : Table) (one-each : length len
   others-by all-heard e = by-tests few-failures one-outside list-kept e
 
   -- the lists differ where the bench tells a distance that is not 0
-  bites-agree : (p : Premise) (d : ℕ) → other-tests p ≡ true → test p n k start cs ≡ false → greatest n (tableAfter start cs) ≡ suc d → Bites p (Agree n) n k lent cs
+  bites-agree : (p : Premise) (d : ℕ) → other-tests p ≡ true → test p n k start cs ≡ false → greatest n (tableAfter start cs) ≡ suc d → Bites p (Agree n k) n k lent cs
   bites-agree p d o f e = record {
     in-range = range;
     one-each = one-each;
@@ -78,7 +78,7 @@ module _ (n k : ℕ) (range : InRange n k) (lent : Table) (one-each : length len
   }
 
   -- slot s has failed, n - 1 slots ran after it, and it is not decided
-  bites-in-time : (p : Premise) (s : ℕ) → other-tests p ≡ true → test p n k start cs ≡ false → LostOrSilent start s cs → s + (n - 1) ≤ slotsOf (tableAfter start cs) → decidingRan n k start s cs ≡ false
+  bites-in-time : (p : Premise) (s : ℕ) → other-tests p ≡ true → test p n k start cs ≡ false → LostOrSilent n k start s cs → s + (n - 1) ≤ slotsOf (tableAfter start cs) → decidingRan n k start s cs ≡ false
       → Bites p (InTime n k) n k lent cs
   bites-in-time p s o f x l e = record {
     in-range = range;
@@ -94,19 +94,19 @@ module _ (a b c d : Node) where
   abbrev four : Table
   four = a ∷ b ∷ c ∷ d ∷ []
 
-  pub failures-bite : Bites few-failures (Agree 4) 4 2 four (reverse twoMiss)
+  pub failures-bite : Bites few-failures (Agree 4 2) 4 2 four (reverse twoMiss)
   unfolding computed every noted scan
   failures-bite = bites-agree 4 2 (lit≤ tt, lit≤ tt, lit≤ tt, lit≤ tt) four refl (reverse twoMiss) few-failures 0 refl refl refl
 
-  pub list-bites : Bites list-kept (Agree 4) 4 3 four (reverse threeLeft)
+  pub list-bites : Bites list-kept (Agree 4 3) 4 3 four (reverse threeLeft)
   unfolding computed every noted scan
   list-bites = bites-agree 4 3 (lit≤ tt, lit≤ tt, lit≤ tt, lit≤ tt) four refl (reverse threeLeft) list-kept 0 refl refl refl
 
   pub list-bites-in-time : Bites list-kept (InTime 4 3) 4 3 four (reverse noThird)
-  unfolding computed every noted scan
+  unfolding computed every noted scan next onwards isDeciding decidingRan
   list-bites-in-time = bites-in-time 4 3 (lit≤ tt, lit≤ tt, lit≤ tt, lit≤ tt) four refl (reverse noThird) list-kept 2 refl refl (lit≤ tt, lit≤ tt, refl, refl) (lit≤ tt) refl
 
-  pub hearing-bites : Bites all-heard (Agree 4) 4 2 four (reverse missesTwice)
+  pub hearing-bites : Bites all-heard (Agree 4 2) 4 2 four (reverse missesTwice)
   unfolding computed every noted scan
   hearing-bites = bites-agree 4 2 (lit≤ tt, lit≤ tt, lit≤ tt, lit≤ tt) four refl (reverse missesTwice) all-heard 0 refl refl refl
 
@@ -114,15 +114,15 @@ module _ (a b c d e : Node) where
   abbrev five : Table
   five = a ∷ b ∷ c ∷ d ∷ e ∷ []
 
-  pub outside-bites : Bites one-outside (Agree 5) 5 2 five (reverse twoKnocks)
+  pub outside-bites : Bites one-outside (Agree 5 2) 5 2 five (reverse twoKnocks)
   unfolding computed every noted scan
   outside-bites = bites-agree 5 2 (lit≤ tt, lit≤ tt, lit≤ tt, lit≤ tt) five refl (reverse twoKnocks) one-outside 1 refl refl refl
 
 -- ---- demand 3 does not hold without any of them
 
-refuted : (p : Premise) (n k : ℕ) (lent : Table) (cs : List Call) → Bites p (Agree n) n k lent cs → Without p → ⊥
+refuted : (p : Premise) (n k : ℕ) (lent : Table) (cs : List Call) → Bites p (Agree n k) n k lent cs → Without p → ⊥
 unfolding EverySequence
-refuted p n k lent cs b w = b .fails (at-end (Agree n (setUpOf n k lent .table)) cs
+refuted p n k lent cs b w = b .fails (at-end (Agree n k (setUpOf n k lent .table)) cs
     (w n k (b .in-range .0) (b .in-range .1) (b .in-range .2) (b .in-range .3) lent (b .one-each) cs (b .others) .agree))
 
 pub needed : (p : Premise) → Without p → ⊥

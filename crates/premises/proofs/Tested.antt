@@ -15,9 +15,9 @@ use Rattle.node_record.specs.States.{isMember, isOut}
 use Rattle.bench.specs.Table.{Table, recordOf, slotsOf, speaker}
 use Rattle.bench.specs.Calls.{transmits}
 use Rattle.bench.specs.Runs.{Call, slot, off, restart, tableAfter, isSlot, listOf, Entry, noEntry, entry}
-use Rattle.bench.specs.Demand.{AtEach, KeepsList, AllHear, HearEverything}
-use Rattle.bench.proofs.agreement.Places.{Placed}
-use Rattle.bench.proofs.agreement.Entries.{entry-later}
+use Rattle.agreement.specs.Demand.{AtEach, KeepsList, AllHear, HearEverything}
+use Rattle.bench.proofs.Places.{Placed}
+use Rattle.agreement.proofs.Entries.{entry-later}
 use Rattle.premises.specs.Needed.{Premise, few-failures, one-outside, list-kept, all-heard, Holds}
 use Rattle.premises.proofs.Scan.{Notes, noted, Scan, SlotTest, scan, atSlots, Right, scan-right}
 
@@ -184,14 +184,14 @@ module _ (n k : ℕ) (pos : 1 ≤ n) (start : Table) (begins : Placed n k 0 star
   by-test few-failures e = few-by (λ x. x .failures) refl (S .failures) (right .failures-are) (k - 1) e
   by-test one-outside e = few-by (λ x. num (x .outside)) refl (S .outside) (right .outside-are) 1 e
   by-test list-kept e = each-sound (KeepsList n k start) (keepsIn n k) start (λ c ds h s. keeps-sound n k (tableAfter start ds) (tableAfter start (c ∷ ds)) c (h s)) cs (sym (right .kept-is) ∙ e)
-  by-test all-heard e = each-sound (HearEverything n start) (hearIn n) start (λ c ds h s. hear-sound n c (tableAfter start ds) (tableAfter start (c ∷ ds)) (h s)) cs (sym (right .heard-is) ∙ e)
+  by-test all-heard e = each-sound (HearEverything n k start) (hearIn n) start (λ c ds h s. hear-sound n c (tableAfter start ds) (tableAfter start (c ∷ ds)) (h s)) cs (sym (right .heard-is) ∙ e)
 
   tested : (p : Premise) → Holds p n k start cs → test p n k start cs ≡ true
   unfolding KeepsList HearEverything
   tested few-failures h = few-tested (λ x. x .failures) refl (S .failures) (right .failures-are) (k - 1) h
   tested one-outside h = few-tested (λ x. num (x .outside)) refl (S .outside) (right .outside-are) 1 h
   tested list-kept h = right .kept-is ∙ each-complete (KeepsList n k start) (keepsIn n k) start (λ c ds x s. keeps-complete n k (tableAfter start ds) (tableAfter start (c ∷ ds)) c (x s)) cs h
-  tested all-heard h = right .heard-is ∙ each-complete (HearEverything n start) (hearIn n) start (λ c ds x s. hear-complete n c (tableAfter start ds) (tableAfter start (c ∷ ds)) (x s)) cs h
+  tested all-heard h = right .heard-is ∙ each-complete (HearEverything n k start) (hearIn n) start (λ c ds x s. hear-complete n c (tableAfter start ds) (tableAfter start (c ∷ ds)) (x s)) cs h
 
   pub by-failed-test : (p : Premise) → test p n k start cs ≡ false → Holds p n k start cs → ⊥
   by-failed-test p e h = true≢false (sym (tested p h) ∙ e)

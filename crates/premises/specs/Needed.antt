@@ -7,9 +7,9 @@ use Rattle.nodeset.specs.Sums.{sum, num}
 use Rattle.bench.specs.Table.{Table}
 use Rattle.bench.specs.Calls.{setUpOf}
 use Rattle.bench.specs.Runs.{Call, entry}
-use Rattle.bench.specs.Demand.{AtEach, KeepsList, HearEverything, Claims, EverySequence}
+use Rattle.agreement.specs.Demand.{AtEach, KeepsList, HearEverything, Claims, EverySequence}
 
--- ---- the premises, one by one (the fields of Premises, bench's specs/Demand)
+-- ---- the premises, one by one (the fields of Premises, agreement's specs/Demand)
 
 pub data Premise : Type 0 where
   few-failures : Premise
@@ -21,7 +21,7 @@ abbrev pub Holds : Premise → ℕ → ℕ → Table → List Call → Type 0
 Holds few-failures n k start cs = (a : ℕ) → sum (λ u. entry start cs u .failures) (suc a) n ≤ k - 1
 Holds one-outside n k start cs = (a : ℕ) → sum (λ u. num (entry start cs u .outside)) (suc a) n ≤ 1
 Holds list-kept n k start cs = AtEach (KeepsList n k start) cs
-Holds all-heard n k start cs = AtEach (HearEverything n start) cs
+Holds all-heard n k start cs = AtEach (HearEverything n k start) cs
 
 abbrev pub Others : Premise → ℕ → ℕ → Table → List Call → Type 0
 Others few-failures n k start cs = Holds one-outside n k start cs × Holds list-kept n k start cs × Holds all-heard n k start cs

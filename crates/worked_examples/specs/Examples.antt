@@ -23,7 +23,7 @@ use Rattle.bench.specs.declared.Listed.the-variants as listed
 use Rattle.bench.specs.declared.Fate.the-variants as fate
 use Rattle.bench.specs.declared.Outcome.{Outcome}
 use Rattle.bench.specs.declared.Outcome.the-variants.{Slot}
-use Rattle.bench.specs.Table.{Table, recordOf, ringOf}
+use Rattle.bench.specs.Table.{Table, recordOf, nodeCount}
 use Rattle.bench.specs.Calls.{setUpOf, greatest}
 use Rattle.bench.specs.Outcomes.{slotOutcome}
 use Rattle.bench.specs.Runs.{Call, slot, off, restart, callOf, tableAfter, entry}
@@ -106,7 +106,7 @@ lines n k lent plan = linesFrom (setUpOf n k lent .table) plan
 
 -- The greatest distance between sets of two members.
 abbrev pub apart : Table → ℕ
-apart t = greatest (ringOf t) t
+apart t = greatest (nodeCount t) t
 
 -- ---- plans, and the listing
 
