@@ -5,9 +5,8 @@ use mathlib.Core.Bool.{Bool, true, false, _&&_, true≢false, false≢true}
 use lib.Dec.{eqb, leb, ltb}
 use lib.ListN.{length}
 use borrow.Author.Tests.{eq-eqb}
-use Rattle.refusal.specs.declared.Refusal.{Refusal}
-use Rattle.refusal.specs.declared.Refusal.the-variants.{RingSize, SponsorCount, NodeNumber, Unsound, SlotLimit, OutputShort, NotOut}
 use Rattle.nodeset.specs.Sets.{within}
+use Rattle.ring.specs.declared.Cable.{Cable}
 use Rattle.ring.specs.Ring.{ringSize, sponsorCount, nodeNumber}
 use Rattle.node_record.specs.States.{isOut}
 use Rattle.node_record.specs.Soundness.{limit}
@@ -25,33 +24,34 @@ record Leaves (t x : Table) (c : Called) : Type 0 where
 leaves-done : (t x : Table) → Leaves t x (done x)
 leaves-done t x = record { where-done = λ _. refl; where-refused = λ e. absurd (true≢false e) }
 
-leaves-if : (b : Bool) (cause : Refusal) (t x : Table) (c : Called) → Leaves t x c → Leaves t x (ifPassed b cause t c)
-leaves-if true cause t x c l = l
-leaves-if false cause t x c l = record { where-done = λ e. absurd (false≢true e); where-refused = λ _. refl }
+leaves-if : (b : Bool) (number : ℕ) (t x : Table) (c : Called) → Leaves t x c → Leaves t x (ifPassed b number t c)
+leaves-if true number t x c l = l
+leaves-if false number t x c l = record { where-done = λ e. absurd (false≢true e); where-refused = λ _. refl }
 
-done-if : (b : Bool) (cause : Refusal) (t : Table) (c : Called) → isDone (ifPassed b cause t c .answer) ≡ (b && isDone (c .answer))
-done-if true cause t c = refl
-done-if false cause t c = refl
+done-if : (b : Bool) (number : ℕ) (t : Table) (c : Called) → isDone (ifPassed b number t c .answer) ≡ (b && isDone (c .answer))
+done-if true number t c = refl
+done-if false number t c = refl
 
 -- the first test holds
-done-past : (b : Bool) (cause : Refusal) (t : Table) (c : Called) → b ≡ true → isDone (ifPassed b cause t c .answer) ≡ isDone (c .answer)
-done-past b cause t c e = done-if b cause t c ∙ ap (λ (x : Bool). x && isDone (c .answer)) e
+done-past : (b : Bool) (number : ℕ) (t : Table) (c : Called) → b ≡ true → isDone (ifPassed b number t c .answer) ≡ isDone (c .answer)
+done-past b number t c e = done-if b number t c ∙ ap (λ (x : Bool). x && isDone (c .answer)) e
 
 -- the last test
-done-only : (b : Bool) (cause : Refusal) (t x : Table) → isDone (ifPassed b cause t (done x) .answer) ≡ b
-done-only true cause t x = refl
-done-only false cause t x = refl
+done-only : (b : Bool) (number : ℕ) (t x : Table) → isDone (ifPassed b number t (done x) .answer) ≡ b
+done-only true number t x = refl
+done-only false number t x = refl
 
 -- ---- set-up
 
-pub start-is : (n k : ℕ) (t : Table) → ringSize n ≡ true → sponsorCount n k ≡ true → length t ≡ n → setUpOf n k t .table ≡ startTable n k t
+pub start-is : (cable : Cable) (t : Table) → ringSize (cable .n) ≡ true → sponsorCount cable ≡ true → length t ≡ cable .n → setUpOf cable t .table ≡ startTable cable t
 unfolding setUpOf
-start-is n k t p q e =
-    let x : Table = startTable n k t in
-    let c₂ : Called = ifPassed (eqb (length t) n) Unsound t (done x) in
-    let c₁ : Called = ifPassed (sponsorCount n k) SponsorCount t c₂ in
-    leaves-if (ringSize n) RingSize t x c₁ (leaves-if (sponsorCount n k) SponsorCount t x c₂ (leaves-if (eqb (length t) n) Unsound t x (done x) (leaves-done t x))) .where-done
-    (done-past (ringSize n) RingSize t c₁ p ∙ done-past (sponsorCount n k) SponsorCount t c₂ q ∙ done-past (eqb (length t) n) Unsound t (done x) (eq-eqb (length t) n e))
+start-is cable t p q e =
+    let n = cable .n in
+    let x : Table = startTable cable t in
+    let c₂ : Called = ifPassed (eqb (length t) n) 4 t (done x) in
+    let c₁ : Called = ifPassed (sponsorCount cable) 2 t c₂ in
+    leaves-if (ringSize n) 1 t x c₁ (leaves-if (sponsorCount cable) 2 t x c₂ (leaves-if (eqb (length t) n) 4 t x (done x) (leaves-done t x))) .where-done
+    (done-past (ringSize n) 1 t c₁ p ∙ done-past (sponsorCount cable) 2 t c₂ q ∙ done-past (eqb (length t) n) 4 t (done x) (eq-eqb (length t) n e))
 
 -- ---- slot
 
@@ -61,30 +61,30 @@ slotRuns missed room t = within (nodeCount t) missed && (ltb (slotsOf t) limit &
 
 module _ (lost : Bool) (missed room : ℕ) (t : Table) where
   abbrev long : Called
-  long = ifPassed (leb 64 room) OutputShort t (done (tableAfterSlot lost missed t))
+  long = ifPassed (leb 64 room) 9 t (done (tableAfterSlot lost missed t))
 
   abbrev few : Called
-  few = ifPassed (ltb (slotsOf t) limit) SlotLimit t long
+  few = ifPassed (ltb (slotsOf t) limit) 5 t long
 
   abbrev named : Called
-  named = ifPassed (within (nodeCount t) missed) NodeNumber t few
+  named = ifPassed (within (nodeCount t) missed) 3 t few
 
   slot-leaves : Leaves t (tableAfterSlot lost missed t) (slotOf lost missed room t)
   unfolding slotOf
   slot-leaves =
       let x : Table = tableAfterSlot lost missed t in
-      leaves-if (tableSound t) Unsound t x named
-      (leaves-if (within (nodeCount t) missed) NodeNumber t x few
-      (leaves-if (ltb (slotsOf t) limit) SlotLimit t x long
-      (leaves-if (leb 64 room) OutputShort t x (done x) (leaves-done t x))))
+      leaves-if (tableSound t) 4 t x named
+      (leaves-if (within (nodeCount t) missed) 3 t x few
+      (leaves-if (ltb (slotsOf t) limit) 5 t x long
+      (leaves-if (leb 64 room) 9 t x (done x) (leaves-done t x))))
 
   pub is-slot : tableSound t ≡ true → isSlot (slot lost missed room) t ≡ slotRuns missed room t
   unfolding isSlot slotOf
   is-slot e =
-      done-past (tableSound t) Unsound t named e
-      ∙ done-if (within (nodeCount t) missed) NodeNumber t few
+      done-past (tableSound t) 4 t named e
+      ∙ done-if (within (nodeCount t) missed) 3 t few
       ∙ ap (λ (b : Bool). within (nodeCount t) missed && b)
-      (done-if (ltb (slotsOf t) limit) SlotLimit t long ∙ ap (λ (b : Bool). ltb (slotsOf t) limit && b) (done-only (leb 64 room) OutputShort t (tableAfterSlot lost missed t)))
+      (done-if (ltb (slotsOf t) limit) 5 t long ∙ ap (λ (b : Bool). ltb (slotsOf t) limit && b) (done-only (leb 64 room) 9 t (tableAfterSlot lost missed t)))
 
   pub slot-done : isSlot (slot lost missed room) t ≡ true → callOf (slot lost missed room) t .table ≡ tableAfterSlot lost missed t
   unfolding isSlot callOf
@@ -105,11 +105,11 @@ module _ (a : ℕ) (t : Table) (in-order : tableSound t ≡ true) where
   unfolding offOf
   off-leaves =
       let x : Table = tableAfterOff a t in
-      leaves-if (tableSound t) Unsound t x (ifPassed (nodeNumber (nodeCount t) a) NodeNumber t (done x)) (leaves-if (nodeNumber (nodeCount t) a) NodeNumber t x (done x) (leaves-done t x))
+      leaves-if (tableSound t) 4 t x (ifPassed (nodeNumber (nodeCount t) a) 3 t (done x)) (leaves-if (nodeNumber (nodeCount t) a) 3 t x (done x) (leaves-done t x))
 
   is-off : isDone (offOf a t .answer) ≡ nodeNumber (nodeCount t) a
   unfolding offOf
-  is-off = done-past (tableSound t) Unsound t (ifPassed (nodeNumber (nodeCount t) a) NodeNumber t (done (tableAfterOff a t))) in-order ∙ done-only (nodeNumber (nodeCount t) a) NodeNumber t (tableAfterOff a t)
+  is-off = done-past (tableSound t) 4 t (ifPassed (nodeNumber (nodeCount t) a) 3 t (done (tableAfterOff a t))) in-order ∙ done-only (nodeNumber (nodeCount t) a) 3 t (tableAfterOff a t)
 
   pub off-done : nodeNumber (nodeCount t) a ≡ true → callOf (off a) t .table ≡ tableAfterOff a t
   unfolding callOf
@@ -120,21 +120,21 @@ module _ (a : ℕ) (t : Table) (in-order : tableSound t ≡ true) where
   off-refused e = off-leaves .where-refused (is-off ∙ e)
 
   abbrev out : Called
-  out = ifPassed (isOut (recordOf t a .state)) NotOut t (done (tableAfterRestart a t))
+  out = ifPassed (isOut (recordOf t a .state)) 11 t (done (tableAfterRestart a t))
 
   restart-leaves : Leaves t (tableAfterRestart a t) (restartOf a t)
   unfolding restartOf
   restart-leaves =
       let x : Table = tableAfterRestart a t in
-      leaves-if (tableSound t) Unsound t x (ifPassed (nodeNumber (nodeCount t) a) NodeNumber t out)
-      (leaves-if (nodeNumber (nodeCount t) a) NodeNumber t x out (leaves-if (isOut (recordOf t a .state)) NotOut t x (done x) (leaves-done t x)))
+      leaves-if (tableSound t) 4 t x (ifPassed (nodeNumber (nodeCount t) a) 3 t out)
+      (leaves-if (nodeNumber (nodeCount t) a) 3 t x out (leaves-if (isOut (recordOf t a .state)) 11 t x (done x) (leaves-done t x)))
 
   is-restart : isDone (restartOf a t .answer) ≡ restarts a t
   unfolding restartOf
   is-restart =
-      done-past (tableSound t) Unsound t (ifPassed (nodeNumber (nodeCount t) a) NodeNumber t out) in-order
-      ∙ done-if (nodeNumber (nodeCount t) a) NodeNumber t out
-      ∙ ap (λ (b : Bool). nodeNumber (nodeCount t) a && b) (done-only (isOut (recordOf t a .state)) NotOut t (tableAfterRestart a t))
+      done-past (tableSound t) 4 t (ifPassed (nodeNumber (nodeCount t) a) 3 t out) in-order
+      ∙ done-if (nodeNumber (nodeCount t) a) 3 t out
+      ∙ ap (λ (b : Bool). nodeNumber (nodeCount t) a && b) (done-only (isOut (recordOf t a .state)) 11 t (tableAfterRestart a t))
 
   pub restart-done : restarts a t ≡ true → callOf (restart a) t .table ≡ tableAfterRestart a t
   unfolding callOf

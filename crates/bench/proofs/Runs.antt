@@ -12,6 +12,7 @@ use borrow.Author.Tests.{le-leb, ltb-true}
 use Rattle.nodeset.specs.Sums.{num}
 use Rattle.nodeset.specs.Sets.{has, within}
 use Rattle.nodeset.proofs.Tests.{by-cases, both, all}
+use Rattle.ring.specs.declared.Cable.{Cable}
 use Rattle.ring.specs.Ring.{ringSize, sponsorCount, nodeNumber, sender}
 use Rattle.message.specs.declared.Reading.{Reading}
 use Rattle.node_record.specs.declared.Node.{Node}
@@ -52,51 +53,50 @@ after-restart-record a t i h l = record-each (λ i v. cond (eqb i a) (node.resta
 
 -- ---- each call keeps every record sound and in its place
 
-in-place-by : (n k slots slots′ i : ℕ) (v w : Node) → InPlace n k slots i v → sound w ≡ true → Numbers (v .n) (v .k) (v .own) slots′ w → InPlace n k slots′ i w
-in-place-by n k slots slots′ i v w p e q = record {
+in-place-by : (cable : Cable) (slots slots′ i : ℕ) (v w : Node) → InPlace cable slots i v → sound w ≡ true → Numbers (v .cable) (v .own) slots′ w → InPlace cable slots′ i w
+in-place-by cable slots slots′ i v w p e q = record {
   is-sound = e;
-  n-is = q .n-is ∙ p .n-is;
-  k-is = q .k-is ∙ p .k-is;
+  cable-is = q .cable-is ∙ p .cable-is;
   slots-is = q .slots-is;
   own-is = q .own-is ∙ p .own-is;
 }
 
-module _ (n k slots : ℕ) (t : Table) (pos : 1 ≤ n) (P : Placed n k slots t) where
+module _ (cable : Cable) (slots : ℕ) (t : Table) (pos : 1 ≤ cable .n) (P : Placed cable slots t) where
   pub in-order : tableSound t ≡ true
-  in-order = placed-sound n k slots t pos P
+  in-order = placed-sound cable slots t pos P
 
   -- the slot count that the slot call tests
   slots-are : slotsOf t ≡ slots
-  slots-are = slots-of-placed n k slots t pos P
+  slots-are = slots-of-placed cable slots t pos P
 
-  pub speaker-placed : speaker t ≡ sender n (slots + 1)
+  pub speaker-placed : speaker t ≡ sender (cable .n) (slots + 1)
   unfolding speaker
-  speaker-placed = ap (λ (m : ℕ). sender m (slotsOf t + 1)) (P .length-is) ∙ ap (λ (s : ℕ). sender n (s + 1)) slots-are
+  speaker-placed = ap (λ (m : ℕ). sender m (slotsOf t + 1)) (P .length-is) ∙ ap (λ (s : ℕ). sender (cable .n) (s + 1)) slots-are
 
-  placed-slot : (lost : Bool) (missed : ℕ) → slots < limit → Placed n k (slots + 1) (tableAfterSlot lost missed t)
+  placed-slot : (lost : Bool) (missed : ℕ) → slots < limit → Placed cable (slots + 1) (tableAfterSlot lost missed t)
   placed-slot lost missed l = record { length-is = after-slot-length lost missed t ∙ P .length-is; at = at }
     where
-      at : (i : ℕ) → 1 ≤ i → i ≤ n → InPlace n k (slots + 1) i (recordOf (tableAfterSlot lost missed t) i)
+      at : (i : ℕ) → 1 ≤ i → i ≤ cable .n → InPlace cable (slots + 1) i (recordOf (tableAfterSlot lost missed t) i)
       at i h m = rw (after-slot-record lost missed t i h (omega (arith, P .length-is))) (go (recordOf t i) (P .at i h m) (heardBy lost missed t i))
         where
-          go : (v : Node) → InPlace n k slots i v → (r : Reading) → InPlace n k (slots + 1) i (node.stepOf r v .node)
+          go : (v : Node) → InPlace cable slots i v → (r : Reading) → InPlace cable (slots + 1) i (node.stepOf r v .node)
           go v p r =
-              let q : Numbers (v .n) (v .k) (v .own) (v .slots + 1) (node.stepOf r v .node) = step-numbers r v (p .is-sound) (omega (arith, p .slots-is)) in
+              let q : Numbers (v .cable) (v .own) (v .slots + 1) (node.stepOf r v .node) = step-numbers r v (p .is-sound) (omega (arith, p .slots-is)) in
               let z : v .slots + 1 ≡ slots + 1 = omega (arith, p .slots-is) in
-              in-place-by n k slots (slots + 1) i v (node.stepOf r v .node) p (step-sound r v (p .is-sound)) (record { n-is = q .n-is; k-is = q .k-is; own-is = q .own-is; slots-is = q .slots-is ∙ z })
+              in-place-by cable slots (slots + 1) i v (node.stepOf r v .node) p (step-sound r v (p .is-sound)) (record { cable-is = q .cable-is; own-is = q .own-is; slots-is = q .slots-is ∙ z })
 
   -- one record is made anew, and counts no slot
-  placed-one : (a : ℕ) (f : Node → Node) → ((v : Node) → sound v ≡ true → sound (f v) ≡ true) → ((v : Node) → Numbers (v .n) (v .k) (v .own) (v .slots) (f v))
-      → Placed n k slots (each (λ i v. cond (eqb i a) (f v) v) t)
+  placed-one : (a : ℕ) (f : Node → Node) → ((v : Node) → sound v ≡ true → sound (f v) ≡ true) → ((v : Node) → Numbers (v .cable) (v .own) (v .slots) (f v))
+      → Placed cable slots (each (λ i v. cond (eqb i a) (f v) v) t)
   placed-one a f s q = record { length-is = length-each (λ i v. cond (eqb i a) (f v) v) t ∙ P .length-is; at = at }
     where
-      at : (i : ℕ) → 1 ≤ i → i ≤ n → InPlace n k slots i (recordOf (each (λ i v. cond (eqb i a) (f v) v) t) i)
+      at : (i : ℕ) → 1 ≤ i → i ≤ cable .n → InPlace cable slots i (recordOf (each (λ i v. cond (eqb i a) (f v) v) t) i)
       at i h m = rw (record-each (λ i v. cond (eqb i a) (f v) v) t i h (omega (arith, P .length-is))) (go (recordOf t i) (P .at i h m))
         where
-          go : (v : Node) → InPlace n k slots i v → InPlace n k slots i (cond (eqb i a) (f v) v)
+          go : (v : Node) → InPlace cable slots i v → InPlace cable slots i (cond (eqb i a) (f v) v)
           go v p =
-              choose (λ (w : Node). InPlace n k slots i w) (eqb i a) (f v) v
-              (λ _. in-place-by n k slots slots i v (f v) p (s v (p .is-sound)) (record { n-is = q v .n-is; k-is = q v .k-is; own-is = q v .own-is; slots-is = q v .slots-is ∙ p .slots-is }))
+              choose (λ (w : Node). InPlace cable slots i w) (eqb i a) (f v) v
+              (λ _. in-place-by cable slots slots i v (f v) p (s v (p .is-sound)) (record { cable-is = q v .cable-is; own-is = q v .own-is; slots-is = q v .slots-is ∙ p .slots-is }))
               (λ _. p)
 
   -- a slot that runs is below the limit
@@ -106,7 +106,7 @@ module _ (n k slots : ℕ) (t : Table) (pos : 1 ≤ n) (P : Placed n k slots t) 
       let b : ltb (slotsOf t) limit ≡ true = both (ltb (slotsOf t) limit) (leb 64 room) (both (within (nodeCount t) missed) (ltb (slotsOf t) limit && leb 64 room) r .1) .0 in
       omega (arith, ltb-true (slotsOf t) limit b, slots-are)
 
-  pub placed-call : (c : Call) → Placed n k (slots + num (isSlot c t)) (callOf c t .table)
+  pub placed-call : (c : Call) → Placed cable (slots + num (isSlot c t)) (callOf c t .table)
   placed-call (slot lost missed room) =
       by-cases (isSlot (slot lost missed room) t)
       (λ e. rw (e, slot-done lost missed room t e) (placed-slot lost missed (below-limit lost missed room e)))
@@ -122,26 +122,19 @@ module _ (n k slots : ℕ) (t : Table) (pos : 1 ≤ n) (P : Placed n k slots t) 
 
 -- ---- the common start
 
-module _ (n k : ℕ) (three : 3 ≤ n) (most : n ≤ 32) (two : 2 ≤ k) (fewer : k ≤ n - 1) (lent : Table) (one-each : length lent ≡ n) where
-  ring : ringSize n ≡ true
-  ring = all (le-leb 3 n three) (le-leb n 32 most)
+module _ (cable : Cable) (ring : ringSize (cable .n) ≡ true) (sponsors : sponsorCount cable ≡ true) (lent : Table) (one-each : length lent ≡ cable .n) where
+  pub start-table : setUpOf cable lent .table ≡ startTable cable lent
+  start-table = start-is cable lent ring sponsors one-each
 
-  sponsors : sponsorCount n k ≡ true
-  sponsors = all (le-leb 2 k two) (le-leb k (n - 1) fewer)
+  pub start-record : (i : ℕ) → 1 ≤ i → i ≤ cable .n → recordOf (setUpOf cable lent .table) i ≡ starting cable i
+  start-record i h l = ap (λ (t : Table). recordOf t i) start-table ∙ record-each (λ i v. starting cable i) lent i h (omega (arith, one-each))
 
-  pub start-table : setUpOf n k lent .table ≡ startTable n k lent
-  start-table = start-is n k lent ring sponsors one-each
-
-  pub start-record : (i : ℕ) → 1 ≤ i → i ≤ n → recordOf (setUpOf n k lent .table) i ≡ starting n k i
-  start-record i h l = ap (λ (t : Table). recordOf t i) start-table ∙ record-each (λ i v. starting n k i) lent i h (omega (arith, one-each))
-
-  pub start-placed : Placed n k 0 (setUpOf n k lent .table)
+  pub start-placed : Placed cable 0 (setUpOf cable lent .table)
   start-placed = record {
-    length-is = ap length start-table ∙ length-each (λ i v. starting n k i) lent ∙ one-each;
+    length-is = ap length start-table ∙ length-each (λ i v. starting cable i) lent ∙ one-each;
     at = λ i h l. rw (start-record i h l) (record {
-      is-sound = starting-sound n k i ring sponsors (all (le-leb 1 i h) (le-leb i n l));
-      n-is = refl;
-      k-is = refl;
+      is-sound = starting-sound cable i ring sponsors (all (le-leb 1 i h) (le-leb i (cable .n) l));
+      cable-is = refl;
       slots-is = refl;
       own-is = refl;
     });
@@ -149,30 +142,30 @@ module _ (n k : ℕ) (three : 3 ≤ n) (most : n ≤ 32) (two : 2 ≤ k) (fewer 
 
 -- ---- a run
 
-module _ (n k : ℕ) (pos : 1 ≤ n) (start : Table) (begins : Placed n k 0 start) where
-  placed-somehow : (cs : List Call) → (slots : ℕ) × Placed n k slots (tableAfter start cs)
+module _ (cable : Cable) (pos : 1 ≤ cable .n) (start : Table) (begins : Placed cable 0 start) where
+  placed-somehow : (cs : List Call) → (slots : ℕ) × Placed cable slots (tableAfter start cs)
   unfolding tableAfter
   placed-somehow [] = (0, begins)
   placed-somehow (c ∷ cs) = go (placed-somehow cs)
     where
-      go : ((slots : ℕ) × Placed n k slots (tableAfter start cs)) → (slots : ℕ) × Placed n k slots (callOf c (tableAfter start cs) .table)
-      go (slots, p) = (slots + num (isSlot c (tableAfter start cs)), placed-call n k slots (tableAfter start cs) pos p c)
+      go : ((slots : ℕ) × Placed cable slots (tableAfter start cs)) → (slots : ℕ) × Placed cable slots (callOf c (tableAfter start cs) .table)
+      go (slots, p) = (slots + num (isSlot c (tableAfter start cs)), placed-call cable slots (tableAfter start cs) pos p c)
 
-  pub placed-run : (cs : List Call) → Placed n k (slotsOf (tableAfter start cs)) (tableAfter start cs)
+  pub placed-run : (cs : List Call) → Placed cable (slotsOf (tableAfter start cs)) (tableAfter start cs)
   placed-run cs = go (placed-somehow cs)
     where
-      go : ((slots : ℕ) × Placed n k slots (tableAfter start cs)) → Placed n k (slotsOf (tableAfter start cs)) (tableAfter start cs)
-      go (slots, p) = rw (slots-of-placed n k slots (tableAfter start cs) pos p) p
+      go : ((slots : ℕ) × Placed cable slots (tableAfter start cs)) → Placed cable (slotsOf (tableAfter start cs)) (tableAfter start cs)
+      go (slots, p) = rw (slots-of-placed cable slots (tableAfter start cs) pos p) p
 
   pub never-unsound : (cs : List Call) → tableSound (tableAfter start cs) ≡ true
-  never-unsound cs = placed-sound n k (slotsOf (tableAfter start cs)) (tableAfter start cs) pos (placed-run cs)
+  never-unsound cs = placed-sound cable (slotsOf (tableAfter start cs)) (tableAfter start cs) pos (placed-run cs)
 
-  pub run-length : (cs : List Call) → length (tableAfter start cs) ≡ n
+  pub run-length : (cs : List Call) → length (tableAfter start cs) ≡ cable .n
   run-length cs = placed-run cs .length-is
 
-  pub speaker-run : (cs : List Call) → speaker (tableAfter start cs) ≡ sender n (slotsOf (tableAfter start cs) + 1)
-  speaker-run cs = speaker-placed n k (slotsOf (tableAfter start cs)) (tableAfter start cs) pos (placed-run cs)
+  pub speaker-run : (cs : List Call) → speaker (tableAfter start cs) ≡ sender (cable .n) (slotsOf (tableAfter start cs) + 1)
+  speaker-run cs = speaker-placed cable (slotsOf (tableAfter start cs)) (tableAfter start cs) pos (placed-run cs)
 
   pub slots-next : (c : Call) (cs : List Call) → slotsOf (tableAfter start (c ∷ cs)) ≡ slotsOf (tableAfter start cs) + num (isSlot c (tableAfter start cs))
   unfolding tableAfter
-  slots-next c cs = slots-of-placed n k _ (callOf c (tableAfter start cs) .table) pos (placed-call n k (slotsOf (tableAfter start cs)) (tableAfter start cs) pos (placed-run cs) c)
+  slots-next c cs = slots-of-placed cable _ (callOf c (tableAfter start cs) .table) pos (placed-call cable (slotsOf (tableAfter start cs)) (tableAfter start cs) pos (placed-run cs) c)

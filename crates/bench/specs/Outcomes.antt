@@ -4,6 +4,7 @@ use mathlib.Core.Path.{_≡_}
 use mathlib.Core.Bool.{Bool}
 use mathlib.Core.List.{List}
 use lib.ListN.{length}
+use Rattle.ring.specs.Ring.{cableOf}
 use Rattle.node.specs.declared.Answer.{Answer}
 use Rattle.node.specs.declared.Answer.the-variants as answer
 use Rattle.bench.specs.declared.Command.{Command}
@@ -17,7 +18,7 @@ use Rattle.bench.specs.Pairs.{pairsTold, SlotBytes}
 
 -- The call that a command asks for, where so many bytes are lent for the pairs.
 abbrev pub calledOf : Command → ℕ → Table → Called
-calledOf (command.SetUp n k) room t = setUpOf n k t
+calledOf (command.SetUp n k) room t = setUpOf (cableOf n k) t
 calledOf (command.Off a) room t = offOf a t
 calledOf (command.Restart a) room t = restartOf a t
 calledOf (command.Slot lost missed) room t = slotOf lost missed room t

@@ -1,4 +1,5 @@
 pub mod Ranges
+pub mod Cables
 pub mod Senders
 pub mod Speakers
 pub mod Walks

@@ -12,6 +12,10 @@ use Rattle.ring.specs.declared.Found.the-variants.{Member, Nobody}
 abbrev pub cableOf : ℕ → ℕ → Cable
 cableOf n k = record { n = n; k = k }
 
+-- The same choices.
+abbrev pub sameCable : Cable → Cable → Bool
+sameCable a b = eqb (a .n) (b .n) && eqb (a .k) (b .k)
+
 -- "n nodes are numbered 1 to n, n from 3 to 32."
 abbrev pub ringSize : ℕ → Bool
 ringSize n = leb 3 n && leb n 32

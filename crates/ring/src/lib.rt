@@ -4,7 +4,7 @@ use refusal::Refusal;
 ghost use mathlib.Core.Path.{_≡_};
 ghost use Prim.Native.Nat.{_+_, _-_};
 ghost use Rattle.nodeset.specs.Sums.{num};
-ghost use Rattle.ring.specs.Ring.{ringSize, nodeNumber, sponsorCount, ks, previous, memberBefore, sponsors, sponsored, decided};
+ghost use Rattle.ring.specs.Ring.{sameCable, ringSize, nodeNumber, sponsorCount, ks, previous, memberBefore, sponsors, sponsored, decided};
 ghost use Rattle.ring.specs.Answers.{senderOf, beforeOf, onCable, sponsoredOf, decidedOf};
 ghost use Rattle.ring.specs.Places.{startAt, reach, nearestOf, foundAs};
 
@@ -31,6 +31,13 @@ pub enum Found {
 pub enum Lookup {
     Found(Found),
     Refused(Refusal),
+}
+
+// Whether two cables are the same.
+pub fn is_same_cable(a: Cable, b: Cable) -> bool
+    ensures { λ r. ⌜ r ≡ sameCable a b ⌝ }
+{
+    (a.n == b.n) & (a.k == b.k)
 }
 
 // Whether a ring may have n nodes.
