@@ -49,7 +49,7 @@ pub record InPlace (cable : Cable) (slots i : ℕ) (v : Node) : Type 0 where
   pub slots-is : v .slots ≡ slots
   pub own-is : v .own ≡ i
 
-in-place : (cable : Cable) (slots i : ℕ) (v : Node) → inPlace cable slots i v ≡ true → InPlace cable slots i v
+pub in-place : (cable : Cable) (slots i : ℕ) (v : Node) → inPlace cable slots i v ≡ true → InPlace cable slots i v
 in-place cable slots i v e =
     let c₁ = both (sound v) (sameCable (v .cable) cable && (eqb (v .slots) slots && eqb (v .own) i)) e in
     let c₂ = both (sameCable (v .cable) cable) (eqb (v .slots) slots && eqb (v .own) i) (c₁ .1) in

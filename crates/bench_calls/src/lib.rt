@@ -19,8 +19,8 @@ ghost use Rattle.bench_walks.specs.Orders.{reachOf, outcomeBy, pairsBy, replyBy
 fn reach_of(notes: Notes) -> usize
     ensures { λ r. ⌜ r ≡ reachOf notes ⌝ }
 {
-    let sight = notes.sight;
-    if sight.same {
+    let lists = notes.lists;
+    if lists.same {
         return 0;
     }
     32
@@ -47,7 +47,7 @@ fn outcome_by(order: Order, list: Listed, apart: u32) -> Outcome
 fn pairs_by(order: Order, notes: Notes) -> u32
     ensures { λ r. ⌜ r ≡ pairsBy order notes ⌝ }
 {
-    let told = notes.told;
+    let told = notes.pairs;
     match order {
         Order::Refuse(_) => 0,
         Order::Start(_, _) => 0,
@@ -84,13 +84,13 @@ fn put_bytes(bytes: [u8; 64], end: usize, pairs: &mut [u8])
 fn tell(pairs: &mut [u8], order: Order, notes: Notes, members: Members) -> Reply
     ensures { λ r. ⌜ (r ≡ replyBy order notes members) × (now (pairs .exit) ≡ writtenBy order notes (now (pairs .entry))) ⌝ }
 {
-    let told = notes.told;
+    let told = notes.pairs;
     let bytes = told.bytes;
     let count = pairs_by(order, notes);
     let end = bytes_told(count, pairs.len());
     put_bytes(bytes, end, pairs);
-    let sight = notes.sight;
-    let list = sight.list;
+    let lists = notes.lists;
+    let list = lists.list;
     let outcome = outcome_by(order, list, members.greatest);
     Reply {
         outcome,

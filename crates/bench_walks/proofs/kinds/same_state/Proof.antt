@@ -4,8 +4,8 @@ use mathlib.Core.Path.{sym, ap, _∙_}
 use mathlib.Core.Bool.{or-false}
 use Rattle.node_record.specs.declared.State.{State}
 use Rattle.bench.specs.Pairs.{sameState}
-use Rattle.bench_walks.proofs.pairs.same_state.Statement.{statement}
-use Rattle.bench_walks.proofs.pairs.same_state.Tie as tie
+use Rattle.bench_walks.proofs.kinds.same_state.Statement.{statement}
+use Rattle.bench_walks.proofs.kinds.same_state.Tie as tie
 
 enum-told : tie.Need-enum-told
 enum-told c = search needs

@@ -3,8 +3,8 @@ use borrow.Author.Needs.{needs}
 use mathlib.Core.Path.{sym, ap₂, _∙_}
 use mathlib.Core.Bool.{_&&_, _||_}
 use Rattle.nodeset.proofs.Tests.{told, chosen, otherwise}
-use Rattle.bench_walks.proofs.pairs.kind_from.Statement.{statement}
-use Rattle.bench_walks.proofs.pairs.kind_from.Tie as tie
+use Rattle.bench_walks.proofs.kinds.kind_from.Statement.{statement}
+use Rattle.bench_walks.proofs.kinds.kind_from.Tie as tie
 
 is-member-requires : tie.Need-is-member-requires
 is-member-requires c κs = search needs
