@@ -83,14 +83,13 @@ fn small_value(word: &[u8]) -> u32
     100
 }
 
-// The place of the first space from `from` on, or the end of the text.
-fn word_end(text: &[u8], from: usize) -> usize
-    requires { ⌜ from ≤ length (now text) ⌝ }
-    ensures { λ r. ⌜ r ≡ from + gap (drop from (now (text .entry))) ⌝ }
+// The place of the first byte of this value from `from` on, or the end of the text.
+pub fn part_end(text: &[u8], from: usize, mark: u8) -> usize
+    ensures { λ r. ⌜ r ≡ from + gap mark (drop from (now (text .entry))) ⌝ }
 {
     let mut i = from;
     while i < text.len() {
-        if text[i] == 32 {
+        if text[i] == mark {
             return i;
         }
         i += 1;
@@ -212,7 +211,7 @@ fn missing(n: u32, text: &[u8]) -> Order
     let mut end = 0;
     let mut at = 0;
     while at <= text.len() {
-        let next = word_end(text, at);
+        let next = part_end(text, at, 32);
         if !follows(&text[last..end], &text[at..next]) {
             return Order::Refused(Refusal::PlanLine);
         }
@@ -309,7 +308,7 @@ pub fn opening_of(line: &[u8]) -> Opening
     if 120 < line.len() {
         return Opening::Refused(Refusal::PlanLine);
     }
-    let end = word_end(line, 0);
+    let end = part_end(line, 0, 32);
     if line.len() <= end {
         return Opening::Refused(Refusal::PlanLine);
     }
