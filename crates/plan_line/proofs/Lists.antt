@@ -13,10 +13,10 @@ use borrow.Author.Tests.{le-leb, lt-leb}
 use Rattle.refusal.specs.declared.Refusal.the-variants.{NodeNumber, PlanLine}
 use Rattle.nodeset.specs.Sets.{with}
 use Rattle.plan_line.specs.declared.Missed.{Missed}
-use Rattle.plan_line.specs.declared.Order.{Order}
-use Rattle.plan_line.specs.declared.Order.the-variants.{Miss, Refused}
+use Rattle.plan_line.specs.declared.Line.{Line}
+use Rattle.plan_line.specs.declared.Line.the-variants.{Miss, Refused}
 use Rattle.plan_line.specs.Words.{gap, isNumber, leastAfter, longer, parted, valueOf, wordsOf}
-use Rattle.plan_line.specs.Plan.{allInRing, allNumbers, ifOrdered, inRing, joined, missedOrder, missingOf, risingFrom, valuesOf, withAll}
+use Rattle.plan_line.specs.Plan.{allInRing, allNumbers, ifRead, inRing, joined, missedLine, missingOf, risingFrom, valuesOf, withAll}
 use Rattle.plan_line.proofs.Words.{and-false}
 use Rattle.plan_line.proofs.Numbers.{form}
 use Rattle.plan_line.proofs.Capped.{in-ring-capped, with-capped}
@@ -24,10 +24,10 @@ use Rattle.plan_line.proofs.Capped.{in-ring-capped, with-capped}
 -- ---- what is left
 
 -- What a line says whose words so far came to `missed`, the last of them `last`, with these words left.
-unfoldable pub rest : ℕ → List ℕ → Missed → List (List ℕ) → Order
+unfoldable pub rest : ℕ → List ℕ → Missed → List (List ℕ) → Line
 rest n last missed words =
-    ifOrdered (allNumbers words && risingFrom (leastAfter last) (valuesOf words)) PlanLine
-    (ifOrdered (missed .inside && allInRing n (valuesOf words)) NodeNumber
+    ifRead (allNumbers words && risingFrom (leastAfter last) (valuesOf words)) PlanLine
+    (ifRead (missed .inside && allInRing n (valuesOf words)) NodeNumber
     (Miss (withAll (missed .set) (valuesOf words))))
 
 pub rest-start : (n : ℕ) (text : List ℕ) → missingOf n text ≡ rest n [] (record { inside = true; set = 0 }) (wordsOf text)
@@ -48,9 +48,9 @@ one-fails true b true d e = let z : _≡_ {A = ℕ} 0 1 = cc in absurd (omega ar
 one-fails true b false d e = and-false b
 one-fails false b c d e = refl
 
-pub rest-end : (n : ℕ) (last : List ℕ) (missed : Missed) → rest n last missed [] ≡ missedOrder missed
+pub rest-end : (n : ℕ) (last : List ℕ) (missed : Missed) → rest n last missed [] ≡ missedLine missed
 unfolding rest allNumbers valuesOf risingFrom allInRing withAll
-rest-end n last missed = ap (λ (b : Bool). ifOrdered b NodeNumber (Miss (missed .set))) (and-true (missed .inside))
+rest-end n last missed = ap (λ (b : Bool). ifRead b NodeNumber (Miss (missed .set))) (and-true (missed .inside))
 
 pub rest-stop : (n : ℕ) (last : List ℕ) (missed : Missed) (word : List ℕ) (words : List (List ℕ)) → (isNumber word && leb (leastAfter last) (valueOf word)) ≡ false
     → rest n last missed (word ∷ words) ≡ Refused PlanLine
@@ -71,7 +71,7 @@ rest-next n last missed word words e =
     let v = valueOf word in
     let least : leastAfter word ≡ suc v = least-more word (form word (both .0) .0) in
     simp (both .0, both .1, least)
-    (ap (λ (b : Bool). ifOrdered (allNumbers words && risingFrom (suc v) (valuesOf words)) PlanLine (ifOrdered b NodeNumber (Miss (withAll (with (missed .set) v) (valuesOf words)))))
+    (ap (λ (b : Bool). ifRead (allNumbers words && risingFrom (suc v) (valuesOf words)) PlanLine (ifRead b NodeNumber (Miss (withAll (with (missed .set) v) (valuesOf words)))))
     (and-assoc (missed .inside) (inRing n v) (allInRing n (valuesOf words))))
 
 pub joined-capped : (n : ℕ) (missed : Missed) (v : ℕ) → joined n missed (min v 100) ≡ joined n missed v

@@ -7,7 +7,7 @@ ghost use Prim.Native.Nat.{_+_, _≤_, min};
 ghost use lib.ListN.{length, drop};
 ghost use lib.Dec.{leb};
 ghost use Rattle.plan_line.specs.Words.{allDigits, begins, gap, isNumber, leadingZero, leastAfter, same, valueOf};
-ghost use Rattle.plan_line.specs.Plan.{inRing, joined, missedOrder, missingOf, namedOf, numbersOf, offOrder, onOrder, openingOf, orderOf, ringOf, wordOf};
+ghost use Rattle.plan_line.specs.Plan.{inRing, joined, missedLine, missingOf, namedOf, numbersOf, offLine, onLine, openingOf, lineOf, ringOf, wordOf};
 
 // What line one says.
 pub enum Opening {
@@ -16,7 +16,7 @@ pub enum Opening {
 }
 
 // What a later line says; Miss holds the set of the nodes named.
-pub enum Order {
+pub enum Line {
     Ok,
     Lost,
     Miss(u32),
@@ -190,17 +190,17 @@ fn joined(n: u32, missed: Missed, a: u32) -> Missed
 }
 
 // What all the words say.
-fn missed_order(missed: Missed) -> Order
-    ensures { λ r. ⌜ r ≡ missedOrder missed ⌝ }
+fn missed_line(missed: Missed) -> Line
+    ensures { λ r. ⌜ r ≡ missedLine missed ⌝ }
 {
     if !missed.inside {
-        return Order::Refused(Refusal::NodeNumber);
+        return Line::Refused(Refusal::NodeNumber);
     }
-    Order::Miss(missed.set)
+    Line::Miss(missed.set)
 }
 
 // What the text after `miss ` says. The next word starts at `at`; the last one is last..end.
-fn missing(n: u32, text: &[u8]) -> Order
+fn missing(n: u32, text: &[u8]) -> Line
     ensures { λ r. ⌜ r ≡ missingOf n (now (text .entry)) ⌝ }
 {
     let mut missed = Missed {
@@ -213,64 +213,64 @@ fn missing(n: u32, text: &[u8]) -> Order
     while at <= text.len() {
         let next = part_end(text, at, 32);
         if !follows(&text[last..end], &text[at..next]) {
-            return Order::Refused(Refusal::PlanLine);
+            return Line::Refused(Refusal::PlanLine);
         }
         missed = joined(n, missed, small_value(&text[at..next]));
         last = at;
         end = next;
         at = next + 1;
     }
-    missed_order(missed)
+    missed_line(missed)
 }
 
 // A node to switch off.
-fn off_order(found: Named) -> Order
-    ensures { λ r. ⌜ r ≡ offOrder found ⌝ }
+fn off_line(found: Named) -> Line
+    ensures { λ r. ⌜ r ≡ offLine found ⌝ }
 {
     match found {
-        Named::Node(a) => Order::Off(a),
-        Named::Refused(cause) => Order::Refused(cause),
+        Named::Node(a) => Line::Off(a),
+        Named::Refused(cause) => Line::Refused(cause),
     }
 }
 
 // A node to restart.
-fn on_order(found: Named) -> Order
-    ensures { λ r. ⌜ r ≡ onOrder found ⌝ }
+fn on_line(found: Named) -> Line
+    ensures { λ r. ⌜ r ≡ onLine found ⌝ }
 {
     match found {
-        Named::Node(a) => Order::On(a),
-        Named::Refused(cause) => Order::Refused(cause),
+        Named::Node(a) => Line::On(a),
+        Named::Refused(cause) => Line::Refused(cause),
     }
 }
 
 // What a line of any length says.
-fn word(n: u32, line: &[u8]) -> Order
+fn word(n: u32, line: &[u8]) -> Line
     ensures { λ r. ⌜ r ≡ wordOf n (now (line .entry)) ⌝ }
 {
     if same(b"ok", line) {
-        return Order::Ok;
+        return Line::Ok;
     }
     if same(b"lost", line) {
-        return Order::Lost;
+        return Line::Lost;
     }
     if begins(b"miss ", line) {
         return missing(n, &line[5..]);
     }
     if begins(b"off ", line) {
-        return off_order(node_named(n, &line[4..]));
+        return off_line(node_named(n, &line[4..]));
     }
     if begins(b"on ", line) {
-        return on_order(node_named(n, &line[3..]));
+        return on_line(node_named(n, &line[3..]));
     }
-    Order::Refused(Refusal::PlanLine)
+    Line::Refused(Refusal::PlanLine)
 }
 
 // What a line after line one says. It refuses by 12 and 3, in this order.
-pub fn order_of(n: u32, line: &[u8]) -> Order
-    ensures { λ r. ⌜ r ≡ orderOf n (now (line .entry)) ⌝ }
+pub fn line_of(n: u32, line: &[u8]) -> Line
+    ensures { λ r. ⌜ r ≡ lineOf n (now (line .entry)) ⌝ }
 {
     if 120 < line.len() {
-        return Order::Refused(Refusal::PlanLine);
+        return Line::Refused(Refusal::PlanLine);
     }
     word(n, line)
 }

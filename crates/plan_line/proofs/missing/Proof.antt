@@ -128,14 +128,14 @@ loop-again c =
           ∙ ap (λ (m : Missed). rest (a .n) (word at-word) m (partsFrom 32 t (next + 1))) (sym missed),
     )
 
-missed-order-requires : tie.Need-missed-order-requires Inv-loop μ-loop
-missed-order-requires c κs = search needs
+missed-line-requires : tie.Need-missed-line-requires Inv-loop μ-loop
+missed-line-requires c κs = search needs
 
 returns-2 : tie.Need-returns-2 Inv-loop μ-loop
 returns-2 c =
     let t = now (c .before .before .before .before .args .text) in
     let loop = c .before .before .loop in
-    c .missed-order .ensures ∙ sym (loop .inv .5 ∙ ap (rest _ _ _) (from-end 32 t (loop .at) (c .before .loop-test .left)) ∙ rest-end _ _ _)
+    c .missed-line .ensures ∙ sym (loop .inv .5 ∙ ap (rest _ _ _) (from-end 32 t (loop .at) (c .before .loop-test .left)) ∙ rest-end _ _ _)
 
 pub missing-spec : {M : Type 1} → statement M
 missing-spec =
@@ -161,5 +161,5 @@ missing-spec =
     add-at
     loop-less
     loop-again
-    missed-order-requires
+    missed-line-requires
     returns-2)
