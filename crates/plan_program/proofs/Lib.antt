@@ -1,0 +1,4 @@
+pub mod Lines
+pub mod Chunks
+pub mod Turns
+pub mod Pieces
