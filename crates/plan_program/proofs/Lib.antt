@@ -1,4 +1,6 @@
 pub mod Lines
 pub mod Chunks
 pub mod Turns
+pub mod Sound
+pub mod Distances
 pub mod Pieces

@@ -1,3 +1,4 @@
 pub mod Program
 pub mod Calls
+pub mod Distances
 pub mod Inner

@@ -1,0 +1,167 @@
+-- The tables of a plan are those of demand 3's calls, and where these keep its premises every printed distance is 0. Assumes nothing.
+use Prim.Native.Nat.{ℕ, _-_, _≤_}
+use mathlib.Core.Path.{_≡_, refl, sym, ap, _∙_}
+use mathlib.Core.Bool.{Bool, true, false, cond}
+use mathlib.Core.List.{List, [], _∷_, _++_, append-nil}
+use native.Mathlib.Omega.{arith}
+use lib.Dec.{eqb}
+use lib.ListN.{length, length-replicate, length-take}
+use Rattle.nodeset.proofs.Tests.{by-cases}
+use Rattle.node.specs.Calls.{noNode}
+use Rattle.node.specs.declared.Answer.{Answer}
+use Rattle.node.specs.declared.Answer.the-variants.{Done, Refused}
+use Rattle.bench.specs.Table.{Table}
+use Rattle.bench.specs.declared.Command.the-variants.{Slot}
+use Rattle.bench.specs.Calls.{offOf, restartOf, setUpOf, slotOf}
+use Rattle.bench.specs.Outcomes.{endedOf, quietOutcome, slotOutcome}
+use Rattle.bench.specs.Runs.{Call, slot, off, restart, isDone, isSlot, tableAfter}
+use Rattle.bench.specs.Demand.{AtEach, EverySequence}
+use Rattle.bench.specs.Told as told
+use Rattle.bench.specs.Told.{SlotTells}
+use Rattle.bench.proofs.agreement.Throughout.{distance-throughout}
+use Rattle.bench_by_value.specs.ByValue as by-value
+use Rattle.bench_by_value.specs.ByValue.{tableOf}
+use Rattle.plan_line.specs.declared.Opening.{Opening}
+use Rattle.plan_line.specs.declared.Opening.the-variants.{Ring}
+use Rattle.plan_line.specs.declared.Line.{Line}
+use Rattle.plan_line.specs.declared.Line.the-variants as lines
+use Rattle.plan_line.specs.Plan.{lineOf, openingOf}
+use Rattle.plan_line.proofs.Ranges.{RingIn, opened}
+use Rattle.plan_run.specs.Run.{actOf, noRows, openedBy, ranBy}
+use Rattle.plan_program.specs.declared.Plan.{Plan}
+use Rattle.plan_program.specs.Program.{afterLine, counted, lineText, linesIn, noPlan, planOpened, runOf}
+use Rattle.plan_program.specs.Calls.{planSound}
+use Rattle.plan_program.specs.Distances.{afterLines, callsIn, callsOf, madeBy, startOf, textsOf, whole, AtEachLine, NoDistance, NoDistancePrinted, Opens, SameTables}
+use Rattle.plan_program.proofs.Sound.{After, counted-some, first-line, later-line, opened-table, over-line, ran-line, sound-line}
+
+-- ---- the text of a run is that of its lines
+
+pub texts-run : (p : Plan) (parts : List (List ℕ)) → runOf p parts .text ≡ textsOf p (whole parts)
+unfolding runOf textsOf whole
+texts-run p [] = refl
+texts-run p (rest ∷ []) = refl
+texts-run p (line ∷ next ∷ parts) = ap (λ (t : List ℕ). lineText (afterLine p line) ++ t) (texts-run (afterLine p line) (next ∷ parts))
+
+-- ---- tables
+
+-- the table after the calls of a line, and after those before it
+in-turn : (start : Table) (p : Plan) (l : List ℕ) (before : List Call) → tableAfter start (callsIn p l ++ before) ≡ tableAfter (tableAfter start before) (callsIn p l)
+unfolding tableAfter
+in-turn start p l before = go (p .over) (lineOf (p .n) l)
+  where
+    go : (over : Bool) (said : Line) → tableAfter start (cond over [] (madeBy said) ++ before) ≡ tableAfter (tableAfter start before) (cond over [] (madeBy said))
+    go true said = refl
+    go false lines.Ok = refl
+    go false lines.Lost = refl
+    go false (lines.Miss missed) = refl
+    go false (lines.Off a) = refl
+    go false (lines.On a) = refl
+    go false (lines.Refused cause) = refl
+
+-- A plan after line one and these calls.
+record Reached (start : Table) (p : Plan) (cs : List Call) : Type 0 where
+  opened : eqb (p .lines) 0 ≡ false
+  sound : planSound p ≡ true
+  table : tableOf (p .n) (p .rows) ≡ tableAfter start cs
+
+next : (start : Table) (p : Plan) (l : List ℕ) (cs : List Call) → Reached start p cs → Reached start (afterLine p l) (callsIn p l ++ cs)
+next start p l cs r =
+    let a = later-line p l (r .opened) (r .sound) in
+    record {
+      opened = a .opened;
+      sound = a .sound;
+      table = a .table ∙ ap (λ (t : Table). tableAfter t (callsIn p l)) (r .table) ∙ sym (in-turn start p l cs);
+    }
+
+all : (start : Table) (p : Plan) (cs : List Call) (more : List (List ℕ)) → Reached start p cs
+    → tableOf (afterLines p more .n) (afterLines p more .rows) ≡ tableAfter start (callsOf p cs more)
+unfolding afterLines callsOf
+all start p cs [] r = r .table
+all start p cs (l ∷ more) r = all start (afterLine p l) (callsIn p l ++ cs) more (next start p l cs r)
+
+-- ---- line one
+
+module _ (n k : ℕ) (first : List ℕ) (opens : Opens n k first) where
+  ring : RingIn (Ring n k)
+  ring = rw (opens .says) at (opened first)
+
+  abbrev p₁ : Plan
+  p₁ = afterLine noPlan first
+
+  begun : p₁ ≡ planOpened (counted 0) (openedBy (Ring n k))
+  begun = first-line noPlan first refl refl ∙ ap (λ (o : Opening). planOpened (counted 0) (openedBy o)) (opens .says)
+
+  reached-first : Reached (startOf n k) p₁ []
+  unfolding tableAfter planSound
+  reached-first = record {
+    opened = ap (λ (p : Plan). eqb (p .lines) 0) begun ∙ counted-some 0;
+    sound = sound-line noPlan first refl;
+    table = ap (λ (p : Plan). tableOf (p .n) (p .rows)) begun ∙ opened-table n k (ring .0) (ring .1) (ring .2) (omega (arith, ring .3));
+  }
+
+pub same-tables : SameTables
+same-tables n k first opens more = all (startOf n k) (afterLine noPlan first) [] more (reached-first n k first opens)
+
+-- ---- distances
+
+quiet-tells : (a : Answer) → NoDistance (quietOutcome a)
+quiet-tells Done = tt
+quiet-tells (Refused cause) = tt
+
+slot-tells : (lost : Bool) (missed : ℕ) (t : Table) → (isSlot (slot lost missed 64) t ≡ true → told.NoDistance (endedOf (Slot lost missed) 64 t .reply .outcome))
+    → NoDistance (endedOf (Slot lost missed) 64 t .reply .outcome)
+unfolding endedOf isSlot
+slot-tells lost missed t h = go (slotOf lost missed 64 t .answer) h
+  where
+    go : (a : Answer) → (isDone a ≡ true → told.NoDistance (slotOutcome lost t (slotOf lost missed 64 t .table) a)) → NoDistance (slotOutcome lost t (slotOf lost missed 64 t .table) a)
+    go Done h = h refl
+    go (Refused cause) h = tt
+
+module _ (start : Table) (p : Plan) (l : List ℕ) (cs : List Call) (r : Reached start p cs) where
+  said-tells : (said : Line) → AtEach (SlotTells start) (madeBy said ++ cs) → NoDistance (ranBy (p .n) (p .rows) (actOf said) .outcome)
+  unfolding AtEach by-value.callOf endedOf
+  said-tells lines.Ok tells = slot-tells false 0 (tableOf (p .n) (p .rows)) (rw (r .table) (tells .1))
+  said-tells lines.Lost tells = slot-tells true 0 (tableOf (p .n) (p .rows)) (rw (r .table) (tells .1))
+  said-tells (lines.Miss missed) tells = slot-tells false missed (tableOf (p .n) (p .rows)) (rw (r .table) (tells .1))
+  said-tells (lines.Off a) tells = quiet-tells (offOf a (tableOf (p .n) (p .rows)) .answer)
+  said-tells (lines.On a) tells = quiet-tells (restartOf a (tableOf (p .n) (p .rows)) .answer)
+  said-tells (lines.Refused cause) tells = tt
+
+  line-tells : AtEach (SlotTells start) (callsIn p l ++ cs) → NoDistance (afterLine p l .outcome)
+  line-tells tells =
+      by-cases (p .over)
+      (λ over. rw (over-line p l over) tt)
+      (λ going. rw (ran-line p l (r .opened) going) (said-tells (lineOf (p .n) l) (rw going at tells)))
+
+  earlier : AtEach (SlotTells start) (callsIn p l ++ cs) → AtEach (SlotTells start) cs
+  unfolding AtEach
+  earlier = go (p .over) (lineOf (p .n) l)
+    where
+      go : (over : Bool) (said : Line) → AtEach (SlotTells start) (cond over [] (madeBy said) ++ cs) → AtEach (SlotTells start) cs
+      go true said tells = tells
+      go false lines.Ok tells = tells .0
+      go false lines.Lost tells = tells .0
+      go false (lines.Miss missed) tells = tells .0
+      go false (lines.Off a) tells = tells .0
+      go false (lines.On a) tells = tells .0
+      go false (lines.Refused cause) tells = tells
+
+each : (start : Table) (p : Plan) (cs : List Call) (more : List (List ℕ)) → Reached start p cs → AtEach (SlotTells start) (callsOf p cs more)
+    → AtEachLine NoDistance p more × AtEach (SlotTells start) cs
+unfolding AtEachLine callsOf
+each start p cs [] r tells = (tt, tells)
+each start p cs (l ∷ more) r tells =
+    let later = each start (afterLine p l) (callsIn p l ++ cs) more (next start p l cs r) tells in
+    ((line-tells start p l cs r (later .1), later .0), earlier start p l cs r (later .1))
+
+first-tells : (n k : ℕ) (first : List ℕ) → Opens n k first → NoDistance (afterLine noPlan first .outcome)
+unfolding by-value.callOf endedOf
+first-tells n k first opens = rw (begun n k first opens) (quiet-tells (setUpOf n k (tableOf n noRows) .answer))
+
+pub no-distance-printed : NoDistancePrinted
+unfolding AtEachLine EverySequence
+no-distance-printed n k input first more is opens premises =
+    let r = ring n k first opens in
+    let lent : length (tableOf n noRows) ≡ n = omega (arith, length-take n noRows, length-replicate 32 noNode) in
+    let slots = distance-throughout n k (r .0) (r .1) (r .2) (omega (arith, r .3)) (tableOf n noRows) lent (callsOf (afterLine noPlan first) [] more) premises .slots in
+    rw is (first-tells n k first opens, each (startOf n k) (afterLine noPlan first) [] more (reached-first n k first opens) slots .0)
