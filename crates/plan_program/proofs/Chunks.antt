@@ -25,12 +25,12 @@ parts-some (b ∷ xs) = go (parts-some xs) (eqb b 10)
     go s true = some [] (linesIn xs) refl
     go s false = longer-some b (linesIn xs) s
 
-ahead-longer : (x : List ℕ) (b : ℕ) (ps : List (List ℕ)) → Some ps → begunWith x (longer b ps) ≡ begunWith (x ++ (b ∷ [])) ps
-ahead-longer x b ps (some p more e) =
+begun-longer : (x : List ℕ) (b : ℕ) (ps : List (List ℕ)) → Some ps → begunWith x (longer b ps) ≡ begunWith (x ++ (b ∷ [])) ps
+begun-longer x b ps (some p more e) =
     ap (λ (q : List (List ℕ)). begunWith x (longer b q)) e ∙ ap (λ (w : List ℕ). w ∷ more) (sym (append-assoc x (b ∷ []) p)) ∙ sym (ap (begunWith (x ++ (b ∷ []))) e)
 
-pub ahead-none : (ps : List (List ℕ)) → Some ps → begunWith [] ps ≡ ps
-ahead-none ps (some p more e) = ap (begunWith []) e ∙ sym e
+pub begun-none : (ps : List (List ℕ)) → Some ps → begunWith [] ps ≡ ps
+begun-none ps (some p more e) = ap (begunWith []) e ∙ sym e
 
 -- a line, and more parts
 pub fed-line : (p : Plan) (line : List ℕ) (ps : List (List ℕ)) → Some ps → runOf p (line ∷ ps) ≡ textThen (lineText (afterLine p line)) (runOf (afterLine p line) ps)
@@ -54,12 +54,12 @@ chunks (c ∷ a) x p b = go (λ y q. chunks a y q b) (eqb c 10)
     go ih true =
         fed-line p (x ++ []) (linesIn (a ++ b)) (parts-some (a ++ b))
         ∙ ap (textThen (lineText (afterLine p (x ++ [])))) (
-        ap (runOf (afterLine p (x ++ []))) (sym (ahead-none (linesIn (a ++ b)) (parts-some (a ++ b))))
+        ap (runOf (afterLine p (x ++ []))) (sym (begun-none (linesIn (a ++ b)) (parts-some (a ++ b))))
         ∙ ih [] (afterLine p (x ++ []))
-        ∙ ap (λ (z : List (List ℕ)). onwards (runOf (afterLine p (x ++ [])) z) b) (ahead-none (linesIn a) (parts-some a)))
+        ∙ ap (λ (z : List (List ℕ)). onwards (runOf (afterLine p (x ++ [])) z) b) (begun-none (linesIn a) (parts-some a)))
         ∙ after-after (lineText (afterLine p (x ++ []))) (runOf (afterLine p (x ++ [])) (linesIn a)) b
         ∙ ap (λ (f : Run). onwards f b) (sym (fed-line p (x ++ []) (linesIn a) (parts-some a)))
     go ih false =
-        ap (runOf p) (ahead-longer x c (linesIn (a ++ b)) (parts-some (a ++ b)))
+        ap (runOf p) (begun-longer x c (linesIn (a ++ b)) (parts-some (a ++ b)))
         ∙ ih (x ++ (c ∷ [])) p
-        ∙ ap (λ (z : List (List ℕ)). onwards (runOf p z) b) (sym (ahead-longer x c (linesIn a) (parts-some a)))
+        ∙ ap (λ (z : List (List ℕ)). onwards (runOf p z) b) (sym (begun-longer x c (linesIn a) (parts-some a)))

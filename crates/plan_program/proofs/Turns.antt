@@ -14,7 +14,7 @@ use Rattle.plan_program.specs.declared.Ahead.{Ahead}
 use Rattle.plan_program.specs.Program.{afterLine, lineText, linesIn, runOf, textThen, Run}
 use Rattle.plan_program.specs.Calls.{begunWith, bytesIn, runPiece}
 use Rattle.plan_program.specs.Inner.{Goes}
-use Rattle.plan_program.proofs.Chunks.{fed-line, ahead-none, parts-some}
+use Rattle.plan_program.proofs.Chunks.{fed-line, begun-none, parts-some}
 use Rattle.plan_program.proofs.Lines.{enough, line-at, last-at, text-short}
 
 -- Of a runPiece that begins at plan `p₀` with `x₀` of a line, the bytes before `at` were run, and came to plan `p` with `x` of a line.
@@ -37,7 +37,7 @@ module _ {p₀ : Plan} {x₀ input out₀ : List ℕ} {p : Plan} {x : List ℕ} 
       ap (λ (ps : List (List ℕ)). runOf p (begunWith x ps)) (line-at input at e ends inside more)
       ∙ fed-line p line left (parts-some (drop (e + 1) input))
       ∙ ap (λ (u : Plan). textThen (lineText u) (runOf u left)) (sym (told ∙ enough p line))
-      ∙ ap (λ (ps : List (List ℕ)). textThen (lineText t) (runOf t ps)) (sym (ap (λ (y : List ℕ). begunWith y left) none ∙ ahead-none left (parts-some (drop (e + 1) input))))
+      ∙ ap (λ (ps : List (List ℕ)). textThen (lineText t) (runOf t ps)) (sym (ap (λ (y : List ℕ). begunWith y left) none ∙ begun-none left (parts-some (drop (e + 1) input))))
 
   pub turn : (t : Plan) (x′ : List ℕ) (next : ℕ) (out′ : List ℕ) → e < length input → t ≡ afterLine p (take 121 (x ++ take (e - at) (drop at input))) → x′ ≡ []
       → PutAt next held (lineText t) out out′ → length out′ ≡ length out → Sofar p₀ x₀ input out₀ t x′ next (e + 1) out′

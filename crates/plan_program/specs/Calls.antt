@@ -1,5 +1,6 @@
--- What `feed`, `finish` and `print_plan` answer, and what they leave in the lent bytes. The law that ties them: proofs/Pieces, `pieces-print`.
-use Prim.Native.Nat.{ℕ, _+_, _*_}
+-- What `feed`, `finish` and `print_plan` answer, what they leave in the lent bytes, and the law that ties them.
+use Prim.Native.Nat.{ℕ, _+_, _*_, _≤_}
+use mathlib.Core.Path.{_≡_}
 use mathlib.Core.Bool.{Bool, true, cond}
 use mathlib.Core.List.{List, [], _∷_, _++_}
 use lib.Dec.{eqb, leb}
@@ -8,12 +9,13 @@ use Rattle.refusal.specs.declared.Refusal.{Refusal}
 use Rattle.refusal.specs.Causes.{cause}
 use Rattle.bench.specs.Table.{tableSound}
 use Rattle.bench_by_value.specs.ByValue.{tableOf}
+use Rattle.plan_text.specs.Text.{writtenOf}
 use Rattle.plan_text.specs.declared.Written.{Written}
 use Rattle.plan_text.specs.declared.Written.the-variants.{Bytes, Refused}
 use Rattle.plan_program.specs.declared.Plan.{Plan}
 use Rattle.plan_program.specs.declared.Part.{Part}
 use Rattle.plan_program.specs.declared.Fed as code
-use Rattle.plan_program.specs.Program.{Run, runOf, textThen, linesIn, printed}
+use Rattle.plan_program.specs.Program.{Run, endText, linesIn, noPlan, printed, runOf}
 
 -- ---- a text that comes in pieces
 
@@ -26,19 +28,9 @@ abbrev pub begunWith : List ℕ → List (List ℕ) → List (List ℕ)
 begunWith begun [] = begun ∷ []
 begunWith begun (line ∷ parts) = (begun ++ line) ∷ parts
 
+-- The lines that end in a piece, where these bytes have come of the first.
 abbrev pub runPiece : Plan → List ℕ → List ℕ → Run
 runPiece p begun input = runOf p (begunWith begun (linesIn input))
-
--- All pieces one after the other. Of a line that has not ended 121 bytes are kept: "Lines of at most 120 bytes".
-unfoldable pub runPieces : Plan → List ℕ → List (List ℕ) → Run
-runPieces p begun [] = record { plan = p; rest = begun; text = [] }
-runPieces p begun (input ∷ more) =
-    let r = runPiece p begun input in
-    textThen (r .text) (runPieces (r .plan) (take 121 (r .rest)) more)
-
-abbrev pub joined : List (List ℕ) → List ℕ
-joined [] = []
-joined (input ∷ more) = input ++ joined more
 
 -- ---- feed: 4 and 9
 
@@ -61,6 +53,7 @@ pub record Fed : Type 0 where
   pub written : Written
   pub out : List ℕ
 
+-- Of a line that has not ended 121 bytes are kept: "Lines of at most 120 bytes".
 abbrev pub fedBy : Run → List ℕ → Fed
 fedBy r out = record { plan = r .plan; begun = take 121 (r .rest); written = Bytes (length (r .text)); out = laid (r .text) out }
 
@@ -86,3 +79,41 @@ printedIn input out =
     cond (leb (80 * length input + 80) (length out))
     (Bytes (length (printed input)), laid (printed input) out)
     (Refused (cause 9), out)
+
+-- ---- finish: 9
+
+-- What is printed where the input ends.
+abbrev pub finishedOf : Plan → List ℕ → List ℕ → Written × List ℕ
+finishedOf p begun out = writtenOf (endText p begun) 0 out
+
+-- ---- the law: a text may come in any pieces
+
+-- A piece of a text, and the bytes that are lent for what is printed of it.
+pub record Piece : Type 0 where
+  pub input : List ℕ
+  pub out : List ℕ
+
+-- The bytes that a call wrote.
+abbrev pub writtenIn : Written → List ℕ → List ℕ
+writtenIn (Bytes count) out = take count out
+writtenIn (Refused cause) out = []
+
+-- Each piece is fed with what the call before it left; then the input ends. What the calls write, one after the other:
+unfoldable pub textsFed : Plan → List ℕ → List Piece → List ℕ → List ℕ
+textsFed p begun [] last = let w = finishedOf p begun last in writtenIn (w .0) (w .1)
+textsFed p begun (c ∷ more) last =
+    let f = fedOf p begun (c .input) (c .out) in
+    writtenIn (f .written) (f .out) ++ textsFed (f .plan) (f .begun) more last
+
+-- The whole text.
+abbrev pub joined : List Piece → List ℕ
+joined [] = []
+joined (c ∷ more) = c .input ++ joined more
+
+-- There is room for what is printed of each piece, and of the end.
+abbrev pub Roomy : List Piece → List ℕ → Type 0
+Roomy [] last = 80 ≤ length last
+Roomy (c ∷ more) last = (hasRoom (c .input) (c .out) ≡ true) × Roomy more last
+
+abbrev pub PiecesPrint : Type 0
+PiecesPrint = (pieces : List Piece) (last : List ℕ) → Roomy pieces last → textsFed noPlan [] pieces last ≡ printed (joined pieces)

@@ -15,9 +15,9 @@ ghost use lib.ListN.{length, take};
 ghost use Rattle.bench.specs.Table.{tableSound};
 ghost use Rattle.bench_by_value.specs.ByValue.{tableOf};
 ghost use Rattle.plan_run.specs.Run.{openedOf};
-ghost use Rattle.plan_text.specs.Text.{PutAt, writtenOf};
+ghost use Rattle.plan_text.specs.Text.{PutAt};
 ghost use Rattle.plan_program.specs.Program.{counted, endText, isRefused, mayEnd, noPlan, textOf};
-ghost use Rattle.plan_program.specs.Calls.{bytesIn, fedAs, fedOf, planSound, printedIn, runPiece};
+ghost use Rattle.plan_program.specs.Calls.{bytesIn, fedAs, fedOf, finishedOf, planSound, printedIn, runPiece};
 ghost use Rattle.plan_program.specs.Inner.{endOf, lineRan, linesAfter, openedRan, overAfter, runRan, sizeAfter, Goes};
 
 // A plan as far as its lines have been run: how many, the bench (the first n rows are its table),
@@ -361,7 +361,7 @@ fn put_end(out: &mut [u8], at: usize, plan: Plan, part: Part) -> usize
 
 // Ends the input. It refuses by 9, and then does nothing.
 pub fn finish(plan: Plan, part: Part, out: &mut [u8]) -> Written
-    ensures { λ r. ⌜ (r, now (out .exit)) ≡ writtenOf (endText plan (bytesIn part)) 0 (now (out .entry)) ⌝ }
+    ensures { λ r. ⌜ (r, now (out .exit)) ≡ finishedOf plan (bytesIn part) (now (out .entry)) ⌝ }
 {
     if out.len() < 80 {
         return Written::Refused(Refusal::OutputShort);
