@@ -4,3 +4,4 @@ pub mod Turns
 pub mod Sound
 pub mod Distances
 pub mod Pieces
+pub mod Computed
