@@ -70,8 +70,8 @@ abbrev pub SameTables : Type 0
 SameTables =
     (n k : ℕ) (first : List ℕ) → Opens n k first → (more : List (List ℕ))
     → let opened = afterLine noPlan first in
-      let p = afterLines opened more in
-      tableOf (p .n) (p .rows) ≡ tableAfter (startOf n k) (callsOf opened [] more)
+    let p = afterLines opened more in
+    tableOf (p .n) (p .rows) ≡ tableAfter (startOf n k) (callsOf opened [] more)
 
 -- What is printed of a line tells no distance but 0.
 abbrev pub NoDistance : Outcome → Type 0

@@ -1,9 +1,9 @@
--- `bench_runs::answers::put_rows` is safe and ends. Each turn puts one row more; the measure is the number of rows that are left.
+-- `node_bytes::rows::put_rows` is safe and ends. Each turn puts one row more; the measure is the number of rows that are left.
 -- Assumes nothing.
 use Prim.Native.Nat.{_-_}
 use borrow.Author.Needs.{needs}
-use Rattle.bench_runs.proofs.answers.put_rows.Statement.{statement}
-use Rattle.bench_runs.proofs.answers.put_rows.Tie as tie
+use Rattle.node_bytes.proofs.rows.put_rows.Statement.{statement}
+use Rattle.node_bytes.proofs.rows.put_rows.Tie as tie
 
 abbrev Inv-loop : tie.InvT-loop
 Inv-loop output₀ held rows held₀ i₀ output held' i = Unit {0}
