@@ -1,8 +1,8 @@
 -- The tables of a plan are those of demand 3's calls, and where these keep its premises every printed distance is 0. Assumes nothing.
-use Prim.Native.Nat.{ℕ, _-_, _≤_}
+use Prim.Native.Nat.{ℕ, _-_}
 use mathlib.Core.Path.{_≡_, refl, sym, ap, _∙_}
 use mathlib.Core.Bool.{Bool, true, false, cond}
-use mathlib.Core.List.{List, [], _∷_, _++_, append-nil}
+use mathlib.Core.List.{List, [], _∷_, _++_}
 use native.Mathlib.Omega.{arith}
 use lib.Dec.{eqb}
 use lib.ListN.{length, length-replicate, length-take}
@@ -14,7 +14,7 @@ use Rattle.bench.specs.Table.{Table}
 use Rattle.bench.specs.declared.Command.the-variants.{Slot}
 use Rattle.bench.specs.Calls.{offOf, restartOf, setUpOf, slotOf}
 use Rattle.bench.specs.Outcomes.{endedOf, quietOutcome, slotOutcome}
-use Rattle.bench.specs.Runs.{Call, slot, off, restart, isDone, isSlot, tableAfter}
+use Rattle.bench.specs.Runs.{Call, slot, isDone, isSlot, tableAfter}
 use Rattle.bench.specs.Demand.{AtEach, EverySequence}
 use Rattle.bench.specs.Told as told
 use Rattle.bench.specs.Told.{SlotTells}
@@ -25,14 +25,14 @@ use Rattle.plan_line.specs.declared.Opening.{Opening}
 use Rattle.plan_line.specs.declared.Opening.the-variants.{Ring}
 use Rattle.plan_line.specs.declared.Line.{Line}
 use Rattle.plan_line.specs.declared.Line.the-variants as lines
-use Rattle.plan_line.specs.Plan.{lineOf, openingOf}
+use Rattle.plan_line.specs.Plan.{lineOf}
 use Rattle.plan_line.proofs.Ranges.{RingIn, opened}
 use Rattle.plan_run.specs.Run.{actOf, noRows, openedBy, ranBy}
 use Rattle.plan_program.specs.declared.Plan.{Plan}
-use Rattle.plan_program.specs.Program.{afterLine, counted, lineText, linesIn, noPlan, planOpened, runOf}
+use Rattle.plan_program.specs.Program.{afterLine, counted, lineText, noPlan, planOpened, runOf}
 use Rattle.plan_program.specs.Calls.{planSound}
 use Rattle.plan_program.specs.Distances.{afterLines, callsIn, callsOf, madeBy, startOf, textsOf, whole, AtEachLine, NoDistance, NoDistancePrinted, Opens, SameTables}
-use Rattle.plan_program.proofs.Sound.{After, counted-some, first-line, later-line, opened-table, over-line, ran-line, sound-line}
+use Rattle.plan_program.proofs.Sound.{counted-some, first-line, later-line, opened-table, over-line, ran-line, sound-line}
 
 -- ---- the text of a run is that of its lines
 

@@ -9,7 +9,7 @@ use native.Mathlib.Decide.{decLe}
 use lib.Dec.{eqb, leb}
 use lib.ListN.{length, take, drop, getD, set, length-append}
 use lib.Seq.{length-take-le, take-all, take-suc, take-suc-set, take-append-add}
-use borrow.Author.Tests.{eq-eqb, ne-eqb, le-leb, lt-leb}
+use borrow.Author.Tests.{ne-eqb, le-leb, lt-leb}
 use Rattle.refusal.specs.declared.Refusal.the-variants.{PlanLine}
 use Rattle.refusal.specs.Causes.{numberOf}
 use Rattle.bench.specs.declared.Outcome.{Outcome}

@@ -25,11 +25,10 @@ use Rattle.plan_line.specs.declared.Line.{Line}
 use Rattle.plan_line.specs.declared.Line.the-variants as lines
 use Rattle.plan_line.specs.Plan.{openingOf, lineOf}
 use Rattle.plan_line.proofs.Ranges.{RingIn, opened}
-use Rattle.plan_run.specs.declared.Opened.{Opened}
 use Rattle.plan_run.specs.Run.{actOf, noRows, openedBy, openedOf, ranBy, ranOf}
 use Rattle.plan_program.specs.declared.Plan.{Plan}
-use Rattle.plan_program.specs.Program.{Run, afterLine, counted, isRefused, lineText, linesIn, noPlan, planOpened, planRan, quiet, runLine, runOf, textThen}
-use Rattle.plan_program.specs.Calls.{begunWith, planSound, runPiece}
+use Rattle.plan_program.specs.Program.{afterLine, counted, planOpened, planRan, quiet, runLine, runOf}
+use Rattle.plan_program.specs.Calls.{planSound}
 use Rattle.plan_program.specs.Distances.{callsIn, madeBy, startOf}
 
 -- the table of rows whose table was replaced by one of the same size

@@ -1,10 +1,9 @@
 -- `plan_program::may_end` meets its contract. Assumes nothing.
 use borrow.Author.Needs.{needs}
 use native.Mathlib.Omega.{arith}
-use mathlib.Core.Path.{_≡_, sym, _∙_}
-use lib.ListN.{length, take, length-take}
+use mathlib.Core.Path.{_≡_}
+use lib.ListN.{length}
 use borrow.Author.Tests.{eq-eqb, ne-eqb}
-use Rattle.plan_program.specs.Program.{mayEnd}
 use Rattle.plan_program.proofs.Lines.{empty-is}
 use Rattle.plan_program.proofs.may_end.Statement.{statement}
 use Rattle.plan_program.proofs.may_end.Tie as tie

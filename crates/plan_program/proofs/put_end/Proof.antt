@@ -1,10 +1,8 @@
 -- `plan_program::put_end` meets its contract. Assumes nothing.
 use borrow.Author.Needs.{needs}
-use mathlib.Core.Path.{_≡_, sym, _∙_}
-use mathlib.Core.Bool.{true, false}
+use mathlib.Core.Path.{sym, _∙_}
 use denote.Ref.{now}
 use Rattle.plan_text.proofs.Paste.{nothing}
-use Rattle.plan_program.specs.Program.{mayEnd}
 use Rattle.plan_program.specs.Calls.{bytesIn}
 use Rattle.plan_program.proofs.Pieces.{end-none, end-some}
 use Rattle.plan_program.proofs.put_end.Statement.{statement}

@@ -1,6 +1,6 @@
 -- `plan_runs::part_of` is safe and ends. Each turn copies one byte more; the measure is the number of bytes that are left. Assumes nothing.
 use Prim.Native.Nat.{_-_}
-use mathlib.Core.Path.{_≡_, _∙_}
+use mathlib.Core.Path.{_≡_}
 use borrow.Author.Needs.{needs}
 use lib.ListN.{length-set}
 use lib.ListN as ListN
