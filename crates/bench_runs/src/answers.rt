@@ -6,8 +6,6 @@ use bench::Fate;
 use bench::Listed;
 use bench::Outcome;
 use bench_by_value::Ran;
-use node_bytes::bytes;
-use node_record::Node;
 use run_io::block;
 use run_io::block::Block;
 use run_io::output;
@@ -53,20 +51,4 @@ pub fn put_told(output: &mut [u8; 4096], held: usize, ran: Ran) -> usize {
     set_told(&mut answer, outcome);
     block::set_word(&mut answer, 23, ran.pairs);
     output::put_block(output, held, &answer, 27)
-}
-
-fn put_row(output: &mut [u8; 4096], held: usize, row: Node) -> usize {
-    let mut record = [0u8; 255];
-    bytes::set_node(&mut record, row);
-    output::put_block(output, held, &record, 51)
-}
-
-pub fn put_rows(output: &mut [u8; 4096], held: usize, rows: [Node; 32]) -> usize {
-    let mut held = held;
-    let mut i = 0;
-    while i < 32 {
-        held = put_row(output, held, rows[i]);
-        i += 1;
-    }
-    held
 }

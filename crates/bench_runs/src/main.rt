@@ -19,6 +19,7 @@ mod answers;
 use bench::Command;
 use bench_by_value::Ran;
 use node_bytes::bytes;
+use node_bytes::rows;
 use node_record::Node;
 use run_io::block;
 use run_io::block::Block;
@@ -102,21 +103,12 @@ fn run_call(output: &mut [u8; 4096], state: Held, room: u8, command: Command) ->
     let held = answers::put_told(output, state.held, ran);
     let held = output::put_block(output, held, &buffer, room);
     let rows = ran.rows;
-    let held = answers::put_rows(output, held, rows);
+    let held = rows::put_rows(output, held, rows);
     Held {
         rows: rows,
         size: state.size,
         held: held,
     }
-}
-
-// A row that there is not stays as it is.
-fn loaded(rows: [Node; 32], row: usize, node: Node) -> [Node; 32] {
-    let mut rows = rows;
-    if row < 32 {
-        rows[row] = node;
-    }
-    rows
 }
 
 fn run(output: &mut [u8; 4096], state: Held, head: Head, block: &Block) -> Held {
@@ -129,7 +121,7 @@ fn run(output: &mut [u8; 4096], state: Held, head: Head, block: &Block) -> Held 
             held: state.held,
         },
         b'L' => {
-            let rows = loaded(rows, head.byte as usize, bytes::node_of(block));
+            let rows = rows::loaded(rows, head.byte as usize, bytes::node_of(block));
             Held {
                 rows: rows,
                 size: state.size,

@@ -1,5 +1,5 @@
 -- Demand 1 holds: each definition is a chain of tests, and each test that fails gives a number of the call's list and leaves what was lent. Assumes nothing.
-use Prim.Native.Nat.{ℕ, zero, suc, _-_, _^_}
+use Prim.Native.Nat.{ℕ, zero, suc, _+_, _*_, _-_, _^_}
 use mathlib.Core.Path.{_≡_, refl, ap}
 use mathlib.Core.Bool.{Bool, true, false, cond}
 use mathlib.Core.List.{List, [], _∷_}
@@ -33,7 +33,11 @@ use Rattle.bench.specs.Table.{Table, tableSound, nodeCount, slotsOf, recordOf}
 use Rattle.bench.specs.Calls as bench
 use Rattle.bench.specs.Pairs.{SlotBytes}
 use Rattle.bench.specs.Outcomes.{calledOf, endedOf, outcomeOf, BytesAfter}
-use Rattle.demands.specs.Demand1.{Demand1, EndsBy, RunsBy, StepsBy, WritesBy, numbersFor, ofFound, ofReading, ofSpeaker, ofAnswer}
+use Rattle.plan_text.specs.Text.{writtenOf}
+use Rattle.plan_text.specs.declared.Written as text
+use Rattle.plan_program.specs.declared.Plan.{Plan}
+use Rattle.plan_program.specs.Calls.{fedOf, finishedOf, hasRoom, planSound, printedIn}
+use Rattle.demands.specs.Demand1.{Demand1, EndsBy, FeedsBy, PrintsBy, RunsBy, StepsBy, WritesBy, numbersFor, ofFound, ofReading, ofSpeaker, ofAnswer}
 
 -- ---- a test, in each of the forms that the definitions use: P holds either way
 
@@ -188,6 +192,25 @@ runs (command.Restart a) t out after same =
 runs (command.Look lost) t out after same =
     either-passed (Runs (command.Look lost) t out after) (tableSound t) Unsound (tt, tt) (refl, untouched t out after same)
 
+-- ---- plan texts
+
+abbrev Prints : List ℕ → text.Written × List ℕ → Type 0
+Prints out r = PrintsBy (9 ∷ []) out r
+
+prints : (input out : List ℕ) → Prints out (printedIn input out)
+unfolding printedIn
+prints input out = either (Prints out) (leb (80 * length input + 80) (length out)) (tt, tt) (refl, refl)
+
+feeds : (p : Plan) (begun input out : List ℕ) → FeedsBy (4 ∷ 9 ∷ []) p begun out (fedOf p begun input out)
+unfolding fedOf
+feeds p begun input out =
+    let P = FeedsBy (4 ∷ 9 ∷ []) p begun out in
+    either P (planSound p) (either P (hasRoom input out) (tt, tt) (refl, refl)) (refl, refl)
+
+finishes : (p : Plan) (begun out : List ℕ) → Prints out (finishedOf p begun out)
+unfolding writtenOf
+finishes p begun out = either (Prints out) (leb (0 + 80) (length out)) (tt, tt) (refl, refl)
+
 -- ---- the demand
 
 pub demand1 : Demand1
@@ -206,4 +229,7 @@ demand1 = record {
   off = switches-off;
   restart = restarts;
   bench = runs;
+  print-plan = prints;
+  feed = feeds;
+  finish = finishes;
 }

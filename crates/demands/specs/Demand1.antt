@@ -1,7 +1,6 @@
 -- Demand 1: every message, plan text, node record and sequence of calls ends in a result or a numbered refusal, and a refusal changes no record and no lent
--- byte. There is a clause for each call, over the definition that its contract cites and for all numbers, bytes, records and tables; so it holds of each call
--- of every sequence, whatever the calls before it left. What is left are plan texts: what a line does is in the contracts of `plan_line` and `plan_run`;
--- that a whole text ends so joins when the program is proved as a whole.
+-- byte. There is a clause for each call, over the definition that its contract cites and for all numbers, bytes, records, tables and plans; so it holds of each
+-- call of every sequence, whatever the calls before it left. What is printed of a plan text, its refused line included, is `printed` (plan_program's specs/Program).
 use Prim.Native.Nat.{ℕ}
 use mathlib.Core.Path.{_≡_}
 use mathlib.Core.Bool.{Bool, true, false, _||_}
@@ -31,6 +30,10 @@ use Rattle.bench.specs.declared.Outcome.{Outcome}
 use Rattle.bench.specs.declared.Outcome.the-variants as outcome
 use Rattle.bench.specs.Table.{Table}
 use Rattle.bench.specs.Outcomes.{endedOf, BytesAfter}
+use Rattle.plan_text.specs.declared.Written as text
+use Rattle.plan_text.specs.declared.Written.the-variants as printed
+use Rattle.plan_program.specs.declared.Plan.{Plan}
+use Rattle.plan_program.specs.Calls.{Fed, fedOf, finishedOf, printedIn}
 
 -- ---- how a call ends
 
@@ -65,6 +68,10 @@ ofOutcome outcome.Quiet = result
 ofOutcome (outcome.Slot slot sender fate list distance) = result
 ofOutcome (outcome.Refused cause) = refusal cause
 
+abbrev pub ofText : text.Written → Ending
+ofText (printed.Bytes count) = result
+ofText (printed.Refused cause) = refusal cause
+
 -- ---- what is demanded of it
 
 -- One of these numbers.
@@ -82,7 +89,7 @@ abbrev pub Keeps : {A : Type 0} → Ending → A → A → Type 0
 Keeps result before after = Unit {0}
 Keeps (refusal cause) before after = after ≡ before
 
--- Both: of a call that writes into lent bytes, of one on a record, and of one on a table with lent bytes.
+-- Both: of a call that writes into lent bytes, of one on a record, of one on a table with lent bytes, and of those on a plan text.
 abbrev pub WritesBy : List ℕ → List ℕ → Written × List ℕ → Type 0
 WritesBy numbers out r = EndsBy numbers (ofWritten (r .0)) × Keeps (ofWritten (r .0)) out (r .1)
 
@@ -91,6 +98,13 @@ StepsBy numbers v r = EndsBy numbers (ofAnswer (r .answer)) × Keeps (ofAnswer (
 
 abbrev pub RunsBy : List ℕ → Outcome → Table × List ℕ → Table × List ℕ → Type 0
 RunsBy numbers o before after = EndsBy numbers (ofOutcome o) × Keeps (ofOutcome o) before after
+
+abbrev pub PrintsBy : List ℕ → List ℕ → text.Written × List ℕ → Type 0
+PrintsBy numbers out r = EndsBy numbers (ofText (r .0)) × Keeps (ofText (r .0)) out (r .1)
+
+abbrev pub FeedsBy : List ℕ → Plan → List ℕ → List ℕ → Fed → Type 0
+FeedsBy numbers p begun out f =
+    EndsBy numbers (ofText (f .written)) × Keeps {A = Plan × List ℕ × List ℕ} (ofText (f .written)) (p, begun, out) (f .plan, f .begun, f .out)
 
 -- By which numbers a call of the bench may be refused, in the order of its tests.
 abbrev pub numbersFor : Command → List ℕ
@@ -122,3 +136,7 @@ pub record Demand1 : Type 0 where
   -- the bench: set-up, slot, off, restart and a look; `out` are the lent bytes and `after` those after the call
   pub bench : (c : Command) (t : Table) (out after : List ℕ) → BytesAfter c t out after
       → let ended = endedOf c (length out) t in RunsBy (numbersFor c) (ended .reply .outcome) (t, out) (ended .table, after)
+  -- plan texts: a whole one; a piece of one, where `begun` has come of the next line; and the end
+  pub print-plan : (input out : List ℕ) → PrintsBy (9 ∷ []) out (printedIn input out)
+  pub feed : (p : Plan) (begun input out : List ℕ) → FeedsBy (4 ∷ 9 ∷ []) p begun out (fedOf p begun input out)
+  pub finish : (p : Plan) (begun out : List ℕ) → PrintsBy (9 ∷ []) out (finishedOf p begun out)

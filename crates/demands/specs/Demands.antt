@@ -4,7 +4,7 @@ use Rattle.demands.specs.Demand2.{Demand2}
 use Rattle.agreement.specs.Demand.{Demand3}
 
 pub record Demands : Type 0 where
-  -- every message, node record and sequence of calls ends in a result or a numbered refusal, and a refusal changes no record and no lent byte
+  -- every message, plan text, node record and sequence of calls ends in a result or a numbered refusal, and a refusal changes no record and no lent byte
   pub total : Demand1
   -- every slot changes a node's record exactly as document 01 says; messages are read as they are written
   pub exact : Demand2

@@ -2,3 +2,4 @@
 // safe and end, and a refused call leaves every byte of the record; no contract says more.
 pub mod bytes;
 pub mod calls;
+pub mod rows;

@@ -6,16 +6,16 @@ use mathlib.Core.Bool.{Bool, true, false, cond}
 use mathlib.Core.List.{List}
 use lib.ListN.{drop}
 use Rattle.refusal.specs.declared.Refusal.the-variants.{PlanLine}
-use Rattle.plan_line.specs.declared.Order.{Order}
-use Rattle.plan_line.specs.declared.Order.the-variants.{Ok, Lost, Refused}
+use Rattle.plan_line.specs.declared.Line.{Line}
+use Rattle.plan_line.specs.declared.Line.the-variants.{Ok, Lost, Refused}
 use Rattle.plan_line.specs.Words.{begins, same}
-use Rattle.plan_line.specs.Plan.{lostWord, missWord, missingOf, namedOf, offOrder, offWord, okWord, onOrder, onWord, wordOf}
+use Rattle.plan_line.specs.Plan.{lostWord, missWord, missingOf, namedOf, offLine, offWord, okWord, onLine, onWord, wordOf}
 
 module _ (n : ℕ) (l : List ℕ) where
   -- the answer by the outcomes of the comparisons
-  abbrev answer : Bool → Bool → Bool → Bool → Bool → Order
+  abbrev answer : Bool → Bool → Bool → Bool → Bool → Line
   answer ok lost miss off on =
-      cond ok Ok (cond lost Lost (cond miss (missingOf n (drop 5 l)) (cond off (offOrder (namedOf n (drop 4 l))) (cond on (onOrder (namedOf n (drop 3 l))) (Refused PlanLine)))))
+      cond ok Ok (cond lost Lost (cond miss (missingOf n (drop 5 l)) (cond off (offLine (namedOf n (drop 4 l))) (cond on (onLine (namedOf n (drop 3 l))) (Refused PlanLine)))))
 
   answered : (ok lost miss off on : Bool) → same okWord l ≡ ok → same lostWord l ≡ lost → begins missWord l ≡ miss → begins offWord l ≡ off → begins onWord l ≡ on
       → wordOf n l ≡ answer ok lost miss off on
@@ -39,11 +39,11 @@ module _ (n : ℕ) (l : List ℕ) where
       says-miss e = answered false false true (begins offWord l) (begins onWord l) not-ok not-lost e refl refl
 
       module _ (not-miss : begins missWord l ≡ false) where
-        pub says-off : begins offWord l ≡ true → wordOf n l ≡ offOrder (namedOf n (drop 4 l))
+        pub says-off : begins offWord l ≡ true → wordOf n l ≡ offLine (namedOf n (drop 4 l))
         says-off e = answered false false false true (begins onWord l) not-ok not-lost not-miss e refl
 
         module _ (not-off : begins offWord l ≡ false) where
-          pub says-on : begins onWord l ≡ true → wordOf n l ≡ onOrder (namedOf n (drop 3 l))
+          pub says-on : begins onWord l ≡ true → wordOf n l ≡ onLine (namedOf n (drop 3 l))
           says-on e = answered false false false false true not-ok not-lost not-miss not-off e
 
           pub says-nothing : begins onWord l ≡ false → wordOf n l ≡ Refused PlanLine

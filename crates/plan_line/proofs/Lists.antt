@@ -13,10 +13,10 @@ use borrow.Author.Tests.{le-leb, lt-leb}
 use Rattle.refusal.specs.declared.Refusal.the-variants.{NodeNumber, PlanLine}
 use Rattle.nodeset.specs.Sets.{with}
 use Rattle.plan_line.specs.declared.Missed.{Missed}
-use Rattle.plan_line.specs.declared.Order.{Order}
-use Rattle.plan_line.specs.declared.Order.the-variants.{Miss, Refused}
-use Rattle.plan_line.specs.Words.{gap, isNumber, leastAfter, longer, valueOf, wordsOf}
-use Rattle.plan_line.specs.Plan.{allInRing, allNumbers, ifOrdered, inRing, joined, missedOrder, missingOf, risingFrom, valuesOf, withAll}
+use Rattle.plan_line.specs.declared.Line.{Line}
+use Rattle.plan_line.specs.declared.Line.the-variants.{Miss, Refused}
+use Rattle.plan_line.specs.Words.{gap, isNumber, leastAfter, longer, parted, valueOf, wordsOf}
+use Rattle.plan_line.specs.Plan.{allInRing, allNumbers, ifRead, inRing, joined, missedLine, missingOf, risingFrom, valuesOf, withAll}
 use Rattle.plan_line.proofs.Words.{and-false}
 use Rattle.plan_line.proofs.Numbers.{form}
 use Rattle.plan_line.proofs.Capped.{in-ring-capped, with-capped}
@@ -24,10 +24,10 @@ use Rattle.plan_line.proofs.Capped.{in-ring-capped, with-capped}
 -- ---- what is left
 
 -- What a line says whose words so far came to `missed`, the last of them `last`, with these words left.
-unfoldable pub rest : ℕ → List ℕ → Missed → List (List ℕ) → Order
+unfoldable pub rest : ℕ → List ℕ → Missed → List (List ℕ) → Line
 rest n last missed words =
-    ifOrdered (allNumbers words && risingFrom (leastAfter last) (valuesOf words)) PlanLine
-    (ifOrdered (missed .inside && allInRing n (valuesOf words)) NodeNumber
+    ifRead (allNumbers words && risingFrom (leastAfter last) (valuesOf words)) PlanLine
+    (ifRead (missed .inside && allInRing n (valuesOf words)) NodeNumber
     (Miss (withAll (missed .set) (valuesOf words))))
 
 pub rest-start : (n : ℕ) (text : List ℕ) → missingOf n text ≡ rest n [] (record { inside = true; set = 0 }) (wordsOf text)
@@ -48,9 +48,9 @@ one-fails true b true d e = let z : _≡_ {A = ℕ} 0 1 = cc in absurd (omega ar
 one-fails true b false d e = and-false b
 one-fails false b c d e = refl
 
-pub rest-end : (n : ℕ) (last : List ℕ) (missed : Missed) → rest n last missed [] ≡ missedOrder missed
+pub rest-end : (n : ℕ) (last : List ℕ) (missed : Missed) → rest n last missed [] ≡ missedLine missed
 unfolding rest allNumbers valuesOf risingFrom allInRing withAll
-rest-end n last missed = ap (λ (b : Bool). ifOrdered b NodeNumber (Miss (missed .set))) (and-true (missed .inside))
+rest-end n last missed = ap (λ (b : Bool). ifRead b NodeNumber (Miss (missed .set))) (and-true (missed .inside))
 
 pub rest-stop : (n : ℕ) (last : List ℕ) (missed : Missed) (word : List ℕ) (words : List (List ℕ)) → (isNumber word && leb (leastAfter last) (valueOf word)) ≡ false
     → rest n last missed (word ∷ words) ≡ Refused PlanLine
@@ -71,69 +71,70 @@ rest-next n last missed word words e =
     let v = valueOf word in
     let least : leastAfter word ≡ suc v = least-more word (form word (both .0) .0) in
     simp (both .0, both .1, least)
-    (ap (λ (b : Bool). ifOrdered (allNumbers words && risingFrom (suc v) (valuesOf words)) PlanLine (ifOrdered b NodeNumber (Miss (withAll (with (missed .set) v) (valuesOf words)))))
+    (ap (λ (b : Bool). ifRead (allNumbers words && risingFrom (suc v) (valuesOf words)) PlanLine (ifRead b NodeNumber (Miss (withAll (with (missed .set) v) (valuesOf words)))))
     (and-assoc (missed .inside) (inRing n v) (allInRing n (valuesOf words))))
 
 pub joined-capped : (n : ℕ) (missed : Missed) (v : ℕ) → joined n missed (min v 100) ≡ joined n missed v
 joined-capped n missed v = cc (in-ring-capped n v, with-capped (missed .set) v)
 
--- ---- where the words stand
+-- ---- where the parts of a text stand
 
-pub gap-le : (l : List ℕ) → gap l ≤ length l
-unfolding gap
-gap-le [] = omega arith
-gap-le (b ∷ l) = go (eqb b 32) (gap-le l)
-  where
-    go : (t : Bool) → gap l ≤ length l → cond t 0 (suc (gap l)) ≤ suc (length l)
-    go true h = omega arith
-    go false h = omega arith
+module _ (mark : ℕ) where
+  pub gap-le : (l : List ℕ) → gap mark l ≤ length l
+  unfolding gap
+  gap-le [] = omega arith
+  gap-le (b ∷ l) = go (eqb b mark) (gap-le l)
+    where
+      go : (t : Bool) → gap mark l ≤ length l → cond t 0 (suc (gap mark l)) ≤ suc (length l)
+      go true h = omega arith
+      go false h = omega arith
 
--- the words from a place on: none past the end
-unfoldable pub wordsFrom : List ℕ → ℕ → List (List ℕ)
-wordsFrom text i = cond (leb i (length text)) (wordsOf (drop i text)) []
+  -- the parts from a place on: none past the end
+  unfoldable pub partsFrom : List ℕ → ℕ → List (List ℕ)
+  partsFrom text i = cond (leb i (length text)) (parted mark (drop i text)) []
 
--- the first word, and the words from behind its space on
-pub words-split : (l : List ℕ) → wordsOf l ≡ take (gap l) l ∷ wordsFrom l (suc (gap l))
-unfolding wordsOf wordsFrom gap
-words-split [] = refl
-words-split (b ∷ l) = go (eqb b 32) (words-split l)
-  where
-    go : (t : Bool) → wordsOf l ≡ take (gap l) l ∷ wordsFrom l (suc (gap l))
-        → cond t ([] ∷ wordsOf l) (longer b (wordsOf l)) ≡ take (cond t 0 (suc (gap l))) (b ∷ l) ∷ wordsFrom (b ∷ l) (suc (cond t 0 (suc (gap l))))
-    go true ih = simp (le-leb 1 (suc (length l)) (omega arith))
-    go false ih = ap (longer b) ih ∙ simp (leb·suc-suc (suc (gap l)) (length l))
+  -- the first part, and the parts from behind its mark on
+  parts-split : (l : List ℕ) → parted mark l ≡ take (gap mark l) l ∷ partsFrom l (suc (gap mark l))
+  unfolding parted partsFrom gap
+  parts-split [] = refl
+  parts-split (b ∷ l) = go (eqb b mark) (parts-split l)
+    where
+      go : (t : Bool) → parted mark l ≡ take (gap mark l) l ∷ partsFrom l (suc (gap mark l))
+          → cond t ([] ∷ parted mark l) (longer b (parted mark l)) ≡ take (cond t 0 (suc (gap mark l))) (b ∷ l) ∷ partsFrom (b ∷ l) (suc (cond t 0 (suc (gap mark l))))
+      go true ih = simp (le-leb 1 (suc (length l)) (omega arith))
+      go false ih = ap (longer b) ih ∙ simp (leb·suc-suc (suc (gap mark l)) (length l))
 
-from-drop : (l : List ℕ) (i j : ℕ) → i ≤ length l → wordsFrom (drop i l) j ≡ wordsFrom l (i + j)
-unfolding wordsFrom
-from-drop l i j h = go (decLe (i + j) (length l))
-  where
-    go : Dec (i + j ≤ length l) → cond (leb j (length (drop i l))) (wordsOf (drop j (drop i l))) [] ≡ cond (leb (i + j) (length l)) (wordsOf (drop (i + j) l)) []
-    go (yes in-l) =
-        let in-drop : j ≤ length (drop i l) = omega (arith, length-drop i l) in
-        simp (le-leb j (length (drop i l)) in-drop, le-leb (i + j) (length l) in-l) (ap wordsOf (drop-drop j i l))
-    go (no past) =
-        let out : length (drop i l) < j = omega (arith, length-drop i l) in
-        simp (lt-leb j (length (drop i l)) out, lt-leb (i + j) (length l) (omega arith))
+  from-drop : (l : List ℕ) (i j : ℕ) → i ≤ length l → partsFrom (drop i l) j ≡ partsFrom l (i + j)
+  unfolding partsFrom
+  from-drop l i j h = go (decLe (i + j) (length l))
+    where
+      go : Dec (i + j ≤ length l) → cond (leb j (length (drop i l))) (parted mark (drop j (drop i l))) [] ≡ cond (leb (i + j) (length l)) (parted mark (drop (i + j) l)) []
+      go (yes in-l) =
+          let in-drop : j ≤ length (drop i l) = omega (arith, length-drop i l) in
+          simp (le-leb j (length (drop i l)) in-drop, le-leb (i + j) (length l) in-l) (ap (parted mark) (drop-drop j i l))
+      go (no past) =
+          let out : length (drop i l) < j = omega (arith, length-drop i l) in
+          simp (lt-leb j (length (drop i l)) out, lt-leb (i + j) (length l) (omega arith))
 
--- the word at `i` reaches to `next`, and the words from behind it follow
-pub word-at : (l : List ℕ) (i next : ℕ) → i ≤ length l → next ≡ i + gap (drop i l) → wordsFrom l i ≡ take (next - i) (drop i l) ∷ wordsFrom l (next + 1)
-unfolding wordsFrom
-word-at l i next h e =
-    let size : gap (drop i l) ≡ next - i = omega arith in
-    let place : i + suc (gap (drop i l)) ≡ next + 1 = omega arith in
-    simp (le-leb i (length l) h)
-    (words-split (drop i l)
-    ∙ ap (λ (g : ℕ). take g (drop i l) ∷ wordsFrom (drop i l) (suc (gap (drop i l)))) size
-    ∙ ap (λ (ws : List (List ℕ)). take (next - i) (drop i l) ∷ ws) (from-drop l i (suc (gap (drop i l))) h ∙ ap (wordsFrom l) place))
+  -- the part at `i` reaches to `next`, and the parts from behind it follow
+  pub part-at : (l : List ℕ) (i next : ℕ) → i ≤ length l → next ≡ i + gap mark (drop i l) → partsFrom l i ≡ take (next - i) (drop i l) ∷ partsFrom l (next + 1)
+  unfolding partsFrom
+  part-at l i next h e =
+      let size : gap mark (drop i l) ≡ next - i = omega arith in
+      let place : i + suc (gap mark (drop i l)) ≡ next + 1 = omega arith in
+      simp (le-leb i (length l) h)
+      (parts-split (drop i l)
+      ∙ ap (λ (g : ℕ). take g (drop i l) ∷ partsFrom (drop i l) (suc (gap mark (drop i l)))) size
+      ∙ ap (λ (ps : List (List ℕ)). take (next - i) (drop i l) ∷ ps) (from-drop l i (suc (gap mark (drop i l))) h ∙ ap (partsFrom l) place))
 
--- the end of that word is in the text
-pub word-in : (l : List ℕ) (i next : ℕ) → i ≤ length l → next ≡ i + gap (drop i l) → (i ≤ next) × (next ≤ length l)
-word-in l i next h e = (omega arith, omega (arith, gap-le (drop i l), length-drop i l))
+  -- the end of that part is in the text
+  pub part-in : (l : List ℕ) (i next : ℕ) → i ≤ length l → next ≡ i + gap mark (drop i l) → (i ≤ next) × (next ≤ length l)
+  part-in l i next h e = (omega arith, omega (arith, gap-le (drop i l), length-drop i l))
 
-pub from-start : (l : List ℕ) → wordsOf l ≡ wordsFrom l 0
-unfolding wordsFrom
-from-start l = simp (le-leb 0 (length l) (omega arith))
+  pub from-place : (l : List ℕ) (i : ℕ) → i ≤ length l → partsFrom l i ≡ parted mark (drop i l)
+  unfolding partsFrom
+  from-place l i h = simp (le-leb i (length l) h)
 
-pub from-end : (l : List ℕ) (i : ℕ) → length l < i → wordsFrom l i ≡ []
-unfolding wordsFrom
-from-end l i h = simp (lt-leb i (length l) h)
+  pub from-end : (l : List ℕ) (i : ℕ) → length l < i → partsFrom l i ≡ []
+  unfolding partsFrom
+  from-end l i h = simp (lt-leb i (length l) h)

@@ -1,4 +1,4 @@
--- What every answer keeps to: the ring of line one is in range, and so is each node that an order names.
+-- What every answer keeps to: the ring of line one is in range, and so is each node that a line names.
 -- Assumes nothing.
 use Prim.Native.Nat.{ℕ, _-_, _^_, _≤_, _<_}
 use mathlib.Core.Path.{_≡_, refl}
@@ -13,20 +13,20 @@ use Rattle.refusal.specs.declared.Refusal.{Refusal}
 use Rattle.refusal.specs.declared.Refusal.the-variants.{NodeNumber, PlanLine, RingSize, SponsorCount}
 use Rattle.nodeset.specs.Sets.{with}
 use Rattle.nodeset.proofs.Laws.{with-lt}
-use Rattle.ring.specs.Ring.{nodeNumber, ringSize, sponsorCount}
+use Rattle.ring.specs.Ring.{cableOf, nodeNumber, ringSize, sponsorCount}
 use Rattle.plan_line.specs.declared.Named.{Named}
 use Rattle.plan_line.specs.declared.Named.the-variants as named
 use Rattle.plan_line.specs.declared.Opening.{Opening}
 use Rattle.plan_line.specs.declared.Opening.the-variants as opening
-use Rattle.plan_line.specs.declared.Order.{Order}
-use Rattle.plan_line.specs.declared.Order.the-variants as order
+use Rattle.plan_line.specs.declared.Line.{Line}
+use Rattle.plan_line.specs.declared.Line.the-variants as lines
 use Rattle.plan_line.specs.Words.{after, before, begins, isNumber, same, valueOf, wordsOf}
-use Rattle.plan_line.specs.Plan.{allInRing, allNumbers, ifNamed, ifOpened, ifOrdered, inRing, lostWord, missWord, missingOf, namedOf, numbersOf, offOrder, offWord, okWord, onOrder, onWord, openingOf, orderOf, ringOf, risingFrom, shortEnough, valuesOf, withAll, wordOf}
+use Rattle.plan_line.specs.Plan.{allInRing, allNumbers, ifNamed, ifOpened, ifRead, inRing, lostWord, missWord, missingOf, namedOf, numbersOf, offLine, offWord, okWord, onLine, onWord, openingOf, lineOf, ringOf, risingFrom, shortEnough, valuesOf, withAll, wordOf}
 
 -- ---- line one
 
 abbrev pub RingIn : Opening → Type 0
-RingIn (opening.Ring n k) = (3 ≤ n) × (n ≤ 32) × (2 ≤ k) × (k < n)
+RingIn (opening.Ring n k) = (ringSize n ≡ true) × (sponsorCount (cableOf n k) ≡ true)
 RingIn (opening.Refused cause) = Unit {0}
 
 if-opened : (b : Bool) (cause : Refusal) (o : Opening) → (b ≡ true → RingIn o) → RingIn (ifOpened b cause o)
@@ -38,13 +38,8 @@ unfolding openingOf numbersOf ringOf
 opened line =
     if-opened (shortEnough line) PlanLine (numbersOf (before line) (after line)) (λ _.
     if-opened (isNumber (before line) && isNumber (after line)) PlanLine (ringOf n k) (λ _.
-    if-opened (ringSize n) RingSize (ifOpened (sponsorCount n k) SponsorCount (opening.Ring n k)) (λ size.
-    if-opened (sponsorCount n k) SponsorCount (opening.Ring n k) (λ count.
-    let s = and-eq-true-iff (leb 3 n) (leb n 32) .0 size in
-    let c = and-eq-true-iff (leb 2 k) (leb k (n - 1)) .0 count in
-    let low = leb-true 3 n (s .0) in
-    let high = leb-true k (n - 1) (c .1) in
-    (low, leb-true n 32 (s .1), leb-true 2 k (c .0), omega arith)))))
+    if-opened (ringSize n) RingSize (ifOpened (sponsorCount (cableOf n k)) SponsorCount (opening.Ring n k)) (λ size.
+    if-opened (sponsorCount (cableOf n k)) SponsorCount (opening.Ring n k) (λ count. (size, count)))))
   where
     n : ℕ
     n = valueOf (before line)
@@ -57,14 +52,14 @@ opened line =
 abbrev pub NodeIn : ℕ → ℕ → Type 0
 NodeIn n a = (1 ≤ a) × (a ≤ n) × (a ≤ 32)
 
--- of an order in a ring of n
-abbrev pub NodesIn : ℕ → Order → Type 0
-NodesIn n order.Ok = Unit {0}
-NodesIn n order.Lost = Unit {0}
-NodesIn n (order.Miss set) = set < 2 ^ n
-NodesIn n (order.Off a) = NodeIn n a
-NodesIn n (order.On a) = NodeIn n a
-NodesIn n (order.Refused cause) = Unit {0}
+-- of a line in a ring of n
+abbrev pub NodesIn : ℕ → Line → Type 0
+NodesIn n lines.Ok = Unit {0}
+NodesIn n lines.Lost = Unit {0}
+NodesIn n (lines.Miss set) = set < 2 ^ n
+NodesIn n (lines.Off a) = NodeIn n a
+NodesIn n (lines.On a) = NodeIn n a
+NodesIn n (lines.Refused cause) = Unit {0}
 
 node-in : (n a : ℕ) → inRing n a ≡ true → NodeIn n a
 node-in n a e =
@@ -86,17 +81,17 @@ named-in n word =
     if-named n (isNumber word) PlanLine (ifNamed (inRing n (valueOf word)) NodeNumber (named.Node (valueOf word))) (λ _.
     if-named n (inRing n (valueOf word)) NodeNumber (named.Node (valueOf word)) (node-in n (valueOf word)))
 
-off-in : (n : ℕ) (f : Named) → NamedIn n f → NodesIn n (offOrder f)
+off-in : (n : ℕ) (f : Named) → NamedIn n f → NodesIn n (offLine f)
 off-in n (named.Node a) h = h
 off-in n (named.Refused cause) h = tt
 
-on-in : (n : ℕ) (f : Named) → NamedIn n f → NodesIn n (onOrder f)
+on-in : (n : ℕ) (f : Named) → NamedIn n f → NodesIn n (onLine f)
 on-in n (named.Node a) h = h
 on-in n (named.Refused cause) h = tt
 
-if-ordered : (n : ℕ) (b : Bool) (cause : Refusal) (o : Order) → (b ≡ true → NodesIn n o) → NodesIn n (ifOrdered b cause o)
-if-ordered n true cause o h = h refl
-if-ordered n false cause o h = tt
+if-read : (n : ℕ) (b : Bool) (cause : Refusal) (o : Line) → (b ≡ true → NodesIn n o) → NodesIn n (ifRead b cause o)
+if-read n true cause o h = h refl
+if-read n false cause o h = tt
 
 all-below : (n set : ℕ) (values : List ℕ) → set < 2 ^ n → allInRing n values ≡ true → withAll set values < 2 ^ n
 unfolding allInRing withAll
@@ -108,22 +103,22 @@ all-below n set (a ∷ values) h e =
 missing-in : (n : ℕ) (text : List ℕ) → NodesIn n (missingOf n text)
 unfolding missingOf
 missing-in n text =
-    if-ordered n (allNumbers (wordsOf text) && risingFrom 0 values) PlanLine (ifOrdered (allInRing n values) NodeNumber (order.Miss (withAll 0 values))) (λ _.
-    if-ordered n (allInRing n values) NodeNumber (order.Miss (withAll 0 values)) (all-below n 0 values (pow-pos n)))
+    if-read n (allNumbers (wordsOf text) && risingFrom 0 values) PlanLine (ifRead (allInRing n values) NodeNumber (lines.Miss (withAll 0 values))) (λ _.
+    if-read n (allInRing n values) NodeNumber (lines.Miss (withAll 0 values)) (all-below n 0 values (pow-pos n)))
   where
     values : List ℕ
     values = valuesOf (wordsOf text)
 
-if-else : (n : ℕ) (b : Bool) (o p : Order) → NodesIn n o → NodesIn n p → NodesIn n (cond b o p)
+if-else : (n : ℕ) (b : Bool) (o p : Line) → NodesIn n o → NodesIn n p → NodesIn n (cond b o p)
 if-else n true o p h k = h
 if-else n false o p h k = k
 
-pub ordered : (n : ℕ) (line : List ℕ) → NodesIn n (orderOf n line)
-unfolding orderOf wordOf
-ordered n line =
-    if-ordered n (shortEnough line) PlanLine (wordOf n line) (λ _.
-    if-else n (same okWord line) order.Ok _ tt
-    (if-else n (same lostWord line) order.Lost _ tt
+pub said : (n : ℕ) (line : List ℕ) → NodesIn n (lineOf n line)
+unfolding lineOf wordOf
+said n line =
+    if-read n (shortEnough line) PlanLine (wordOf n line) (λ _.
+    if-else n (same okWord line) lines.Ok _ tt
+    (if-else n (same lostWord line) lines.Lost _ tt
     (if-else n (begins missWord line) (missingOf n (drop 5 line)) _ (missing-in n (drop 5 line))
-    (if-else n (begins offWord line) (offOrder (namedOf n (drop 4 line))) _ (off-in n (namedOf n (drop 4 line)) (named-in n (drop 4 line)))
-    (if-else n (begins onWord line) (onOrder (namedOf n (drop 3 line))) (order.Refused PlanLine) (on-in n (namedOf n (drop 3 line)) (named-in n (drop 3 line))) tt)))))
+    (if-else n (begins offWord line) (offLine (namedOf n (drop 4 line))) _ (off-in n (namedOf n (drop 4 line)) (named-in n (drop 4 line)))
+    (if-else n (begins onWord line) (onLine (namedOf n (drop 3 line))) (lines.Refused PlanLine) (on-in n (namedOf n (drop 3 line)) (named-in n (drop 3 line))) tt)))))

@@ -1,4 +1,4 @@
--- One byte more of a text: what the definitions of words and of digits say of it.
+-- One byte more of a text: what the definitions of parts and of digits say of it.
 -- Assumes nothing.
 use Prim.Native.Nat.{ℕ, suc, _+_, _≤_, _<_}
 use mathlib.Core.Path.{_≡_, refl, ap, _∙_}
@@ -6,7 +6,7 @@ use mathlib.Core.Bool.{Bool, true, false, cond, _&&_, and-eq-true-iff}
 use mathlib.Core.List.{List, [], _∷_}
 use native.Mathlib.Omega.{arith}
 use native.Mathlib.Numerals.{add-one}
-use lib.ListN.{length, getD, drop}
+use lib.ListN.{length, getD, drop, drop-of-length-le}
 use lib.Seq.{drop-cons, drop-length}
 use lib.Dec.{eqb, leb}
 use borrow.Author.Tests.{eq-eqb, ne-eqb, le-leb, lt-leb}
@@ -45,22 +45,22 @@ pub digits-end : (l : List ℕ) (i : ℕ) → i ≡ length l → allDigits (drop
 unfolding allDigits
 digits-end l i e = ap (λ (j : ℕ). allDigits (drop j l)) e ∙ ap allDigits (drop-length l)
 
--- ---- spaces
+-- ---- the ends of parts
 
-module _ (l : List ℕ) (i : ℕ) (below : i < length l) where
-  gap-at : gap (drop i l) ≡ cond (eqb (getD l i 0) 32) 0 (suc (gap (drop (i + 1) l)))
+module _ (mark : ℕ) (l : List ℕ) (i : ℕ) (below : i < length l) where
+  gap-at : gap mark (drop i l) ≡ cond (eqb (getD l i 0) mark) 0 (suc (gap mark (drop (i + 1) l)))
   unfolding gap
   gap-at = rw (drop-cons l i 0 below, add-one i)
 
-  pub gap-space : getD l i 0 ≡ 32 → gap (drop i l) ≡ 0
-  gap-space e = gap-at ∙ ap (λ (b : Bool). cond b 0 (suc (gap (drop (i + 1) l)))) (eq-eqb (getD l i 0) 32 e)
+  pub gap-mark : getD l i 0 ≡ mark → gap mark (drop i l) ≡ 0
+  gap-mark e = gap-at ∙ ap (λ (b : Bool). cond b 0 (suc (gap mark (drop (i + 1) l)))) (eq-eqb (getD l i 0) mark e)
 
-  pub gap-next : (getD l i 0 ≡ 32 → ⊥) → gap (drop i l) ≡ suc (gap (drop (i + 1) l))
-  gap-next h = gap-at ∙ ap (λ (b : Bool). cond b 0 (suc (gap (drop (i + 1) l)))) (ne-eqb (getD l i 0) 32 h)
+  pub gap-next : (getD l i 0 ≡ mark → ⊥) → gap mark (drop i l) ≡ suc (gap mark (drop (i + 1) l))
+  gap-next h = gap-at ∙ ap (λ (b : Bool). cond b 0 (suc (gap mark (drop (i + 1) l)))) (ne-eqb (getD l i 0) mark h)
 
-pub gap-end : (l : List ℕ) (i : ℕ) → i ≡ length l → gap (drop i l) ≡ 0
+pub gap-end : (mark : ℕ) (l : List ℕ) (i : ℕ) → length l ≤ i → gap mark (drop i l) ≡ 0
 unfolding gap
-gap-end l i e = ap (λ (j : ℕ). gap (drop j l)) e ∙ ap gap (drop-length l)
+gap-end mark l i h = ap (gap mark) (drop-of-length-le l h)
 
 -- ---- plan words
 

@@ -8,14 +8,14 @@ use lib.ListN.{length, drop}
 use Rattle.refusal.specs.declared.Refusal.{Refusal}
 use Rattle.refusal.specs.Causes.{cause}
 use Rattle.nodeset.specs.Sets.{with}
-use Rattle.ring.specs.Ring.{ringSize, sponsorCount, nodeNumber}
+use Rattle.ring.specs.Ring.{cableOf, ringSize, sponsorCount, nodeNumber}
 use Rattle.plan_line.specs.declared.Opening.{Opening}
 use Rattle.plan_line.specs.declared.Opening.the-variants as opening
 use Rattle.plan_line.specs.declared.Named.{Named}
 use Rattle.plan_line.specs.declared.Named.the-variants as named
 use Rattle.plan_line.specs.declared.Missed.{Missed}
-use Rattle.plan_line.specs.declared.Order.{Order}
-use Rattle.plan_line.specs.declared.Order.the-variants as order
+use Rattle.plan_line.specs.declared.Line.{Line}
+use Rattle.plan_line.specs.declared.Line.the-variants as lines
 use Rattle.plan_line.specs.Words.{bytes, before, after, wordsOf, begins, same, isNumber, valueOf}
 
 -- "Lines of at most 120 bytes end in a line feed, itself not counted."
@@ -31,7 +31,7 @@ ifOpened false cause opened = opening.Refused cause
 
 -- n and k: 1 is tested before 2.
 unfoldable pub ringOf : ℕ → ℕ → Opening
-ringOf n k = ifOpened (ringSize n) (cause 1) (ifOpened (sponsorCount n k) (cause 2) (opening.Ring n k))
+ringOf n k = ifOpened (ringSize n) (cause 1) (ifOpened (sponsorCount (cableOf n k)) (cause 2) (opening.Ring n k))
 
 -- Two words that should be numbers.
 unfoldable pub numbersOf : List ℕ → List ℕ → Opening
@@ -79,24 +79,24 @@ unfoldable pub withAll : ℕ → List ℕ → ℕ
 withAll set [] = set
 withAll set (a ∷ rest) = withAll (with set a) rest
 
--- The order where a test holds, and the refusal where it does not.
-abbrev pub ifOrdered : Bool → Refusal → Order → Order
-ifOrdered true cause ordered = ordered
-ifOrdered false cause ordered = order.Refused cause
+-- The line where a test holds, and the refusal where it does not.
+abbrev pub ifRead : Bool → Refusal → Line → Line
+ifRead true cause said = said
+ifRead false cause said = lines.Refused cause
 
 -- What came of the words so far, with one node more; and what they say.
 abbrev pub joined : ℕ → Missed → ℕ → Missed
 joined n missed a = record { inside = missed .inside && inRing n a; set = with (missed .set) a }
 
-abbrev pub missedOrder : Missed → Order
-missedOrder missed = ifOrdered (missed .inside) (cause 3) (order.Miss (missed .set))
+abbrev pub missedLine : Missed → Line
+missedLine missed = ifRead (missed .inside) (cause 3) (lines.Miss (missed .set))
 
 -- "`miss a b` (numbers rising, at least one)": what stands after `miss `. A list that does not rise is unreadable, so that 12 is tested before 3.
-unfoldable pub missingOf : ℕ → List ℕ → Order
+unfoldable pub missingOf : ℕ → List ℕ → Line
 missingOf n text =
-    ifOrdered (allNumbers (wordsOf text) && risingFrom 0 (valuesOf (wordsOf text))) (cause 12)
-    (ifOrdered (allInRing n (valuesOf (wordsOf text))) (cause 3)
-    (order.Miss (withAll 0 (valuesOf (wordsOf text)))))
+    ifRead (allNumbers (wordsOf text) && risingFrom 0 (valuesOf (wordsOf text))) (cause 12)
+    (ifRead (allInRing n (valuesOf (wordsOf text))) (cause 3)
+    (lines.Miss (withAll 0 (valuesOf (wordsOf text)))))
 
 -- ---- the lines after line one
 
@@ -117,24 +117,24 @@ abbrev pub onWord : List ℕ
 onWord = bytes "on "
 
 -- "`off a` and `on a` switch or restart a node"
-abbrev pub offOrder : Named → Order
-offOrder (named.Node a) = order.Off a
-offOrder (named.Refused cause) = order.Refused cause
+abbrev pub offLine : Named → Line
+offLine (named.Node a) = lines.Off a
+offLine (named.Refused cause) = lines.Refused cause
 
-abbrev pub onOrder : Named → Order
-onOrder (named.Node a) = order.On a
-onOrder (named.Refused cause) = order.Refused cause
+abbrev pub onLine : Named → Line
+onLine (named.Node a) = lines.On a
+onLine (named.Refused cause) = lines.Refused cause
 
 -- "Then `ok`, `lost`, `miss a b` (numbers rising, at least one) each run a slot; `off a` and `on a` switch or restart a node".
-unfoldable pub wordOf : ℕ → List ℕ → Order
+unfoldable pub wordOf : ℕ → List ℕ → Line
 wordOf n line =
-    cond (same okWord line) order.Ok
-    (cond (same lostWord line) order.Lost
+    cond (same okWord line) lines.Ok
+    (cond (same lostWord line) lines.Lost
     (cond (begins missWord line) (missingOf n (drop 5 line))
-    (cond (begins offWord line) (offOrder (namedOf n (drop 4 line)))
-    (cond (begins onWord line) (onOrder (namedOf n (drop 3 line)))
-    (order.Refused (cause 12))))))
+    (cond (begins offWord line) (offLine (namedOf n (drop 4 line)))
+    (cond (begins onWord line) (onLine (namedOf n (drop 3 line)))
+    (lines.Refused (cause 12))))))
 
 -- "Plan line unreadable or too long" is 12.
-unfoldable pub orderOf : ℕ → List ℕ → Order
-orderOf n line = ifOrdered (shortEnough line) (cause 12) (wordOf n line)
+unfoldable pub lineOf : ℕ → List ℕ → Line
+lineOf n line = ifRead (shortEnough line) (cause 12) (wordOf n line)

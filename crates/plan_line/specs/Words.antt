@@ -12,29 +12,35 @@ abbrev pub bytes : String → List ℕ
 bytes end = []
 bytes (c then s) = code c ∷ bytes s
 
--- ---- words
+-- ---- parts
 
--- How many bytes stand before the first space (byte 32), all where there is none.
-unfoldable pub gap : List ℕ → ℕ
-gap [] = 0
-gap (byte ∷ rest) = cond (eqb byte 32) 0 (suc (gap rest))
+-- How many bytes stand before the first byte of this value, all where there is none.
+unfoldable pub gap : ℕ → List ℕ → ℕ
+gap mark [] = 0
+gap mark (byte ∷ rest) = cond (eqb byte mark) 0 (suc (gap mark rest))
 
--- The bytes before the first space, and those after it (none where there is no space).
-abbrev pub before : List ℕ → List ℕ
-before line = take (gap line) line
-
-abbrev pub after : List ℕ → List ℕ
-after line = drop (suc (gap line)) line
-
--- The first word is longer by a byte.
+-- The first part is longer by a byte.
 abbrev pub longer : ℕ → List (List ℕ) → List (List ℕ)
 longer byte [] = (byte ∷ []) ∷ []
-longer byte (word ∷ words) = (byte ∷ word) ∷ words
+longer byte (part ∷ parts) = (byte ∷ part) ∷ parts
+
+-- The parts of a text between the bytes of this value; of a text without any it is the one part.
+unfoldable pub parted : ℕ → List ℕ → List (List ℕ)
+parted mark [] = [] ∷ []
+parted mark (byte ∷ rest) = cond (eqb byte mark) ([] ∷ parted mark rest) (longer byte (parted mark rest))
+
+-- ---- words
+
+-- The bytes before the first space (byte 32), and those after it (none where there is no space).
+abbrev pub before : List ℕ → List ℕ
+before line = take (gap 32 line) line
+
+abbrev pub after : List ℕ → List ℕ
+after line = drop (suc (gap 32 line)) line
 
 -- "Single spaces": the words that spaces part. A space at an end, and a second one in a row, part off an empty word, which is no number.
-unfoldable pub wordsOf : List ℕ → List (List ℕ)
-wordsOf [] = [] ∷ []
-wordsOf (byte ∷ rest) = cond (eqb byte 32) ([] ∷ wordsOf rest) (longer byte (wordsOf rest))
+abbrev pub wordsOf : List ℕ → List (List ℕ)
+wordsOf text = parted 32 text
 
 -- "Plan words compared with fixed byte strings": the line begins with the bytes of a word; it is just these.
 unfoldable pub begins : List ℕ → List ℕ → Bool

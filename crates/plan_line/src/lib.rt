@@ -1,13 +1,14 @@
 // The lines of a plan (document 01, "The bench program"): what a line says, or by which cause it is
 // refused. A line comes without its line feed.
 use refusal::Refusal;
+use ring::Cable;
 ghost use mathlib.Core.Path.{_≡_};
 ghost use mathlib.Core.Bool.{true, false, _&&_};
 ghost use Prim.Native.Nat.{_+_, _≤_, min};
 ghost use lib.ListN.{length, drop};
 ghost use lib.Dec.{leb};
 ghost use Rattle.plan_line.specs.Words.{allDigits, begins, gap, isNumber, leadingZero, leastAfter, same, valueOf};
-ghost use Rattle.plan_line.specs.Plan.{inRing, joined, missedOrder, missingOf, namedOf, numbersOf, offOrder, onOrder, openingOf, orderOf, ringOf, wordOf};
+ghost use Rattle.plan_line.specs.Plan.{inRing, joined, missedLine, missingOf, namedOf, numbersOf, offLine, onLine, openingOf, lineOf, ringOf, wordOf};
 
 // What line one says.
 pub enum Opening {
@@ -16,7 +17,7 @@ pub enum Opening {
 }
 
 // What a later line says; Miss holds the set of the nodes named.
-pub enum Order {
+pub enum Line {
     Ok,
     Lost,
     Miss(u32),
@@ -83,14 +84,13 @@ fn small_value(word: &[u8]) -> u32
     100
 }
 
-// The place of the first space from `from` on, or the end of the text.
-fn word_end(text: &[u8], from: usize) -> usize
-    requires { ⌜ from ≤ length (now text) ⌝ }
-    ensures { λ r. ⌜ r ≡ from + gap (drop from (now (text .entry))) ⌝ }
+// The place of the first byte of this value from `from` on, or the end of the text.
+pub fn part_end(text: &[u8], from: usize, mark: u8) -> usize
+    ensures { λ r. ⌜ r ≡ from + gap mark (drop from (now (text .entry))) ⌝ }
 {
     let mut i = from;
     while i < text.len() {
-        if text[i] == 32 {
+        if text[i] == mark {
             return i;
         }
         i += 1;
@@ -191,17 +191,17 @@ fn joined(n: u32, missed: Missed, a: u32) -> Missed
 }
 
 // What all the words say.
-fn missed_order(missed: Missed) -> Order
-    ensures { λ r. ⌜ r ≡ missedOrder missed ⌝ }
+fn missed_line(missed: Missed) -> Line
+    ensures { λ r. ⌜ r ≡ missedLine missed ⌝ }
 {
     if !missed.inside {
-        return Order::Refused(Refusal::NodeNumber);
+        return Line::Refused(Refusal::NodeNumber);
     }
-    Order::Miss(missed.set)
+    Line::Miss(missed.set)
 }
 
 // What the text after `miss ` says. The next word starts at `at`; the last one is last..end.
-fn missing(n: u32, text: &[u8]) -> Order
+fn missing(n: u32, text: &[u8]) -> Line
     ensures { λ r. ⌜ r ≡ missingOf n (now (text .entry)) ⌝ }
 {
     let mut missed = Missed {
@@ -212,66 +212,66 @@ fn missing(n: u32, text: &[u8]) -> Order
     let mut end = 0;
     let mut at = 0;
     while at <= text.len() {
-        let next = word_end(text, at);
+        let next = part_end(text, at, 32);
         if !follows(&text[last..end], &text[at..next]) {
-            return Order::Refused(Refusal::PlanLine);
+            return Line::Refused(Refusal::PlanLine);
         }
         missed = joined(n, missed, small_value(&text[at..next]));
         last = at;
         end = next;
         at = next + 1;
     }
-    missed_order(missed)
+    missed_line(missed)
 }
 
 // A node to switch off.
-fn off_order(found: Named) -> Order
-    ensures { λ r. ⌜ r ≡ offOrder found ⌝ }
+fn off_line(found: Named) -> Line
+    ensures { λ r. ⌜ r ≡ offLine found ⌝ }
 {
     match found {
-        Named::Node(a) => Order::Off(a),
-        Named::Refused(cause) => Order::Refused(cause),
+        Named::Node(a) => Line::Off(a),
+        Named::Refused(cause) => Line::Refused(cause),
     }
 }
 
 // A node to restart.
-fn on_order(found: Named) -> Order
-    ensures { λ r. ⌜ r ≡ onOrder found ⌝ }
+fn on_line(found: Named) -> Line
+    ensures { λ r. ⌜ r ≡ onLine found ⌝ }
 {
     match found {
-        Named::Node(a) => Order::On(a),
-        Named::Refused(cause) => Order::Refused(cause),
+        Named::Node(a) => Line::On(a),
+        Named::Refused(cause) => Line::Refused(cause),
     }
 }
 
 // What a line of any length says.
-fn word(n: u32, line: &[u8]) -> Order
+fn word(n: u32, line: &[u8]) -> Line
     ensures { λ r. ⌜ r ≡ wordOf n (now (line .entry)) ⌝ }
 {
     if same(b"ok", line) {
-        return Order::Ok;
+        return Line::Ok;
     }
     if same(b"lost", line) {
-        return Order::Lost;
+        return Line::Lost;
     }
     if begins(b"miss ", line) {
         return missing(n, &line[5..]);
     }
     if begins(b"off ", line) {
-        return off_order(node_named(n, &line[4..]));
+        return off_line(node_named(n, &line[4..]));
     }
     if begins(b"on ", line) {
-        return on_order(node_named(n, &line[3..]));
+        return on_line(node_named(n, &line[3..]));
     }
-    Order::Refused(Refusal::PlanLine)
+    Line::Refused(Refusal::PlanLine)
 }
 
 // What a line after line one says. It refuses by 12 and 3, in this order.
-pub fn order_of(n: u32, line: &[u8]) -> Order
-    ensures { λ r. ⌜ r ≡ orderOf n (now (line .entry)) ⌝ }
+pub fn line_of(n: u32, line: &[u8]) -> Line
+    ensures { λ r. ⌜ r ≡ lineOf n (now (line .entry)) ⌝ }
 {
     if 120 < line.len() {
-        return Order::Refused(Refusal::PlanLine);
+        return Line::Refused(Refusal::PlanLine);
     }
     word(n, line)
 }
@@ -283,7 +283,7 @@ fn ring_of(n: u32, k: u32) -> Opening
     if !ring::is_ring_size(n) {
         return Opening::Refused(Refusal::RingSize);
     }
-    if !ring::is_sponsor_count(n, k) {
+    if !ring::is_sponsor_count(Cable { n, k }) {
         return Opening::Refused(Refusal::SponsorCount);
     }
     Opening::Ring(n, k)
@@ -309,7 +309,7 @@ pub fn opening_of(line: &[u8]) -> Opening
     if 120 < line.len() {
         return Opening::Refused(Refusal::PlanLine);
     }
-    let end = word_end(line, 0);
+    let end = part_end(line, 0, 32);
     if line.len() <= end {
         return Opening::Refused(Refusal::PlanLine);
     }

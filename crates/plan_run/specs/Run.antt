@@ -12,22 +12,22 @@ use Rattle.bench_by_value.specs.declared.Ran.{Ran}
 use Rattle.bench_by_value.specs.ByValue.{Rows, callOf}
 use Rattle.plan_line.specs.declared.Opening.{Opening}
 use Rattle.plan_line.specs.declared.Opening.the-variants as opening
-use Rattle.plan_line.specs.declared.Order.{Order}
-use Rattle.plan_line.specs.declared.Order.the-variants as order
-use Rattle.plan_line.specs.Plan.{openingOf, orderOf}
+use Rattle.plan_line.specs.declared.Line.{Line}
+use Rattle.plan_line.specs.declared.Line.the-variants as lines
+use Rattle.plan_line.specs.Plan.{openingOf, lineOf}
 use Rattle.plan_run.specs.declared.Act.{Act}
 use Rattle.plan_run.specs.declared.Act.the-variants as act
 use Rattle.plan_run.specs.declared.Opened.{Opened}
 
 -- "Then `ok`, `lost`, `miss a b` .. each run a slot; `off a` and `on a` switch or restart a node, no slot". A slot takes: "message lost to all or not, and which
 -- nodes miss it" ("The bench").
-abbrev pub actOf : Order → Act
-actOf order.Ok = act.Call (command.Slot false 0)
-actOf order.Lost = act.Call (command.Slot true 0)
-actOf (order.Miss missed) = act.Call (command.Slot false missed)
-actOf (order.Off a) = act.Call (command.Off a)
-actOf (order.On a) = act.Call (command.Restart a)
-actOf (order.Refused cause) = act.Refuse cause
+abbrev pub actOf : Line → Act
+actOf lines.Ok = act.Call (command.Slot false 0)
+actOf lines.Lost = act.Call (command.Slot true 0)
+actOf (lines.Miss missed) = act.Call (command.Slot false missed)
+actOf (lines.Off a) = act.Call (command.Off a)
+actOf (lines.On a) = act.Call (command.Restart a)
+actOf (lines.Refused cause) = act.Refuse cause
 
 -- A line that is refused changes nothing.
 abbrev pub refused : Rows → Refusal → Ran
@@ -39,7 +39,7 @@ ranBy n rows (act.Call c) = callOf n c 64 rows
 ranBy n rows (act.Refuse cause) = refused rows cause
 
 unfoldable pub ranOf : ℕ → Rows → List ℕ → Ran
-ranOf n rows line = ranBy n rows (actOf (orderOf n line))
+ranOf n rows line = ranBy n rows (actOf (lineOf n line))
 
 -- Before line one there is no node.
 abbrev pub noRows : Rows

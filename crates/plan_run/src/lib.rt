@@ -4,8 +4,8 @@ use bench::Command;
 use bench::Outcome;
 use bench_by_value::Ran;
 use node_record::Node;
+use plan_line::Line;
 use plan_line::Opening;
-use plan_line::Order;
 use refusal::Refusal;
 ghost use mathlib.Core.Path.{_≡_};
 ghost use Rattle.plan_run.specs.Run.{actOf, ranBy, ranOf, noRows, openedBy, openedOf};
@@ -24,16 +24,16 @@ pub struct Opened {
 }
 
 // What a line after line one has the bench do.
-fn act_of(order: Order) -> Act
-    ensures { λ r. ⌜ r ≡ actOf order ⌝ }
+fn act_of(line: Line) -> Act
+    ensures { λ r. ⌜ r ≡ actOf line ⌝ }
 {
-    match order {
-        Order::Ok => Act::Call(Command::Slot(false, 0)),
-        Order::Lost => Act::Call(Command::Slot(true, 0)),
-        Order::Miss(missed) => Act::Call(Command::Slot(false, missed)),
-        Order::Off(a) => Act::Call(Command::Off(a)),
-        Order::On(a) => Act::Call(Command::Restart(a)),
-        Order::Refused(cause) => Act::Refuse(cause),
+    match line {
+        Line::Ok => Act::Call(Command::Slot(false, 0)),
+        Line::Lost => Act::Call(Command::Slot(true, 0)),
+        Line::Miss(missed) => Act::Call(Command::Slot(false, missed)),
+        Line::Off(a) => Act::Call(Command::Off(a)),
+        Line::On(a) => Act::Call(Command::Restart(a)),
+        Line::Refused(cause) => Act::Refuse(cause),
     }
 }
 
@@ -58,7 +58,7 @@ fn ran_by(n: u32, rows: [Node; 32], act: Act) -> Ran
 pub fn run(n: u32, rows: [Node; 32], line: &[u8]) -> Ran
     ensures { λ r. ⌜ r ≡ ranOf n rows (now (line .entry)) ⌝ }
 {
-    ran_by(n, rows, act_of(plan_line::order_of(n, line)))
+    ran_by(n, rows, act_of(plan_line::line_of(n, line)))
 }
 
 // Rows of no node.

@@ -19,14 +19,11 @@ use Rattle.node_record.specs.declared.Node.{Node}
 use Rattle.node_record.specs.declared.State.{State}
 use Rattle.node_record.specs.declared.State.the-variants as state
 use Rattle.node_record.specs.States.{causeNumber}
-use Rattle.bench.specs.declared.Listed.the-variants as listed
-use Rattle.bench.specs.declared.Fate.the-variants as fate
-use Rattle.bench.specs.declared.Outcome.{Outcome}
-use Rattle.bench.specs.declared.Outcome.the-variants.{Slot}
 use Rattle.bench.specs.Table.{Table, recordOf, nodeCount}
 use Rattle.bench.specs.Calls.{setUpOf, greatest}
-use Rattle.bench.specs.Outcomes.{slotOutcome}
-use Rattle.bench.specs.Runs.{Call, slot, off, restart, callOf, tableAfter, entry}
+use Rattle.bench.specs.Runs.{Call, slot, off, tableAfter, entry}
+use Rattle.plan_line.specs.Words.{bytes}
+use Rattle.plan_program.specs.Program.{printed}
 
 -- ---- rows
 
@@ -92,35 +89,21 @@ after n k lent plan = tableAfter (setUpOf n k lent .table) (reverse plan)
 abbrev pub failures : ℕ → ℕ → Table → List Call → ℕ → ℕ
 failures n k lent plan m = sum (λ u. entry (setUpOf n k lent .table) (reverse plan) u .failures) 1 m
 
--- "Each slot prints: slot, sender, fate .., the set of the lowest-numbered member .., the greatest distance between sets of two members" ("The bench program").
-abbrev pub linesFrom : Table → List Call → List Outcome
-linesFrom t [] = []
-linesFrom t (slot isLost missed room ∷ plan) =
-    let called = callOf (slot isLost missed room) t in
-    slotOutcome isLost t (called .table) (called .answer) ∷ linesFrom (called .table) plan
-linesFrom t (off a ∷ plan) = linesFrom (callOf (off a) t .table) plan
-linesFrom t (restart a ∷ plan) = linesFrom (callOf (restart a) t .table) plan
-
-abbrev pub lines : ℕ → ℕ → Table → List Call → List Outcome
-lines n k lent plan = linesFrom (setUpOf n k lent .table) plan
-
 -- The greatest distance between sets of two members.
 abbrev pub apart : Table → ℕ
 apart t = greatest (nodeCount t) t
 
 -- ---- plans, and the listing
 
--- "Input `4 2`, `ok`, `lost`, `ok`, `ok` prints" ("The bench program")
+-- "Input `4 2`, `ok`, `lost`, `ok`, `ok` prints" ("The bench program"): as bytes, and as calls
+abbrev pub input : List ℕ
+input = bytes "4 2\nok\nlost\nok\nok\n"
+
+abbrev pub listing : List ℕ
+listing = bytes "1 1 sent 0000000f 0\n2 2 lost 0000000f 0\n3 3 sent 0000000f 0\n4 4 sent 0000000d 0\n"
+
 abbrev pub slotTwoLost : List Call
 slotTwoLost = ok ∷ lost ∷ ok ∷ ok ∷ []
-
-abbrev pub listing : List Outcome
-listing =
-    Slot 1 1 fate.Sent (listed.Set 0x0000000f) 0
-    ∷ Slot 2 2 fate.Lost (listed.Set 0x0000000f) 0
-    ∷ Slot 3 3 fate.Sent (listed.Set 0x0000000f) 0
-    ∷ Slot 4 4 fate.Sent (listed.Set 0x0000000d) 0
-    ∷ []
 
 -- "node 3 alone misses slot 2"
 abbrev pub slotTwoMissed : List Call
@@ -165,7 +148,7 @@ examples lent =
     ∷ (refusalIn (readOf 2 (0x02 ∷ 0x07 ∷ 0x01 ∷ 0x00 ∷ [])) gives 8)
     ∷ (refusalIn (readOf 2 (0x02 ∷ 0x03 ∷ 0x02 ∷ 0x00 ∷ [])) gives 7)
     -- "the listing above; node 2 is out, cause 1."
-    ∷ (lines 4 2 lent slotTwoLost gives listing)
+    ∷ (printed input gives listing)
     ∷ (told (after 4 2 lent slotTwoLost) 2 gives out 1)
     -- "n = 4, k = 2, node 3 alone misses slot 2: after slot 4 all hold {1,2,3,4}."
     ∷ (tellings (after 4 2 lent slotTwoMissed) gives replicate 4 (holds allFour))

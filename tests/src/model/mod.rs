@@ -4,6 +4,7 @@ pub mod bench;
 pub mod demand;
 pub mod message;
 pub mod node;
+pub mod pieces;
 pub mod program;
 pub mod refusal;
 pub mod ring;

@@ -7,7 +7,7 @@ use super::ring::{is_node, Set};
 use std::io::Write;
 
 /// "Lines of at most 120 bytes end in a line feed, itself not counted."
-const LONGEST: usize = 120;
+pub const LONGEST: usize = 120;
 
 /// All that the program prints for this input. "A refused line prints `line L refusal N`, lines counted
 /// from 1, and ends the run."
@@ -40,14 +40,14 @@ fn whole(line: &[u8]) -> Result<&[u8], u32> {
 }
 
 /// "Line one: n, space, k."
-fn line_one(line: &[u8]) -> Result<Vec<Node>, u32> {
+pub fn line_one(line: &[u8]) -> Result<Vec<Node>, u32> {
     let (n, k) = parted(line);
     let n = number(n)?;
     let k = number(k.ok_or(refusal::LINE)?)?;
     bench::set_up(n, k, n as usize)
 }
 
-fn run_line(nodes: &mut [Node], line: &[u8], out: &mut Vec<u8>) -> Result<(), u32> {
+pub fn run_line(nodes: &mut [Node], line: &[u8], out: &mut Vec<u8>) -> Result<(), u32> {
     let call = call(nodes[0].n, line)?;
     if let Some(slot) = bench::run(&Document01, nodes, call)? {
         print_slot(nodes, &slot, out);

@@ -14,7 +14,7 @@ use Rattle.plan_line.specs.declared.Missed.{Missed}
 use Rattle.plan_line.specs.Words.{allDigits, isNumber, leadingZero, leastAfter, valueOf}
 use Rattle.plan_line.specs.Plan.{joined, missingOf}
 use Rattle.plan_line.proofs.Numbers.{form}
-use Rattle.plan_line.proofs.Lists.{rest, rest-start, rest-end, rest-stop, rest-next, joined-capped, wordsFrom, word-at, word-in, from-start, from-end}
+use Rattle.plan_line.proofs.Lists.{rest, rest-start, rest-end, rest-stop, rest-next, joined-capped, partsFrom, part-at, part-in, from-place, from-end}
 use Rattle.plan_line.proofs.missing.Statement.{statement}
 use Rattle.plan_line.proofs.missing.Tie as tie
 
@@ -23,24 +23,24 @@ Inv-loop n text missed₀ last₀ end₀ at₀ missed last end at =
     (last ≤ end) × (end ≤ length text) × (at ≤ length text + 1)
     × (leadingZero (take (end - last) (drop last text)) ≡ false)
     × (allDigits (take (end - last) (drop last text)) ≡ true)
-    × (missingOf n text ≡ rest n (take (end - last) (drop last text)) missed (wordsFrom text at))
+    × (missingOf n text ≡ rest n (take (end - last) (drop last text)) missed (partsFrom 32 text at))
 
 abbrev μ-loop : tie.MeasureT-loop
 μ-loop n text missed₀ last₀ end₀ at₀ missed last end at = length text + 1 - at
 
 -- where the next word ends
 ends : (c : tie.After-follows-arg Inv-loop μ-loop)
-    → (c .before .before .before .loop .at ≤ c .before .word-end .result) × (c .before .word-end .result ≤ length (now (c .before .before .before .before .before .args .text)))
+    → (c .before .before .before .loop .at ≤ c .before .part-end .result) × (c .before .part-end .result ≤ length (now (c .before .before .before .before .before .args .text)))
 ends c =
-    word-in (now (c .before .before .before .before .before .args .text)) (c .before .before .before .loop .at) (c .before .word-end .result) (c .before .before .loop-test .taken)
-    (c .before .word-end .ensures)
+    part-in 32 (now (c .before .before .before .before .before .args .text)) (c .before .before .before .loop .at) (c .before .part-end .result) (c .before .before .loop-test .taken)
+    (c .before .part-end .ensures)
 
 -- the next word
-abbrev word : tie.After-word-end Inv-loop μ-loop → List ℕ
-word c = take (c .word-end .result - c .before .before .loop .at) (drop (c .before .before .loop .at) (now (c .before .before .before .before .args .text)))
+abbrev word : tie.After-part-end Inv-loop μ-loop → List ℕ
+word c = take (c .part-end .result - c .before .before .loop .at) (drop (c .before .before .loop .at) (now (c .before .before .before .before .args .text)))
 
 -- the word before it
-abbrev before : tie.After-word-end Inv-loop μ-loop → List ℕ
+abbrev before : tie.After-part-end Inv-loop μ-loop → List ℕ
 before c = take (c .before .before .loop .end - c .before .before .loop .last) (drop (c .before .before .loop .last) (now (c .before .before .before .before .args .text)))
 
 -- the next word is a number that may follow
@@ -50,10 +50,10 @@ passed c = sym (c .before .follows .ensures) ∙ not-false (c .before .follows .
 
 loop-holds : tie.Need-loop-holds Inv-loop μ-loop
 unfolding allDigits
-loop-holds c = (omega arith, omega arith, omega arith, refl, refl, rest-start (c .before .args .n) (now (c .before .args .text)) ∙ ap (rest (c .before .args .n) [] (record { inside = true; set = 0 })) (from-start (now (c .before .args .text))))
+loop-holds c = (omega arith, omega arith, omega arith, refl, refl, rest-start (c .before .args .n) (now (c .before .args .text)) ∙ ap (rest (c .before .args .n) [] (record { inside = true; set = 0 })) (sym (from-place 32 (now (c .before .args .text)) 0 (omega arith))))
 
-word-end-requires : tie.Need-word-end-requires Inv-loop μ-loop
-word-end-requires c κs = search needs
+part-end-requires : tie.Need-part-end-requires Inv-loop μ-loop
+part-end-requires c κs = search needs
 
 sub-follows : tie.Need-sub-follows Inv-loop μ-loop
 sub-follows c = omega arith
@@ -80,7 +80,7 @@ returns : tie.Need-returns Inv-loop μ-loop
 returns c =
     let t = now (c .before .before .before .before .before .before .before .before .args .text) in
     let loop = c .before .before .before .before .before .before .loop in
-    let words = word-at t (loop .at) (c .before .before .before .before .word-end .result) (c .before .before .before .before .before .loop-test .taken) (c .before .before .before .before .word-end .ensures) in
+    let words = part-at 32 t (loop .at) (c .before .before .before .before .part-end .result) (c .before .before .before .before .before .loop-test .taken) (c .before .before .before .before .part-end .ensures) in
     sym (loop .inv .5 ∙ ap (rest _ _ _) words ∙ rest-stop _ _ _ _ _ (sym (c .before .follows .ensures) ∙ not-true (c .before .follows .result) (c .if1 .taken)))
 
 sub-small-value : tie.Need-sub-small-value Inv-loop μ-loop
@@ -110,11 +110,11 @@ loop-again c =
     let t = now (a .text) in
     let loop = c .before .before .before .before .before .before .before .before .before .loop in
     let at-word = c .before .before .before .before .before .before .before in
-    let next = at-word .word-end .result in
+    let next = at-word .part-end .result in
     let inside = ends (c .before .before .before .before .before .before) in
     let good = passed (c .before .before .before) in
     let shape = form (word at-word) (and-eq-true-iff (isNumber (word at-word)) (leb (leastAfter (before at-word)) (valueOf (word at-word))) .0 good .0) in
-    let words = word-at t (loop .at) next (c .before .before .before .before .before .before .before .before .loop-test .taken) (at-word .word-end .ensures) in
+    let words = part-at 32 t (loop .at) next (c .before .before .before .before .before .before .before .before .loop-test .taken) (at-word .part-end .ensures) in
     let missed : c .joined .result ≡ joined (a .n) (loop .missed) (valueOf (word at-word)) =
     c .joined .ensures ∙ ap (joined (a .n) (loop .missed)) (c .before .small-value .ensures) ∙ joined-capped (a .n) (loop .missed) (valueOf (word at-word)) in (
       inside .0,
@@ -124,18 +124,18 @@ loop-again c =
       shape .2,
       loop .inv .5
           ∙ ap (rest (a .n) (before at-word) (loop .missed)) words
-          ∙ rest-next (a .n) (before at-word) (loop .missed) (word at-word) (wordsFrom t (next + 1)) good
-          ∙ ap (λ (m : Missed). rest (a .n) (word at-word) m (wordsFrom t (next + 1))) (sym missed),
+          ∙ rest-next (a .n) (before at-word) (loop .missed) (word at-word) (partsFrom 32 t (next + 1)) good
+          ∙ ap (λ (m : Missed). rest (a .n) (word at-word) m (partsFrom 32 t (next + 1))) (sym missed),
     )
 
-missed-order-requires : tie.Need-missed-order-requires Inv-loop μ-loop
-missed-order-requires c κs = search needs
+missed-line-requires : tie.Need-missed-line-requires Inv-loop μ-loop
+missed-line-requires c κs = search needs
 
 returns-2 : tie.Need-returns-2 Inv-loop μ-loop
 returns-2 c =
     let t = now (c .before .before .before .before .args .text) in
     let loop = c .before .before .loop in
-    c .missed-order .ensures ∙ sym (loop .inv .5 ∙ ap (rest _ _ _) (from-end t (loop .at) (c .before .loop-test .left)) ∙ rest-end _ _ _)
+    c .missed-line .ensures ∙ sym (loop .inv .5 ∙ ap (rest _ _ _) (from-end 32 t (loop .at) (c .before .loop-test .left)) ∙ rest-end _ _ _)
 
 pub missing-spec : {M : Type 1} → statement M
 missing-spec =
@@ -144,7 +144,7 @@ missing-spec =
     Inv-loop
     μ-loop
     loop-holds
-    word-end-requires
+    part-end-requires
     sub-follows
     part-follows-start
     part-follows-end
@@ -161,5 +161,5 @@ missing-spec =
     add-at
     loop-less
     loop-again
-    missed-order-requires
+    missed-line-requires
     returns-2)

@@ -18,22 +18,22 @@ use borrow.Author.Needs.{needs}
 use Rattle.plan_line.proofs.opening_of.Statement.{statement}
 use Rattle.plan_line.proofs.opening_of.Tie as tie
 
-no-second : (l : List ℕ) → length l ≤ gap l → numbersOf (before l) (after l) ≡ Refused PlanLine
+no-second : (l : List ℕ) → length l ≤ gap 32 l → numbersOf (before l) (after l) ≡ Refused PlanLine
 unfolding numbersOf isNumber
-no-second l h = rw (drop-of-length-le l {i = suc (gap l)} (omega arith), and-false)
+no-second l h = rw (drop-of-length-le l {i = suc (gap 32 l)} (omega arith), and-false)
 
 returns : tie.Need-returns
 unfolding openingOf
 returns c = simp (lt-leb (length (now (c .before .before .args .line))) 120 (c .if1 .taken))
 
-word-end-requires : tie.Need-word-end-requires
-word-end-requires c κs = search needs
+part-end-requires : tie.Need-part-end-requires
+part-end-requires c κs = search needs
 
 returns-2 : tie.Need-returns-2
 unfolding openingOf
 returns-2 c =
     let l = now (c .before .before .before .before .args .line) in
-    let none : length l ≤ gap l = omega (arith, c .before .word-end .ensures) in
+    let none : length l ≤ gap 32 l = omega (arith, c .before .part-end .ensures) in
     simp (le-leb (length l) 120 (c .before .before .if1 .left)) (sym (no-second l none))
 
 slice-aggregate-two-numbers : tie.Need-slice-aggregate-two-numbers
@@ -58,21 +58,21 @@ returns-3 : tie.Need-returns-3
 unfolding openingOf
 returns-3 c =
     let l = now (c .before .before .before .before .before .before .before .args .line) in
-    let e = c .before .before .before .before .word-end .result in
-    let end : e ≡ gap l = omega (arith, c .before .before .before .before .word-end .ensures) in
+    let e = c .before .before .before .before .part-end .result in
+    let end : e ≡ gap 32 l = omega (arith, c .before .before .before .before .part-end .ensures) in
     let all : take (length l - (e + 1)) (drop (e + 1) l) ≡ drop (e + 1) l = take-all (length l - (e + 1)) (drop (e + 1) l) (omega (arith, length-drop (e + 1) l)) in
     simp (le-leb (length l) 120 (c .before .before .before .before .before .if1 .left))
     (c .two-numbers .ensures
     ∙ ap (numbersOf (take e l)) all
     ∙ ap (λ (g : ℕ). numbersOf (take g l) (drop (g + 1) l)) end
-    ∙ ap (λ (g : ℕ). numbersOf (take (gap l) l) (drop g l)) (add-one (gap l)))
+    ∙ ap (λ (g : ℕ). numbersOf (take (gap 32 l) l) (drop g l)) (add-one (gap 32 l)))
 
 pub opening-of-spec : {M : Type 1} → statement M
 opening-of-spec =
     tie.close
     (tie.spec
     returns
-    word-end-requires
+    part-end-requires
     returns-2
     slice-aggregate-two-numbers
     add-two-numbers

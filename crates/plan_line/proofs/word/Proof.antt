@@ -9,7 +9,7 @@ use lib.ListN.{length, take, drop, length-drop}
 use lib.Seq.{take-all}
 use denote.Ref.{now}
 use Rattle.plan_line.specs.Words.{begins, same}
-use Rattle.plan_line.specs.Plan.{lostWord, missWord, missingOf, namedOf, offOrder, offWord, okWord, onOrder, onWord}
+use Rattle.plan_line.specs.Plan.{lostWord, missWord, missingOf, namedOf, offLine, offWord, okWord, onLine, onWord}
 use Rattle.plan_line.proofs.Words.{begins-long}
 use Rattle.plan_line.proofs.Cases.{says-ok, says-lost, says-miss, says-off, says-on, says-nothing}
 use borrow.Author.Needs.{needs}
@@ -104,14 +104,14 @@ part-node-named-end c = search needs
 node-named-requires : tie.Need-node-named-requires
 node-named-requires c κs = search needs
 
-off-order-requires : tie.Need-off-order-requires
-off-order-requires c κs = search needs
+off-line-requires : tie.Need-off-line-requires
+off-line-requires c κs = search needs
 
 returns-4 : tie.Need-returns-4
 returns-4 c =
     let a = c .before .before .before .before .before .before .before .before .before .before .before .before .before .before .before .before .args in
-    c .off-order .ensures
-    ∙ ap offOrder (c .before .node-named .ensures ∙ ap (namedOf (a .n)) (whole 4 (now (a .line))))
+    c .off-line .ensures
+    ∙ ap offLine (c .before .node-named .ensures ∙ ap (namedOf (a .n)) (whole 4 (now (a .line))))
     ∙ sym (says-off (a .n) (now (a .line)) (not-ok (c .before .before .before .before .before .before .before .before .before .before .before .before)) (not-lost (c .before .before .before .before .before .before .before .before .before)) (not-miss (c .before .before .before .before .before .before)) (is-off (c .before .before .before)))
 
 slice-aggregate-begins-3 : tie.Need-slice-aggregate-begins-3
@@ -132,14 +132,14 @@ part-node-named-end-2 c = search needs
 node-named-requires-2 : tie.Need-node-named-requires-2
 node-named-requires-2 c κs = search needs
 
-on-order-requires : tie.Need-on-order-requires
-on-order-requires c κs = search needs
+on-line-requires : tie.Need-on-line-requires
+on-line-requires c κs = search needs
 
 returns-5 : tie.Need-returns-5
 returns-5 c =
     let a = c .before .before .before .before .before .before .before .before .before .before .before .before .before .before .before .before .before .before .before .args in
-    c .on-order .ensures
-    ∙ ap onOrder (c .before .node-named2 .ensures ∙ ap (namedOf (a .n)) (whole 3 (now (a .line))))
+    c .on-line .ensures
+    ∙ ap onLine (c .before .node-named2 .ensures ∙ ap (namedOf (a .n)) (whole 3 (now (a .line))))
     ∙ sym (says-on (a .n) (now (a .line)) (not-ok (c .before .before .before .before .before .before .before .before .before .before .before .before .before .before .before)) (not-lost (c .before .before .before .before .before .before .before .before .before .before .before .before)) (not-miss (c .before .before .before .before .before .before .before .before .before)) (not-off (c .before .before .before .before .before .before)) (is-on (c .before .before .before)))
 
 returns-6 : tie.Need-returns-6
@@ -170,7 +170,7 @@ word-spec =
     part-node-named-start
     part-node-named-end
     node-named-requires
-    off-order-requires
+    off-line-requires
     returns-4
     slice-aggregate-begins-3
     begins-requires-3
@@ -178,6 +178,6 @@ word-spec =
     part-node-named-start-2
     part-node-named-end-2
     node-named-requires-2
-    on-order-requires
+    on-line-requires
     returns-5
     returns-6)

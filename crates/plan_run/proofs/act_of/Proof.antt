@@ -11,17 +11,17 @@ enum-told c = search needs
 enum-told-2 : tie.Need-enum-told-2
 enum-told-2 c = search needs
 
-enum-known-order : tie.Need-enum-known-order
-enum-known-order c = search needs
+enum-known-line : tie.Need-enum-known-line
+enum-known-line c = search needs
 
-enum-known-order-2 : tie.Need-enum-known-order-2
-enum-known-order-2 c = search needs
+enum-known-line-2 : tie.Need-enum-known-line-2
+enum-known-line-2 c = search needs
 
-enum-known-order-3 : tie.Need-enum-known-order-3
-enum-known-order-3 c = search needs
+enum-known-line-3 : tie.Need-enum-known-line-3
+enum-known-line-3 c = search needs
 
-enum-known-order-4 : tie.Need-enum-known-order-4
-enum-known-order-4 c = search needs
+enum-known-line-4 : tie.Need-enum-known-line-4
+enum-known-line-4 c = search needs
 
 returns : tie.Need-returns
 returns c = sym (ap actOf (c .enum-told .given .1))
@@ -30,16 +30,16 @@ returns-2 : tie.Need-returns-2
 returns-2 c = sym (ap actOf (c .enum-told2 .given .1))
 
 returns-3 : tie.Need-returns-3
-returns-3 c = sym (ap actOf (c .before .order .given .1))
+returns-3 c = sym (ap actOf (c .before .line .given .1))
 
 returns-4 : tie.Need-returns-4
-returns-4 c = sym (ap actOf (c .before .order2 .given .1))
+returns-4 c = sym (ap actOf (c .before .line2 .given .1))
 
 returns-5 : tie.Need-returns-5
-returns-5 c = sym (ap actOf (c .before .order3 .given .1))
+returns-5 c = sym (ap actOf (c .before .line3 .given .1))
 
 returns-6 : tie.Need-returns-6
-returns-6 c = sym (ap actOf (c .before .order4 .given .1))
+returns-6 c = sym (ap actOf (c .before .line4 .given .1))
 
 pub act-of-spec : {M : Type 1} → statement M
 act-of-spec =
@@ -47,10 +47,10 @@ act-of-spec =
     (tie.spec
     enum-told
     enum-told-2
-    enum-known-order
-    enum-known-order-2
-    enum-known-order-3
-    enum-known-order-4
+    enum-known-line
+    enum-known-line-2
+    enum-known-line-3
+    enum-known-line-4
     returns
     returns-2
     returns-3

@@ -1,0 +1,29 @@
+// 32 records as rows: one of them loaded, and all of them put out as bytes.
+use crate::bytes;
+use node_record::Node;
+use run_io::output;
+
+// A row that there is not stays as it is.
+pub fn loaded(rows: [Node; 32], row: usize, node: Node) -> [Node; 32] {
+    let mut rows = rows;
+    if row < 32 {
+        rows[row] = node;
+    }
+    rows
+}
+
+fn put_row(output: &mut [u8; 4096], held: usize, row: Node) -> usize {
+    let mut record = [0u8; 255];
+    bytes::set_node(&mut record, row);
+    output::put_block(output, held, &record, 51)
+}
+
+pub fn put_rows(output: &mut [u8; 4096], held: usize, rows: [Node; 32]) -> usize {
+    let mut held = held;
+    let mut i = 0;
+    while i < 32 {
+        held = put_row(output, held, rows[i]);
+        i += 1;
+    }
+    held
+}

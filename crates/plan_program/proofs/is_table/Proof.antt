@@ -1,0 +1,42 @@
+-- `plan_program::is_table` meets its contract: a look at a table is refused by 4 alone. Assumes nothing.
+use Prim.Native.Nat.{ℕ}
+use mathlib.Core.Path.{_≡_, refl, ap, _∙_}
+use mathlib.Core.Bool.{Bool, true, false, not}
+use borrow.Author.Needs.{needs}
+use Rattle.refusal.specs.declared.Refusal.the-variants.{Unsound}
+use Rattle.bench.specs.declared.Command.the-variants.{Look}
+use Rattle.bench.specs.Table.{tableSound}
+use Rattle.bench.specs.Calls.{done, ifPassed, lookOf}
+use Rattle.bench.specs.Outcomes.{endedBy, endedOf}
+use Rattle.bench_by_value.specs.declared.Ran.{Ran}
+use Rattle.bench_by_value.specs.ByValue.{Rows, callOf, ended, tableOf}
+use Rattle.plan_program.specs.Program.{isRefused}
+use Rattle.plan_program.proofs.is_table.Statement.{statement}
+use Rattle.plan_program.proofs.is_table.Tie as tie
+
+look-tells : (n room : ℕ) (rows : Rows) → not (isRefused (callOf n (Look false) room rows .outcome)) ≡ tableSound (tableOf n rows)
+unfolding callOf endedOf lookOf
+look-tells n room rows = go (tableSound (tableOf n rows))
+  where
+    go : (b : Bool) → not (isRefused (ended n rows (endedBy (Look false) (tableOf n rows) (ifPassed b Unsound (tableOf n rows) (done (tableOf n rows)))) .outcome)) ≡ b
+    go true = refl
+    go false = refl
+
+slice-aggregate-call : tie.Need-slice-aggregate-call
+slice-aggregate-call c = search needs
+
+call-requires : tie.Need-call-requires
+call-requires c κs = search needs
+
+is-refused-requires : tie.Need-is-refused-requires
+is-refused-requires c κs = search needs
+
+returns : tie.Need-returns
+returns c =
+    let a = c .before .before .before .before .args in
+    ap not (c .is-refused .ensures)
+    ∙ ap (λ (r : Ran). not (isRefused (r .outcome))) (c .before .before .call .ensures .0)
+    ∙ look-tells (a .n) 64 (a .rows)
+
+pub is-table-spec : {M : Type 1} → statement M
+is-table-spec = tie.close (tie.spec slice-aggregate-call call-requires is-refused-requires returns)

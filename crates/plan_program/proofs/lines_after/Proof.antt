@@ -1,0 +1,16 @@
+-- `plan_program::lines_after` meets its contract. Assumes nothing.
+use borrow.Author.Needs.{needs}
+use Rattle.plan_program.proofs.lines_after.Statement.{statement}
+use Rattle.plan_program.proofs.lines_after.Tie as tie
+
+returns : tie.Need-returns
+returns c = search needs
+
+counted-requires : tie.Need-counted-requires
+counted-requires c κs = search needs
+
+returns-2 : tie.Need-returns-2
+returns-2 c = simp (c .before .if1 .left) (c .counted .ensures)
+
+pub lines-after-spec : {M : Type 1} → statement M
+lines-after-spec = tie.close (tie.spec returns counted-requires returns-2)

@@ -1,0 +1,4 @@
+pub mod Program
+pub mod Calls
+pub mod Tables
+pub mod Inner

@@ -1,0 +1,301 @@
+// Runs calls of `plan_program` for a test. Commands from standard input act on a plan and a part of its
+// next line, and the answers go to standard output. Each command is a letter, a byte and further bytes.
+// Numbers are lowest byte first; input that ends within a command counts as followed by zeros.
+//
+//   N 0                      the plan before line one, and no part; no answer
+//   P over lines n           lines (eight bytes), n (four) and over (1 for yes) of the plan; no answer
+//   L row record             row 0 to 31 of the plan becomes this record; no answer
+//   T length text            the part: its length and its 121 bytes; no answer
+//   F length room piece      feeds a piece of so many bytes, 250 at the most
+//   E 0 room                 ends the text
+//   A length room text       prints a whole text of so many bytes, 250 at the most
+//
+// `room` (four bytes) is the length of the lent buffer, 20,480 at the most, each byte of it 0xA5. A call
+// is answered by a byte, 0 or the refusal's number; by the count of bytes (four); by the whole buffer; by
+// over (a byte), lines and n of the plan; by its 32 rows; by the part's length (a byte, 122 where it is
+// more than 121) and its bytes.
+// Any other letter ends the run.
+mod answers;
+
+use bench::Outcome;
+use node_bytes::bytes;
+use node_bytes::rows;
+use node_record::Node;
+use plan_program::Part;
+use plan_program::Plan;
+use plan_text::Written;
+use run_io::block;
+use run_io::block::Block;
+use run_io::input;
+use run_io::input::Unread;
+use run_io::output;
+
+// What there is from one command to the next; `held` is the number of bytes that wait in the output.
+struct Held {
+    plan: Plan,
+    part: Part,
+    held: usize,
+}
+
+// A command: its letter and the byte after it.
+struct Head {
+    letter: u8,
+    byte: u8,
+    left: Unread,
+}
+
+fn is_command(letter: u8) -> bool {
+    match letter {
+        b'N' | b'P' | b'L' | b'T' | b'F' | b'E' | b'A' => true,
+        _ => false,
+    }
+}
+
+// So many bytes after the room; no block holds more than 250.
+fn with_room(length: u8) -> u8 {
+    if length < 250 { length + 4 } else { 254 }
+}
+
+// How many bytes follow the letter and the byte after it.
+fn body(letter: u8, byte: u8) -> u8 {
+    match letter {
+        b'P' => 12,
+        b'L' => 51,
+        b'T' => 121,
+        b'F' | b'A' => with_room(byte),
+        b'E' => 4,
+        _ => 0,
+    }
+}
+
+// A whole command; its further bytes go into the start of `block`. At the end of the input the letter is
+// read as 0.
+fn read(input: &mut [u8; 4096], left: Unread, block: &mut Block) -> Head {
+    let first = input::next(input, left);
+    let letter = first.byte;
+    let left = first.left;
+    let second = input::next(input, left);
+    let byte = second.byte;
+    let left = second.left;
+    let left = input::fill(input, left, block, body(letter, byte));
+    Head {
+        letter: letter,
+        byte: byte,
+        left: left,
+    }
+}
+
+fn with_row(plan: Plan, row: usize, node: Node) -> Plan {
+    let rows = plan.rows;
+    let rows = rows::loaded(rows, row, node);
+    let outcome = plan.outcome;
+    Plan {
+        lines: plan.lines,
+        n: plan.n,
+        rows: rows,
+        over: plan.over,
+        outcome: outcome,
+    }
+}
+
+fn with_numbers(plan: Plan, over: u8, block: &Block) -> Plan {
+    let rows = plan.rows;
+    Plan {
+        lines: block::long_word(block, 0),
+        n: block::word(block, 8),
+        rows: rows,
+        over: over == 1,
+        outcome: Outcome::Quiet,
+    }
+}
+
+fn part_of(length: u8, block: &Block) -> Part {
+    let mut text = [0u8; 121];
+    let mut i = 0;
+    while i < 121 {
+        text[i] = block[i];
+        i += 1;
+    }
+    Part {
+        length: length as usize,
+        text: text,
+    }
+}
+
+// The plan that is loaded by a command without an answer.
+fn plan_loaded(plan: Plan, head: Head, block: &Block) -> Plan {
+    let letter = head.letter;
+    match letter {
+        b'N' => plan_program::no_plan(),
+        b'P' => with_numbers(plan, head.byte, block),
+        b'L' => with_row(plan, head.byte as usize, bytes::node_of(block)),
+        _ => plan,
+    }
+}
+
+fn part_loaded(part: Part, head: Head, block: &Block) -> Part {
+    let letter = head.letter;
+    match letter {
+        b'N' => plan_program::no_part(),
+        b'T' => part_of(head.byte, block),
+        _ => part,
+    }
+}
+
+fn is_call(letter: u8) -> bool {
+    match letter {
+        b'F' | b'E' | b'A' => true,
+        _ => false,
+    }
+}
+
+fn load(state: Held, head: Head, block: &Block) -> Held {
+    let plan = state.plan;
+    let part = state.part;
+    let plan = plan_loaded(plan, head, block);
+    let part = part_loaded(part, head, block);
+    Held {
+        plan: plan,
+        part: part,
+        held: state.held,
+    }
+}
+
+// A call's answer, and the plan and the part after it.
+struct Ran {
+    plan: Plan,
+    part: Part,
+    written: Written,
+}
+
+fn feed(plan: Plan, part: Part, piece: &[u8], out: &mut [u8]) -> Ran {
+    let fed = plan_program::feed(plan, part, piece, out);
+    let plan = fed.plan;
+    let part = fed.part;
+    let written = fed.written;
+    Ran {
+        plan: plan,
+        part: part,
+        written: written,
+    }
+}
+
+fn finish(plan: Plan, part: Part, out: &mut [u8]) -> Ran {
+    let written = plan_program::finish(plan, part, out);
+    Ran {
+        plan: plan,
+        part: part,
+        written: written,
+    }
+}
+
+fn print(plan: Plan, part: Part, text: &[u8], out: &mut [u8]) -> Ran {
+    let written = plan_program::print_plan(text, out);
+    Ran {
+        plan: plan,
+        part: part,
+        written: written,
+    }
+}
+
+fn run_lent(letter: u8, plan: Plan, part: Part, text: &[u8], out: &mut [u8]) -> Ran {
+    match letter {
+        b'F' => feed(plan, part, text, out),
+        b'E' => finish(plan, part, out),
+        _ => print(plan, part, text, out),
+    }
+}
+
+// The bytes after the room.
+fn run_text(letter: u8, length: usize, plan: Plan, part: Part, text: &[u8], out: &mut [u8]) -> Ran {
+    if length <= 250 {
+        let end = length + 4;
+        if end <= text.len() {
+            return run_lent(letter, plan, part, &text[4..end], out);
+        }
+    }
+    run_lent(letter, plan, part, text, out)
+}
+
+// Lends the first `room` bytes.
+fn run_room(
+    letter: u8,
+    length: usize,
+    plan: Plan,
+    part: Part,
+    text: &[u8],
+    out: &mut [u8],
+    room: usize,
+) -> Ran {
+    if room <= out.len() {
+        run_text(letter, length, plan, part, text, &mut out[0..room])
+    } else {
+        run_text(letter, length, plan, part, text, out)
+    }
+}
+
+// Carries a call out and answers.
+fn call(output: &mut [u8; 4096], state: Held, head: Head, block: &Block) -> Held {
+    let mut out = [0xA5u8; 20480];
+    let room = block::word(block, 0) as usize;
+    let plan = state.plan;
+    let part = state.part;
+    let ran = run_room(
+        head.letter,
+        head.byte as usize,
+        plan,
+        part,
+        block,
+        &mut out,
+        room,
+    );
+    let written = ran.written;
+    let plan = ran.plan;
+    let part = ran.part;
+    let held = answers::put_written(output, state.held, written);
+    let held = answers::put_bytes(output, held, &out, room);
+    let held = answers::put_plan(output, held, plan);
+    let held = answers::put_part(output, held, part);
+    Held {
+        plan: plan,
+        part: part,
+        held: held,
+    }
+}
+
+fn run(output: &mut [u8; 4096], state: Held, head: Head, block: &Block) -> Held {
+    if is_call(head.letter) {
+        return call(output, state, head, block);
+    }
+    load(state, head, block)
+}
+
+// A proved loop has to end, so it counts its turns down, from a number that no run uses up.
+fn run_all(input: &mut [u8; 4096], output: &mut [u8; 4096]) -> usize {
+    let mut left = Unread { at: 0, end: 0 };
+    let mut state = Held {
+        plan: plan_program::no_plan(),
+        part: plan_program::no_part(),
+        held: 0,
+    };
+    let mut turns = u64::MAX;
+    while turns > 0 {
+        let mut block = [0u8; 255];
+        let head = read(input, left, &mut block);
+        if !is_command(head.letter) {
+            return state.held;
+        }
+        state = run(output, state, head, &block);
+        let rest = head.left;
+        left = rest;
+        turns -= 1;
+    }
+    state.held
+}
+
+fn main() {
+    let mut input = [0u8; 4096];
+    let mut output = [0u8; 4096];
+    let held = run_all(&mut input, &mut output);
+    output::flush(&output, held);
+}

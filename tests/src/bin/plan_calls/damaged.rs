@@ -1,0 +1,77 @@
+//! Plans and parts as no call leaves them: rows that are no table, any numbers, any bytes.
+
+use super::compare::compare;
+use super::protocol::{Command, BUFFER, PART, PIECE, ROWS};
+use comparison::model::bench;
+use comparison::random::Random;
+use comparison::records::disturb;
+use comparison::report::Count;
+
+fn numbers(random: &mut Random, n: u32) -> Command {
+    let lines = match random.below(4) {
+        0 => 0,
+        1 => u64::MAX - random.below(3),
+        _ => random.within(1, 300),
+    };
+    let n = if random.below(4) == 0 { [0, 1, n + 1, 33, 40, u32::MAX][random.below(6) as usize] } else { n };
+    Command::Numbers { over: random.below(6) == 0, lines, n }
+}
+
+/// Often one that goes on with a line that can be read; some hold a line feed.
+fn part(random: &mut Random) -> Command {
+    let mut text = [b'0'; PART];
+    let begun: &[u8] = [&b""[..], b"o", b"ok", b"miss 1 ", b"4 2\nok", b"off "][random.below(6) as usize];
+    text[..begun.len()].copy_from_slice(begun);
+    let length = match random.below(6) {
+        0 => random.byte(),
+        1 => random.within(119, 123) as u8,
+        _ => begun.len() as u8,
+    };
+    Command::Part { length, text }
+}
+
+fn piece(random: &mut Random) -> Vec<u8> {
+    let pieces: [&[u8]; 8] = [
+        b"",
+        b"\n",
+        b"k\nok\n",
+        b"ok\nlost\n",
+        b"2\nok",
+        b"4 2\nok\n",
+        b"on 1\nok\n",
+        b"miss 1 2 3\nok\n\nok\n",
+    ];
+    let mut piece = pieces[random.below(8) as usize].to_vec();
+    if random.below(5) == 0 {
+        piece.resize(random.below(PIECE as u64 + 1) as usize, b'1');
+    }
+    piece
+}
+
+/// Tables of every n, most of them with a record that was disturbed or is missing.
+pub fn plans(count: &mut Count) -> Result<(), String> {
+    let mut random = Random::new(79);
+    let mut commands = Vec::new();
+    for i in 0..3_000 {
+        let n = 3 + i % 30;
+        let k = random.within(2, u64::from(n) - 1) as u32;
+        let table = bench::set_up(n, k, n as usize).expect("n and k are in range");
+        commands.push(Command::New);
+        for (row, node) in (0..).zip(&table) {
+            commands.push(Command::Load(row, *node));
+        }
+        if random.below(3) == 0 {
+            let row = random.below(ROWS as u64) as usize;
+            let mut node = table[row % table.len()];
+            disturb(&mut random, &mut node);
+            commands.push(Command::Load(row as u8, node));
+        }
+        commands.push(numbers(&mut random, n));
+        commands.push(part(&mut random));
+        for _ in 0..3 {
+            commands.push(Command::Feed(piece(&mut random), if random.below(8) == 0 { 79 } else { BUFFER }));
+        }
+        commands.push(Command::Finish(if random.below(8) == 0 { 79 } else { 80 }));
+    }
+    compare(count, &commands)
+}

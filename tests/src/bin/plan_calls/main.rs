@@ -1,0 +1,27 @@
+//! Plan texts in pieces: the library, behind the program `plan_runs`, beside the model.
+
+mod compare;
+mod damaged;
+mod pieces;
+mod protocol;
+mod texts;
+
+use comparison::report::{self, Case};
+use std::process::ExitCode;
+
+fn main() -> ExitCode {
+    report::run(&[
+        Case {
+            name: "pieces: plans of every n, cut anywhere, with buffers just long enough and too short",
+            meets: &[0, 9],
+            run: pieces::drawn,
+        },
+        Case { name: "pieces: short texts cut in two at every place", meets: &[0], run: pieces::every_cut },
+        Case {
+            name: "whole texts: with buffers just long enough and too short",
+            meets: &[0, 9],
+            run: pieces::whole,
+        },
+        Case { name: "damaged: any rows, numbers and parts", meets: &[0, 4, 9], run: damaged::plans },
+    ])
+}
