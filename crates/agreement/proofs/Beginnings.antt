@@ -9,6 +9,7 @@ use lib.Dec.{leb}
 use borrow.Author.Tests.{lt-leb}
 use Rattle.nodeset.specs.Sums.{num}
 use Rattle.nodeset.proofs.Sums.{sum-le}
+use Rattle.ring.specs.declared.Cable.{Cable}
 use Rattle.bench.specs.Table.{Table, slotsOf}
 use Rattle.bench.specs.Runs.{Call, tableAfter, isSlot, Entry, noEntry, entry}
 use Rattle.agreement.specs.Demand.{AtEach, AfterEach, Premises, isDeciding, decidingRan}
@@ -31,23 +32,25 @@ at-end P (c ∷ cs) h = h .1 .1
 
 -- ---- a call: the slot counts, and the table
 
-module _ (n k : ℕ) (pos : 1 ≤ n) (start : Table) (begins : Placed n k 0 start) where
+module _ (cable : Cable) (pos : 1 ≤ cable .n) (start : Table) (begins : Placed cable 0 start) where
+  open Cable cable using (n)
+
   pub past-stable : (all cs : List Call) → Beginning all cs → (u : ℕ) → u ≤ slotsOf (tableAfter start cs) → past start all u ≡ past start cs u
   past-stable all cs whole u h = refl
-  past-stable all cs (shorter {c = c} b) u h = past-stable all (c ∷ cs) b u (omega (arith, slots-next n k pos start begins c cs)) ∙ past-old start c cs u h
+  past-stable all cs (shorter {c = c} b) u h = past-stable all (c ∷ cs) b u (omega (arith, slots-next cable pos start begins c cs)) ∙ past-old start c cs u h
 
   pub past-here : (all : List Call) (c : Call) (cs : List Call) → Beginning all (c ∷ cs) → isSlot c (tableAfter start cs) ≡ true
       → past start all (slotsOf (tableAfter start cs) + 1) ≡ newPast c (tableAfter start cs)
   past-here all c cs b e =
-      past-stable all (c ∷ cs) b (slotsOf (tableAfter start cs) + 1) (omega (arith, slots-next n k pos start begins c cs, num-is e)) ∙ past-new start c cs e
+      past-stable all (c ∷ cs) b (slotsOf (tableAfter start cs) + 1) (omega (arith, slots-next cable pos start begins c cs, num-is e)) ∙ past-new start c cs e
 
   -- decidingRan looks only at slots after s
-  pub decided-later : (s : ℕ) (cs : List Call) → slotsOf (tableAfter start cs) < s → decidingRan n k start s cs ≡ false
+  pub decided-later : (s : ℕ) (cs : List Call) → slotsOf (tableAfter start cs) < s → decidingRan cable start s cs ≡ false
   unfolding decidingRan isDeciding
   decided-later s [] h = refl
   decided-later s (c ∷ cs) h =
-      let l : slotsOf (tableAfter start cs) < s = omega (arith, slots-next n k pos start begins c cs) in
-      let a : decidingRan n k start s cs ≡ false = decided-later s cs l in
+      let l : slotsOf (tableAfter start cs) < s = omega (arith, slots-next cable pos start begins c cs) in
+      let a : decidingRan cable start s cs ≡ false = decided-later s cs l in
       let b : leb s (slotsOf (tableAfter start cs)) ≡ false = lt-leb s (slotsOf (tableAfter start cs)) l in
       rw (a, b) (never (isSlot c (tableAfter start cs)))
     where
@@ -63,9 +66,9 @@ module _ (n k : ℕ) (pos : 1 ≤ n) (start : Table) (begins : Placed n k 0 star
     where
       go : Dec (u ≤ slotsOf (tableAfter start cs)) → f (entry start cs u) ≤ f (entry start (c ∷ cs) u)
       go (yes h) = omega (arith, ap f (entry-old start c cs u h))
-      go (no h) = omega (arith, ap f (entry-later n k pos start begins cs u (omega arith)))
+      go (no h) = omega (arith, ap f (entry-later cable pos start begins cs u (omega arith)))
 
-  one-call-less : (c : Call) (cs : List Call) → Premises n k start (c ∷ cs) → Premises n k start cs
+  one-call-less : (c : Call) (cs : List Call) → Premises cable start (c ∷ cs) → Premises cable start cs
   unfolding AtEach
   one-call-less c cs p = record {
     few-failures = λ a. omega (arith, p .few-failures a, sum-le (λ u. entry start cs u .failures) (λ u. entry start (c ∷ cs) u .failures) (suc a) n (λ u _ _. no-more c cs (λ e. e .failures) refl u));
@@ -75,14 +78,14 @@ module _ (n k : ℕ) (pos : 1 ≤ n) (start : Table) (begins : Placed n k 0 star
   }
 
   -- what the premises of the calls up to one say of it, they say of each call of a sequence
-  pub at-each : (P : Call → List Call → Type 0) → ((c : Call) (cs : List Call) → Premises n k start (c ∷ cs) → P c cs) → (cs : List Call) → Premises n k start cs → AtEach P cs
+  pub at-each : (P : Call → List Call → Type 0) → ((c : Call) (cs : List Call) → Premises cable start (c ∷ cs) → P c cs) → (cs : List Call) → Premises cable start cs → AtEach P cs
   unfolding AtEach
   at-each P h [] p = tt
   at-each P h (c ∷ cs) p = (at-each P h cs (one-call-less c cs p), h c cs p)
 
-  pub after-each : (P : List Call → Type 0) → ((cs : List Call) → Premises n k start cs → P cs) → (cs : List Call) → Premises n k start cs → AfterEach P cs
+  pub after-each : (P : List Call → Type 0) → ((cs : List Call) → Premises cable start cs → P cs) → (cs : List Call) → Premises cable start cs → AfterEach P cs
   after-each P h cs p = (h [] (at-start cs p), at-each (λ c before. P (c ∷ before)) (λ c before q. h (c ∷ before) q) cs p)
     where
-      at-start : (cs : List Call) → Premises n k start cs → Premises n k start []
+      at-start : (cs : List Call) → Premises cable start cs → Premises cable start []
       at-start [] q = q
       at-start (c ∷ cs) q = at-start cs (one-call-less c cs q)

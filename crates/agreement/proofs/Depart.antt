@@ -11,18 +11,19 @@ use Rattle.nodeset.proofs.Tests.{by-cases}
 use Rattle.nodeset.proofs.Sums.{sum-le, sum-first, sum-none, sum-next, sum-split, one-place, num-le}
 use Rattle.nodeset.proofs.Laws.{has-without, has-without-other, without-lt}
 use Rattle.nodeset.proofs.Counts.{size-without}
+use Rattle.ring.specs.declared.Cable.{Cable}
 use Rattle.ring.specs.declared.Found.the-variants.{Member}
-use Rattle.ring.specs.Ring.{sender, walk}
-use Rattle.ring.specs.Answers.{beforeOf}
+use Rattle.ring.specs.Ring.{sender, walk, memberBefore}
 use Rattle.ring.proofs.Senders.{sender-range, sender-period, same-slot}
 use Rattle.ring.proofs.Walks as walks
 use Rattle.ring.proofs.Walks.{Met, walk-meets, before-is, others}
-use Rattle.agreement.proofs.History.{World, K, KFact, lst, one-knock, size-from, before-answer, num-is, num-isnt}
+use Rattle.agreement.proofs.History.{World, K, KFact, lst, one-knock, size-from, num-is, num-isnt}
 use Rattle.agreement.proofs.Marks.{no-both, not-true, same-member}
 use Rattle.agreement.proofs.Listed.{ListedSlot, other-sender, same-window}
 
 module _ (W : World) where
-  open World W using (n, k, n-pos, n-most, k-two, k-lt, E, fair, few, once)
+  open World W using (cable, n-pos, k-two, E, fair)
+  open Cable cable using (n, k)
 
   -- the list after step 3: the decided member leaves if its slot was not sent
   abbrev pub dropping : Bool → ℕ → ℕ → ℕ
@@ -122,7 +123,7 @@ module _ (W : World) where
       pub some-way : 1 ≤ e
       pub member : has L₁ (sender n u) ≡ true
       pub alone : sum (walks.member n n-pos L₁) u e ≡ 1
-      pub it : beforeOf n L₁ (sender n w) 1 ≡ Member (sender n u)
+      pub it : memberBefore n L₁ (sender n w) 1 ≡ Member (sender n u)
 
     pub nearest : (w : ℕ) → 1 ≤ w → has L₁ (sender n w) ≡ false → Nearest w
     nearest w hw off = go (walk-meets n n-pos L₁ (n - 1) (suc w) 1 (omega arith) (omega arith) (omega (arith, others n n-pos L₁ (suc w) (omega arith), L₁-size, k-two, its-last)))
@@ -142,13 +143,13 @@ module _ (W : World) where
           some-way = m .back;
           member = m .listed;
           alone = m .count;
-          it = before-answer W L₁ w 1 ∙ before-is n n-pos L₁ (sender n w) 1 (omega arith)
+          it = before-is n n-pos L₁ (sender n w) 1
               ∙ ap (λ (x : ℕ). walk (n - 1) n L₁ x 1) (sym (sender-period n n-pos w hw) ∙ ap (sender n) (sym z)) ∙ m .found;
         }
 
     -- If slot N + 1 is that of the nearest member, then k listed slots have been since w.
     pub enough-since : (w e : ℕ) → w + e ≡ N → suc e < n → E w .outside ≡ true → has L (sender n w) ≡ false
-        → beforeOf n L₁ (sender n w) 1 ≡ Member (sender n (suc N)) → k ≤ sum (lst W) (suc w) (suc e)
+        → memberBefore n L₁ (sender n w) 1 ≡ Member (sender n (suc N)) → k ≤ sum (lst W) (suc w) (suc e)
     enough-since w e z h out off q = go (nearest w hw off₁)
       where
         hw : 1 ≤ w

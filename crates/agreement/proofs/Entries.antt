@@ -11,6 +11,9 @@ use borrow.Author.Tests.{eq-eqb, ne-eqb}
 use Rattle.nodeset.specs.Sums.{sum, num}
 use Rattle.nodeset.proofs.Sums.{sum-none, sum-next, sum-split, sum-zero, sum-same}
 use Rattle.nodeset.proofs.Tests.{chosen, otherwise, all}
+use Rattle.ring.specs.declared.Cable.{Cable}
+use Rattle.ring.specs.Ring.{ringSize, sponsorCount}
+use Rattle.ring.proofs.Ranges.{ring-size, sponsor-count}
 use Rattle.bench.specs.Table.{Table, nodeCount, slotsOf}
 use Rattle.bench.specs.Calls.{transmits}
 use Rattle.bench.specs.Runs.{Call, slot, off, restart, tableAfter, isSlot, isListed, misses, failuresIn, Entry, noEntry, entry}
@@ -92,16 +95,18 @@ fair-new n (slot lost missed room) t l = fair-slot n t lost missed l
 fair-new n (off a) t l = fair-none n
 fair-new n (restart a) t l = fair-none n
 
-module _ (n k : ℕ) (pos : 1 ≤ n) (start : Table) (begins : Placed n k 0 start) where
+module _ (cable : Cable) (pos : 1 ≤ cable .n) (start : Table) (begins : Placed cable 0 start) where
+  open Cable cable using (n)
+
   -- a slot that did not run
   pub past-later : (cs : List Call) (u : ℕ) → slotsOf (tableAfter start cs) < u → past start cs u ≡ noPast
   unfolding past
   past-later [] u h = refl
-  past-later (c ∷ cs) u h = go (isSlot c (tableAfter start cs)) refl (past-later cs u (omega (arith, slots-next n k pos start begins c cs)))
+  past-later (c ∷ cs) u h = go (isSlot c (tableAfter start cs)) refl (past-later cs u (omega (arith, slots-next cable pos start begins c cs)))
     where
       go : (b : Bool) → isSlot c (tableAfter start cs) ≡ b → past start cs u ≡ noPast → past start (c ∷ cs) u ≡ noPast
       go false e r = past-none start c cs u e ∙ r
-      go true e r = past-other start c cs u (λ z. omega (arith, slots-next n k pos start begins c cs, num-is e)) ∙ r
+      go true e r = past-other start c cs u (λ z. omega (arith, slots-next cable pos start begins c cs, num-is e)) ∙ r
 
   pub entry-later : (cs : List Call) (u : ℕ) → slotsOf (tableAfter start cs) < u → entry start cs u ≡ noEntry
   entry-later cs u h = entry-is start cs u ∙ ap entryIn (past-later cs u h)
@@ -111,7 +116,7 @@ module _ (n k : ℕ) (pos : 1 ≤ n) (start : Table) (begins : Placed n k 0 star
   past-fair [] u = fair-none n
   past-fair (c ∷ cs) u =
       choose (λ (e : Past). Fair n e) (isSlot c (tableAfter start cs) && eqb u (slotsOf (tableAfter start cs) + 1)) (newPast c (tableAfter start cs)) (past start cs u)
-      (λ _. fair-new n c (tableAfter start cs) (run-length n k pos start begins cs))
+      (λ _. fair-new n c (tableAfter start cs) (run-length cable pos start begins cs))
       (λ _. past-fair cs u)
 
 -- ---- n slots in a row, with a round before the first
@@ -153,17 +158,20 @@ pub same-count : (f : Entry → ℕ) (start : Table) (cs : List Call) (a m : ℕ
 same-count f start cs a m = sum-same (λ u. f (entryIn (past start cs u))) (λ u. f (entry start cs u)) a m (λ u _ _. ap f (sym (entry-is start cs u)))
 
 -- the world of a sequence of calls
-abbrev pub world : (n k : ℕ) → 3 ≤ n → n ≤ 32 → 2 ≤ k → k ≤ n - 1 → (start : Table) → Placed n k 0 start → (cs : List Call) → Premises n k start cs → World
-world n k three most two fewer start begins cs p = record {
-  n = n;
-  k = k;
-  n-pos = omega arith;
-  n-most = most;
-  k-two = two;
-  k-lt = omega arith;
-  E = λ q. past start cs (q - n);
-  fair = λ q. past-fair n k (omega arith) start begins cs (q - n);
-  early = λ q h. let z : q - n ≡ 0 = omega arith in ap (past start cs) z ∙ past-zero start cs;
-  few = λ a. omega (arith, any-round (λ u. past start cs u .failures) n (k - 1) (ap (λ (e : Past). e .failures) (past-zero start cs)) (λ b. omega (arith, p .few-failures b, same-count (λ e. e .failures) start cs (suc b) n)) a);
-  once = λ a. any-round (λ u. num (past start cs u .outside)) n 1 (ap (λ (e : Past). num (e .outside)) (past-zero start cs)) (λ b. omega (arith, p .one-outside b, same-count (λ e. num (e .outside)) start cs (suc b) n)) a;
-}
+abbrev pub world : (cable : Cable) → ringSize (cable .n) ≡ true → sponsorCount cable ≡ true → (start : Table) → Placed cable 0 start → (cs : List Call) → Premises cable start cs → World
+world cable ring sponsors start begins cs p =
+    let n = cable .n in
+    let r = ring-size n ring in
+    let c = sponsor-count cable sponsors in
+    record {
+      cable = cable;
+      n-pos = omega arith;
+      n-most = r .1;
+      k-two = c .0;
+      k-lt = omega arith;
+      E = λ q. past start cs (q - n);
+      fair = λ q. past-fair cable (omega arith) start begins cs (q - n);
+      early = λ q h. let z : q - n ≡ 0 = omega arith in ap (past start cs) z ∙ past-zero start cs;
+      few = λ a. omega (arith, any-round (λ u. past start cs u .failures) n (cable .k - 1) (ap (λ (e : Past). e .failures) (past-zero start cs)) (λ b. omega (arith, p .few-failures b, same-count (λ e. e .failures) start cs (suc b) n)) a);
+      once = λ a. any-round (λ u. num (past start cs u .outside)) n 1 (ap (λ (e : Past). num (e .outside)) (past-zero start cs)) (λ b. omega (arith, p .one-outside b, same-count (λ e. num (e .outside)) start cs (suc b) n)) a;
+    }

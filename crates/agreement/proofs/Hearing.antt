@@ -12,6 +12,7 @@ use Rattle.nodeset.proofs.Tests.{by-cases, otherwise}
 use Rattle.nodeset.proofs.Bits.{has-none}
 use Rattle.nodeset.proofs.Counts.{size-none}
 use Rattle.nodeset.proofs.Laws.{has-with, has-with-other, with-lt, set-ext}
+use Rattle.ring.specs.declared.Cable.{Cable}
 use Rattle.ring.specs.Ring.{sender, ks}
 use Rattle.ring.proofs.Senders.{sender-range, sender-period, its-slot}
 use Rattle.message.specs.declared.Reading.{Reading}
@@ -20,11 +21,12 @@ use Rattle.node_record.specs.declared.Node.{Node}
 use Rattle.node_record.specs.declared.Window.{Window}
 use Rattle.node_changes.specs.Changes.{listeningAfter, followingWith, withWindow}
 use Rattle.node_steps.specs.Steps.{isHeard}
-use Rattle.node_hearing.specs.Hearing.{overheard, clean, windowEnd, listeningSlot}
+use Rattle.node_steps.specs.Digests.{bitsIn}
+use Rattle.node_hearing.specs.Hearing.{overheard, clean, windowEnd, goesOn, listeningBy}
 use Rattle.agreement.proofs.Past.{Past}
 use Rattle.agreement.proofs.History.{World, K, KFact}
 use Rattle.agreement.proofs.Invariant.{Tracking, ListeningInv}
-use Rattle.agreement.proofs.Marks.{no-both, not-true, not-false, bitsIn}
+use Rattle.agreement.proofs.Marks.{no-both, not-true, not-false}
 use Rattle.bench.proofs.Choices.{choose}
 use Rattle.agreement.proofs.Listed.{other-sender}
 use Rattle.agreement.proofs.Rounds.{K′}
@@ -35,7 +37,8 @@ unfolding runFrom
 run-zero = otherwise _ _ (has-none 1)
 
 module _ (W : World) where
-  open World W using (n, k, n-pos, n-most, k-two, k-lt, E, fair, early, few, once)
+  open World W using (cable, n-pos, n-most, k-two, E, early)
+  open Cable cable using (n)
 
   -- a window begins with nothing heard, and nothing heard before
   pub fresh-inv : (N i : ℕ) (v : Node) → v .listening .done ≡ 0 → v .listening .heard ≡ 0 → v .listening .last ≡ 0 → ListeningInv W N i v
@@ -140,21 +143,21 @@ module _ (W : World) where
         go (reading.Heard bits bit) = refl
         go (reading.Refused c) = refl
 
-    clean-parts : (l : Window) → clean n k l ≡ true → (2 ≤ size n (l .heard)) × (1 ≤ l .shortest)
+    clean-parts : (l : Window) → clean cable l ≡ true → (2 ≤ size n (l .heard)) × (1 ≤ l .shortest)
     unfolding clean
-    clean-parts l e = go (leb 2 (size n (l .heard))) (l .«return_seen») (leb (ks k (size n (l .heard))) (l .shortest)) refl refl e
+    clean-parts l e = go (leb 2 (size n (l .heard))) (l .«return_seen») (leb (ks cable (size n (l .heard))) (l .shortest)) refl refl e
       where
-        go : (a b c : Bool) → leb 2 (size n (l .heard)) ≡ a → leb (ks k (size n (l .heard))) (l .shortest) ≡ c → (a && (not b && c)) ≡ true → (2 ≤ size n (l .heard)) × (1 ≤ l .shortest)
+        go : (a b c : Bool) → leb 2 (size n (l .heard)) ≡ a → leb (ks cable (size n (l .heard))) (l .shortest) ≡ c → (a && (not b && c)) ≡ true → (2 ≤ size n (l .heard)) × (1 ≤ l .shortest)
         go false b c p q f = absurd (false≢true f)
         go true true c p q f = absurd (false≢true f)
         go true false false p q f = absurd (false≢true f)
         go true false true p q f =
             let two : 2 ≤ size n (l .heard) = leb-true 2 (size n (l .heard)) p in
-            let le : ks k (size n (l .heard)) ≤ l .shortest = leb-true (ks k (size n (l .heard))) (l .shortest) q in
+            let le : ks cable (size n (l .heard)) ≤ l .shortest = leb-true (ks cable (size n (l .heard))) (l .shortest) q in
             (two, omega (arith, k-two))
 
     -- the end of a window
-    module _ (l : Window) (hd : Heard (suc N) i l) (whole : l .done ≡ n) (cl : clean n k l ≡ true) where
+    module _ (l : Window) (hd : Heard (suc N) i l) (whole : l .done ≡ n) (cl : clean cable l ≡ true) where
       all-listed : (u e : ℕ) → u + e ≡ suc N → e < n → E u .sent ≡ true → E u .listed ≡ true
       all-listed u e z h p = not-false (E u .listed) (λ q. let bad : ⊥ = omega (arith, hd .knock-shows u e z (omega arith) p q, clean-parts l cl .1) in bad)
 
@@ -230,15 +233,18 @@ module _ (W : World) where
       again : (b : ℕ) → x ≡ listeningAfter b v → ListeningInv W (suc N) i x → Hearkened L′ x
       follows : (b : ℕ) → x ≡ followingWith b v → Tracking W (suc N) L′ i x → Hearkened L′ x
 
-    pub listening-law : v .n ≡ n → v .k ≡ k → 1 ≤ i → (L′ : ℕ) → K W (suc N) L′ → K′ W (suc N) → L′ < 2 ^ n → Hearkened L′ (listeningSlot s r v)
-    unfolding listeningSlot windowEnd
-    listening-law vn vk i-pos L′ κ κ′ small = go (overheard s r (v .listening)) overheard-law overheard-done
+    pub listening-law : v .cable ≡ cable → 1 ≤ i → (L′ : ℕ) → K W (suc N) L′ → K′ W (suc N) → L′ < 2 ^ n → Hearkened L′ (listeningBy s r v)
+    unfolding listeningBy goesOn windowEnd
+    listening-law vc i-pos L′ κ κ′ small = go (overheard s r (v .listening)) overheard-law overheard-done
       where
-        go : (l : Window) → Heard (suc N) i l → l .done ≡ v .listening .done + 1 → Hearkened L′ (cond (ltb (l .done) (v .n)) (withWindow l v) (windowEnd l v))
+        size-is : v .cable .n ≡ n
+        size-is = ap (λ (c : Cable). c .n) vc
+
+        go : (l : Window) → Heard (suc N) i l → l .done ≡ v .listening .done + 1 → Hearkened L′ (cond (ltb (l .done) (v .cable .n)) (withWindow l v) (windowEnd l v))
         go l hd dn =
-            choose (λ (x : Node). Hearkened L′ x) (ltb (l .done) (v .n)) (withWindow l v) (windowEnd l v)
+            choose (λ (x : Node). Hearkened L′ x) (ltb (l .done) (v .cable .n)) (withWindow l v) (windowEnd l v)
             (λ e. on l refl (record {
-              short = omega (arith, ltb-true (l .done) (v .n) e);
+              short = omega (arith, ltb-true (l .done) (v .cable .n) e, size-is);
               heard-lt = hd .heard-lt;
               last-lt = hd .last-lt;
               own-unheard = hd .own-unheard;
@@ -247,16 +253,16 @@ module _ (W : World) where
               knock-shows = hd .knock-shows;
               last-is = hd .last-is;
             }))
-            (λ e. ends (omega (arith, ltb-false (l .done) (v .n) e, iv .short)))
+            (λ e. ends (omega (arith, ltb-false (l .done) (v .cable .n) e, iv .short, size-is)))
           where
             ends : l .done ≡ n → Hearkened L′ (windowEnd l v)
             ends whole =
-                choose (λ (x : Node). Hearkened L′ x) (clean (v .n) (v .k) l)
+                choose (λ (x : Node). Hearkened L′ x) (clean (v .cable) l)
                 (cond (eqb (l .last) (l .heard)) (followingWith (l .heard) v) (listeningAfter (l .heard) v)) (listeningAfter 0 v)
-                (λ c. cleaned (rw (← vn, ← vk) c))
+                (λ c. cleaned (ap (λ (q : Cable). clean q l) (sym vc) ∙ c))
                 (λ c. again 0 refl (fresh-inv (suc N) i (listeningAfter 0 v) refl refl refl))
               where
-                cleaned : clean n k l ≡ true → Hearkened L′ (cond (eqb (l .last) (l .heard)) (followingWith (l .heard) v) (listeningAfter (l .heard) v))
+                cleaned : clean cable l ≡ true → Hearkened L′ (cond (eqb (l .last) (l .heard)) (followingWith (l .heard) v) (listeningAfter (l .heard) v))
                 cleaned c =
                     choose (λ (x : Node). Hearkened L′ x) (eqb (l .last) (l .heard)) (followingWith (l .heard) v) (listeningAfter (l .heard) v)
                     (λ q. follows (l .heard) refl (following-inv l hd whole c L′ κ κ′ small (eqb-true (l .last) (l .heard) q) i-pos))

@@ -4,17 +4,17 @@ use Prim.Native.Nat.{ℕ, zero, suc, _+_, _-_, _≤_, _<_}
 use mathlib.Core.Path.{_≡_, refl, sym, ap, _∙_}
 use mathlib.Core.Bool.{Bool, true, false}
 use native.Mathlib.Omega.{arith}
-use borrow.Author.Tests.{le-leb}
 use Rattle.nodeset.specs.Sums.{sum, num}
 use Rattle.nodeset.specs.Sets.{has, size}
-use Rattle.nodeset.proofs.Tests.{by-cases, all, chosen}
+use Rattle.nodeset.proofs.Tests.{by-cases}
 use Rattle.nodeset.proofs.Sums.{sum-le, sum-first, sum-add, sum-split, sum-at, one-place, num-le}
+use Rattle.ring.specs.declared.Cable.{Cable}
 use Rattle.ring.specs.declared.Found.the-variants.{Member}
-use Rattle.ring.specs.Ring.{ringSize, sponsorCount, nodeNumber, sender, ks, walk, memberBefore, sponsored, decided}
-use Rattle.ring.specs.Answers.{beforeOf, sponsoredOf, decidedOf}
+use Rattle.ring.specs.Ring.{sender, walk, memberBefore, sponsors, sponsored, decided}
 use Rattle.ring.proofs.Senders.{sender-range, round, size-round}
 use Rattle.ring.proofs.Walks as walks
 use Rattle.ring.proofs.Walks.{Met, walk-meets, before-is, others}
+use Rattle.ring.proofs.Members.{sponsored-before, decided-before}
 use Rattle.agreement.proofs.Past.{Past, noPast}
 
 -- a longer window has no smaller sum
@@ -45,17 +45,16 @@ pub record Fair (n : ℕ) (e : Past) : Type 0 where
 
 -- a run that keeps to the premises on failures and on transmissions from outside the list
 pub record World : Type 0 where
-  pub n : ℕ
-  pub k : ℕ
-  pub n-pos : 1 ≤ n
-  pub n-most : n ≤ 32
-  pub k-two : 2 ≤ k
-  pub k-lt : k < n
+  pub cable : Cable
+  pub n-pos : 1 ≤ cable .n
+  pub n-most : cable .n ≤ 32
+  pub k-two : 2 ≤ cable .k
+  pub k-lt : cable .k < cable .n
   pub E : ℕ → Past
-  pub fair : (q : ℕ) → Fair n (E q)
-  pub early : (q : ℕ) → q ≤ n → E q ≡ noPast
-  pub few : (a : ℕ) → sum (λ u. E u .failures) (suc a) n < k
-  pub once : (a : ℕ) → sum (λ u. num (E u .outside)) (suc a) n ≤ 1
+  pub fair : (q : ℕ) → Fair (cable .n) (E q)
+  pub early : (q : ℕ) → q ≤ cable .n → E q ≡ noPast
+  pub few : (a : ℕ) → sum (λ u. E u .failures) (suc a) (cable .n) < cable .k
+  pub once : (a : ℕ) → sum (λ u. num (E u .outside)) (suc a) (cable .n) ≤ 1
 
 pub num-is : {b : Bool} → b ≡ true → num b ≡ 1
 num-is e = ap num e
@@ -64,7 +63,8 @@ pub num-isnt : {b : Bool} → b ≡ false → num b ≡ 0
 num-isnt e = ap num e
 
 module _ (W : World) where
-  open World W using (n, k, n-pos, n-most, k-two, k-lt, E, fair, few, once)
+  open World W using (cable, n-pos, n-most, k-two, E, fair, few, once)
+  open Cable cable using (n, k)
 
   -- senders are among the 32 nodes that a set can hold
   pub sender-most : (u : ℕ) → sender n u ≤ 32
@@ -156,36 +156,10 @@ module _ (W : World) where
 
   -- ---- the walk back, on the list as the slot after N begins
 
-  pub on-ring : ringSize n ≡ true
-  on-ring = all (le-leb 3 n (omega (arith, k-two, k-lt))) (le-leb n 32 n-most)
-
-  pub with-sponsors : sponsorCount n k ≡ true
-  with-sponsors = all (le-leb 2 k k-two) (le-leb k (n - 1) (omega (arith, k-lt)))
-
-  pub is-number : (u : ℕ) → nodeNumber n (sender n u) ≡ true
-  is-number u = all (le-leb 1 (sender n u) (sender-range n n-pos u .0)) (le-leb (sender n u) n (sender-range n n-pos u .1))
-
-  -- no refusal comes of the ring's calls
-  pub before-answer : (L u j : ℕ) → beforeOf n L (sender n u) j ≡ memberBefore n L (sender n u) j
-  before-answer L u j = chosen _ _ on-ring ∙ chosen _ _ (is-number u)
-
-  pub decided-answer : (L u : ℕ) → decidedOf n k L (sender n u) ≡ decided n k L (sender n u)
-  decided-answer L u = chosen _ _ on-ring ∙ chosen _ _ with-sponsors ∙ chosen _ _ (is-number u)
-
-  pub sponsored-answer : (L u j : ℕ) → sponsoredOf n k L (sender n u) j ≡ sponsored n k L (sender n u) j
-  sponsored-answer L u j = chosen _ _ on-ring ∙ chosen _ _ with-sponsors ∙ chosen _ _ (is-number u)
-
-  -- with k + 1 members or more a member sponsors k of them, and decides the k-th before it
-  pub ks-is : (L : ℕ) → k < size n L → ks k (size n L) ≡ k
-  ks-is L h = omega arith
-
-  pub decided-is : (L u : ℕ) → k < size n L → decidedOf n k L (sender n u) ≡ memberBefore n L (sender n u) k
-  unfolding decided
-  decided-is L u h = decided-answer L u ∙ ap (memberBefore n L (sender n u)) (ks-is L h)
-
-  pub sponsored-is : (L u j : ℕ) → k < size n L → j ≤ k → sponsoredOf n k L (sender n u) j ≡ memberBefore n L (sender n u) j
-  unfolding sponsored
-  sponsored-is L u j h l = sponsored-answer L u j ∙ chosen _ _ (le-leb j (ks k (size n L)) (omega (arith, ks-is L h)))
+  -- with k + 1 members or more a member sponsors k of them
+  pub sponsors-are : (L : ℕ) → k < size n L → sponsors cable L ≡ k
+  unfolding sponsors
+  sponsors-are L h = omega arith
 
   -- The j-th member before the sender of slot N + 1: it spoke in slot u, and with it j members have spoken since.
   pub record Before (N L j : ℕ) : Type 0 where
@@ -216,7 +190,7 @@ module _ (W : World) where
             recent = omega (arith, m .from, m .upto, m .back, z);
             listed = m .listed;
             count = ap (sum (walks.member n n-pos L) (m .u)) y ∙ m .count;
-            it = before-is n n-pos L (sender n (suc N)) j hj ∙ ap (λ (x : ℕ). walk (n - 1) n L (sender n x) j) (sym z) ∙ m .found;
+            it = before-is n n-pos L (sender n (suc N)) j ∙ ap (λ (x : ℕ). walk (n - 1) n L (sender n x) j) (sym z) ∙ m .found;
           }
 
   -- the member that the sender of the next slot decides
@@ -228,7 +202,7 @@ module _ (W : World) where
     pub listed : E u .listed ≡ true
     pub member : has L (sender n u) ≡ true
     pub exact : suc (sum lst (suc u) e) ≡ k
-    pub it : decidedOf n k L (sender n (suc N)) ≡ Member (sender n u)
+    pub it : decided cable L (sender n (suc N)) ≡ Member (sender n u)
 
   pub decision : (N L : ℕ) → n ≤ N → K N L → k < size n L → Decision N L
   decision N L hn κ hs = go (before N L k hn (omega (arith, k-two)) hs)
@@ -246,14 +220,14 @@ module _ (W : World) where
             listed = sym (near N L κ (b .u) (b .e) (b .ago) (omega (arith, b .recent)) (omega arith)) ∙ b .listed;
             member = b .listed;
             exact = omega arith;
-            it = decided-is L (suc N) hs ∙ b .it;
+            it = decided-before cable L (sender n (suc N)) (omega (arith, sponsors-are L hs, k-two)) ∙ ap (memberBefore n L (sender n (suc N))) (sponsors-are L hs) ∙ b .it;
           }
 
   -- who is among the last k listed senders and on the list is sponsored in the next slot
   pub record Sponsored (N L u : ℕ) : Type 0 where
     pub j : ℕ
     pub few : j < k
-    pub it : sponsoredOf n k L (sender n (suc N)) (suc j) ≡ Member (sender n u)
+    pub it : sponsored cable L (sender n (suc N)) (suc j) ≡ Member (sender n u)
 
   pub sponsored-since : (N L : ℕ) → n ≤ N → K N L → k < size n L → (u e : ℕ) → u + e ≡ N → suc e < n → has L (sender n u) ≡ true → sum lst (suc u) e < k → Sponsored N L u
   sponsored-since N L hn κ hs u e z he hm l = go (before N L (suc j) hn (omega arith) (omega (arith, c)))
@@ -271,4 +245,4 @@ module _ (W : World) where
       go b =
           let c′ : sum m u (suc e) ≡ suc j = omega (arith, sum-first m u e, num-is hm) in
           let same : b .u ≡ u = one-place m (suc j) (b .u) (suc (b .e)) u (suc e) (omega (arith, b .ago)) (b .count) c′ (omega (arith, num-is (b .listed))) (omega (arith, num-is hm)) in
-          record { j = j; few = omega (arith, c); it = sponsored-is L (suc N) (suc j) hs (omega (arith, c)) ∙ b .it ∙ ap (λ (q : ℕ). Member (sender n q)) same }
+          record { j = j; few = omega (arith, c); it = sponsored-before cable L (sender n (suc N)) (suc j) (omega arith) (omega (arith, c, sponsors-are L hs)) ∙ b .it ∙ ap (λ (q : ℕ). Member (sender n q)) same }

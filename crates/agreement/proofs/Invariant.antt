@@ -4,13 +4,15 @@ use mathlib.Core.Path.{_≡_}
 use mathlib.Core.Logic.{_≢_, _⊎_}
 use mathlib.Core.Bool.{true, false}
 use Rattle.nodeset.specs.Sets.{has}
+use Rattle.ring.specs.declared.Cable.{Cable}
 use Rattle.ring.specs.Ring.{sender}
 use Rattle.node_record.specs.declared.Node.{Node}
 use Rattle.node_record.specs.States.{isMember, isKnocking}
 use Rattle.agreement.proofs.History.{World, Untold}
 
 module _ (W : World) where
-  open World W using (n, k, E)
+  open World W using (cable, E)
+  open Cable cable using (n)
 
   -- the mark of the sender of a sent slot u is off at node i
   pub record Off (N i u : ℕ) (v : Node) : Type 0 where

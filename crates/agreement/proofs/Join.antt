@@ -1,6 +1,6 @@
 -- A listed slot: joining; what stays tracking keeps the invariant. Assumes nothing.
 use Prim.Native.Nat.{ℕ, zero, suc, _+_, _-_, _≤_, _<_}
-use mathlib.Core.Path.{_≡_, refl, sym, ap, _∙_}
+use mathlib.Core.Path.{_≡_, refl, sym, ap, ap₂, _∙_}
 use mathlib.Core.Logic.{_≢_, _⊎_, inl, inr}
 use mathlib.Core.Bool.{true, false, true≢false, false≢true}
 use native.Mathlib.Omega.{arith}
@@ -9,17 +9,17 @@ use Rattle.nodeset.specs.Sums.{sum}
 use Rattle.nodeset.specs.Sets.{has, with}
 use Rattle.nodeset.proofs.Sums.{sum-at, sum-rest}
 use Rattle.nodeset.proofs.Laws.{has-with, has-with-other}
+use Rattle.ring.specs.declared.Cable.{Cable}
 use Rattle.ring.specs.declared.Found.the-variants as found
-use Rattle.ring.specs.Ring.{sender}
-use Rattle.ring.specs.Answers.{beforeOf}
-use Rattle.ring.proofs.Members as members
+use Rattle.ring.specs.Ring.{sender, memberBefore}
 use Rattle.ring.proofs.Senders.{sender-range}
 use Rattle.ring.proofs.Walks as walks
 use Rattle.node_record.specs.declared.Node.{Node}
 use Rattle.node_record.specs.declared.State.the-variants.{Member, Following}
 use Rattle.node_record.specs.States.{isMember, isKnocking}
 use Rattle.node_changes.specs.Changes.{withSet, withReturning}
-use Rattle.node_steps.specs.Steps.{marksAfter, missedReturn, returnHeard, marked, joins}
+use Rattle.node_steps.specs.Steps.{readMarks, joins}
+use Rattle.node_steps.specs.Inner.{readReturn, readHeard, readMarked}
 use Rattle.agreement.proofs.History.{World, sender-most, Untold, lst, told-in-time, num-is}
 use Rattle.agreement.proofs.Invariant.{Tracking, Off, Knock, Awaits, aware, unaware}
 use Rattle.agreement.proofs.Marks.{no-both, not-true, not-false, has-with-keeps}
@@ -29,10 +29,11 @@ use Rattle.agreement.proofs.Depart.{drop-sub, L₁, sender-stays, not-d
 use Rattle.agreement.proofs.Returns.{joins-yes, joins-if, not-member, same-knock, Stays, member-stays, outsider-stays, awaits-after, lost-after, quiet-after}
 
 module _ (W : World) where
-  open World W using (n, k, n-pos, n-most, k-two, k-lt, E, fair, few, once)
+  open World W using (cable, n-pos, n-most, E, fair)
+  open Cable cable using (n, k)
 
   module _ (S : ListedSlot W) where
-    open ListedSlot S using (N, L, B, lT, onL, D)
+    open ListedSlot S using (N, L, B, lT, D)
 
     -- the list after step 3
     abbrev pub A : ℕ
@@ -46,20 +47,20 @@ module _ (W : World) where
       pub sent : E w .sent ≡ true
       pub away : has L (sender n w) ≡ false
       pub since : k ≤ sum (lst W) (suc w) (suc e)
-      pub near : beforeOf n A (sender n w) 1 ≡ found.Member (sender n (suc N))
+      pub near : memberBefore n A (sender n w) 1 ≡ found.Member (sender n (suc N))
 
     pub data Next (L′ : ℕ) : Type 0 where
       plain : ((w e : ℕ) → Joining w e → ⊥) → L′ ≡ A → Next L′
       grown : (w e : ℕ) → Joining w e → L′ ≡ with A (sender n w) → Next L′
 
     module _ (T : Hearer W (S .N) (S .L)) where
-      open Hearer T using (r, says, i, i-pos, i-le, v, vn, vk, vo, iv, h)
+      open Hearer T using (r, i, i-pos, i-le, v, vc, iv)
 
       abbrev s : ℕ
       s = sender n (suc N)
 
       abbrev pub v₁ : Node
-      v₁ = marked s r v
+      v₁ = readMarked s r v
 
       -- a knock that is awaited was less than n - 1 slots ago
       knock-recent : (κ : Knock W N L v) → suc (κ .e) < n
@@ -74,6 +75,13 @@ module _ (W : World) where
 
       the-nearest : (κ : Knock W N L v) → Nearest W S (κ .w)
       the-nearest κ = nearest W S (κ .w) (omega (arith, κ .ago, κ .recent, B .late)) (away₁ (κ .w) (κ .away))
+
+      -- the nearest member before the returning node, where that is the sender of w
+      nearest-is : (w : ℕ) → v .returning ≡ sender n w → memberBefore (v .cable .n) A (v .returning) 1 ≡ memberBefore n A (sender n w) 1
+      nearest-is w q = ap₂ (λ (c : Cable) (x : ℕ). memberBefore (c .n) A x 1) vc q
+
+      joins-at : (w : ℕ) → v .returning ≡ sender n w → memberBefore n A (sender n w) 1 ≡ found.Member s → joins s (withSet A v₁) ≡ true
+      joins-at w q e = joins-if s (withSet A v₁) (λ z. omega (arith, sender-range n n-pos w)) (nearest-is w q ∙ e)
 
       knock-kept : joins s (withSet A v₁) ≡ false → Knock W N L v → Knock W (suc N) A (withSet A v₁)
       knock-kept j κ = go (the-nearest κ)
@@ -96,9 +104,7 @@ module _ (W : World) where
           }
             where
               ne : t .u ≢ suc N
-              ne q =
-                  let at-s : beforeOf (v .n) A (v .returning) 1 ≡ found.Member s = rw (vn, ← (κ .it)) (t .it ∙ ap (λ (x : ℕ). found.Member (sender n x)) q) in
-                  no-both (joins-if s (withSet A v₁) at-s) j
+              ne q = no-both (joins-at (κ .w) (sym (κ .it)) (t .it ∙ ap (λ (x : ℕ). found.Member (sender n x)) q)) j
 
               not-before : t .u < suc N → ⊥
               not-before l =
@@ -123,7 +129,7 @@ module _ (W : World) where
       off-at : (w′ : Node) → w′ .state ≡ v .state → (u : ℕ) → Off W (suc N) i u v → Off W (suc N) i u w′
       off-at w′ e u o = record { member = rw e (o .member); listed = o .listed; who = o .who; untold = o .untold }
 
-      kept-inv : missedReturn r v ≡ false → Stays W S T → joins s (withSet A v₁) ≡ false → Tracking W (suc N) A i (withSet A v₁)
+      kept-inv : readReturn r v ≡ false → Stays W S T → joins s (withSet A v₁) ≡ false → Tracking W (suc N) A i (withSet A v₁)
       kept-inv ok ne j = record {
         set-is = refl;
         own-in = member-stays W S T ne;
@@ -149,7 +155,7 @@ module _ (W : World) where
               copy w (awaits-after W S T ok w e ago (omega arith) a b (was-away w e ago (omega arith) a c))
 
       -- the joining node is known to all
-      pub joining-known : missedReturn r v ≡ false → (w e : ℕ) → Joining w e → (v .returning ≡ sender n w) × (i ≡ sender n w → returnHeard r v ≡ true)
+      pub joining-known : readReturn r v ≡ false → (w e : ℕ) → Joining w e → (v .returning ≡ sender n w) × (i ≡ sender n w → readHeard r v ≡ true)
       joining-known ok w e J = go (awaits-after W S T ok w e (J .ago) (omega (arith, J .recent)) (J .unlisted) (J .sent) (J .away))
         where
           never : Untold W w (suc N) → ⊥
@@ -158,18 +164,18 @@ module _ (W : World) where
               let un′ : Untold W w (w + suc e) = rw z un in
               omega (arith, told-in-time W w (suc e) (omega (arith, J .ago, J .recent, B .late)) (J .recent) (J .sent) un′, J .since)
 
-          answered-it : (returnHeard r v ≡ true) ⊎ Untold W w (suc N) → returnHeard r v ≡ true
+          answered-it : (readHeard r v ≡ true) ⊎ Untold W w (suc N) → readHeard r v ≡ true
           answered-it (inl p) = p
           answered-it (inr un) = absurd (never un)
 
-          go : Awaits W (suc N) i w v₁ → (v .returning ≡ sender n w) × (i ≡ sender n w → returnHeard r v ≡ true)
+          go : Awaits W (suc N) i w v₁ → (v .returning ≡ sender n w) × (i ≡ sender n w → readHeard r v ≡ true)
           go (aware q f) = (q, λ y. answered-it (f y))
           go (unaware q f g x un) = absurd (never un)
 
       -- who joins somebody
       joining-from : joins s (withSet A v₁) ≡ true → (κ : Knock W N L v) → E (κ .w) .sent ≡ true → Joining (κ .w) (κ .e)
       joining-from j κ sent =
-          let at-s : beforeOf n A (sender n (κ .w)) 1 ≡ found.Member s = rw (vn, ← (κ .it)) at (joins-yes s (withSet A v₁) j .1) in
+          let at-s : memberBefore n A (sender n (κ .w)) 1 ≡ found.Member s = sym (nearest-is (κ .w) (sym (κ .it))) ∙ joins-yes s (withSet A v₁) j .1 in
           record {
             ago = κ .ago;
             recent = knock-recent κ;
@@ -181,16 +187,16 @@ module _ (W : World) where
           }
 
       -- a knocking node that was not answered had its knock lost
-      unanswered : missedReturn r v ≡ false → joins s (withSet A v₁) ≡ true → isKnocking (v .state) ≡ true → returnHeard r v ≡ false → (κ : Knock W N L v) → E (κ .w) .sent ≡ false
+      unanswered : readReturn r v ≡ false → joins s (withSet A v₁) ≡ true → isKnocking (v .state) ≡ true → readHeard r v ≡ false → (κ : Knock W N L v) → E (κ .w) .sent ≡ false
       unanswered ok j kn f κ = not-true (E (κ .w) .sent) (λ p.
           no-both (joining-known ok (κ .w) (κ .e) (joining-from j κ p) .1 (sym (iv .knocking-own kn) ∙ sym (κ .it))) f)
 
       -- a knocking node that was answered had its knock sent
-      answered-knock : isKnocking (v .state) ≡ true → returnHeard r v ≡ true → (κ : Knock W N L v) → E (κ .w) .sent ≡ true
+      answered-knock : isKnocking (v .state) ≡ true → readHeard r v ≡ true → (κ : Knock W N L v) → E (κ .w) .sent ≡ true
       answered-knock kn f κ = not-false (E (κ .w) .sent) (λ p.
           no-both f (lost-after W S T kn (κ .w) (suc (κ .e)) (omega (arith, κ .ago)) (knock-recent κ) (κ .it ∙ iv .knocking-own kn) p))
 
-      backed-inv : missedReturn r v ≡ false → joins s (withSet A v₁) ≡ true → isKnocking (v .state) ≡ true → returnHeard r v ≡ false
+      backed-inv : readReturn r v ≡ false → joins s (withSet A v₁) ≡ true → isKnocking (v .state) ≡ true → readHeard r v ≡ false
           → Tracking W (suc N) A i (withReturning Following 0 (withSet A v₁))
       backed-inv ok j kn f = record {
         set-is = refl;
@@ -219,18 +225,18 @@ module _ (W : World) where
         ago′ : w + suc e ≡ suc N
         ago′ = omega (arith, J .ago)
 
-        off-grown : (u d : ℕ) → u + d ≡ suc N → d < n → E u .listed ≡ true → E u .sent ≡ false → has (with (marksAfter s r v) (v .returning)) (sender n u) ≡ false
+        off-grown : (u d : ℕ) → u + d ≡ suc N → d < n → E u .listed ≡ true → E u .sent ≡ false → has (with (readMarks s r v) (v .returning)) (sender n u) ≡ false
         off-grown u d z l p q =
             let ne : sender n w ≢ sender n u = λ y. no-both (rw (same-window W (suc N) u w d (suc e) (omega (arith, B .late)) z ago′ l (J .recent) (sym y)) at p) (J .unlisted) in
-            ap (λ (x : ℕ). has (with (marksAfter s r v) x) (sender n u)) it
-            ∙ has-with-other (marksAfter s r v) (sender n w) (sender n u) ne ∙ off-after W S T u d z l p q
+            ap (λ (x : ℕ). has (with (readMarks s r v) x) (sender n u)) it
+            ∙ has-with-other (readMarks s r v) (sender n w) (sender n u) ne ∙ off-after W S T u d z l p q
 
-        on-grown : (u d : ℕ) → u + d ≡ suc N → d < n → E u .sent ≡ true → has (with A (sender n w)) (sender n u) ≡ true → has (with (marksAfter s r v) (v .returning)) (sender n u) ≡ false → Off W (suc N) i u v
+        on-grown : (u d : ℕ) → u + d ≡ suc N → d < n → E u .sent ≡ true → has (with A (sender n w)) (sender n u) ≡ true → has (with (readMarks s r v) (v .returning)) (sender n u) ≡ false → Off W (suc N) i u v
         on-grown u d z l p q off =
-            let off′ : has (with (marksAfter s r v) (sender n w)) (sender n u) ≡ false = ap (λ (x : ℕ). has (with (marksAfter s r v) x) (sender n u)) (sym it) ∙ off in
-            let ne : sender n w ≢ sender n u = λ y. no-both (rw y (has-with (marksAfter s r v) (sender n u) (sender-range n n-pos u .0) (sender-most W u))) off′ in
+            let off′ : has (with (readMarks s r v) (sender n w)) (sender n u) ≡ false = ap (λ (x : ℕ). has (with (readMarks s r v) x) (sender n u)) (sym it) ∙ off in
+            let ne : sender n w ≢ sender n u = λ y. no-both (rw y (has-with (readMarks s r v) (sender n u) (sender-range n n-pos u .0) (sender-most W u))) off′ in
             let q′ : has A (sender n u) ≡ true = sym (has-with-other A (sender n w) (sender n u) ne) ∙ q in
-            let off″ : has (marksAfter s r v) (sender n u) ≡ false = sym (has-with-other (marksAfter s r v) (sender n w) (sender n u) ne) ∙ off′ in
+            let off″ : has (readMarks s r v) (sender n u) ≡ false = sym (has-with-other (readMarks s r v) (sender n w) (sender n u) ne) ∙ off′ in
             on-after W S T u d z l p (drop-sub W (E (D .u) .sent) L (sender n (D .u)) (sender n u) q′) off″
 
         none-grown : (w′ d : ℕ) → w′ + d ≡ suc N → d < n → E w′ .listed ≡ false → E w′ .sent ≡ true → has (with A (sender n w)) (sender n w′) ≡ false → ⊥
@@ -269,16 +275,14 @@ module _ (W : World) where
         }
 
       -- what a joining somewhere means here
-      must-join : missedReturn r v ≡ false → (w e : ℕ) → Joining w e → joins s (withSet A v₁) ≡ true
-      must-join ok w e J =
-          let q : v .returning ≡ sender n w = joining-known ok w e J .0 in
-          joins-if s (withSet A v₁) (rw (vn, q) (J .near))
+      must-join : readReturn r v ≡ false → (w e : ℕ) → Joining w e → joins s (withSet A v₁) ≡ true
+      must-join ok w e J = joins-at w (joining-known ok w e J .0) (J .near)
 
       knock-of : joins s (withSet A v₁) ≡ true → Knock W N L v
       knock-of j = iv .knock (joins-yes s (withSet A v₁) j .0)
 
       -- nobody joins where the knocking node was not answered
-      none-joins : missedReturn r v ≡ false → isKnocking (v .state) ≡ true → returnHeard r v ≡ false → (w e : ℕ) → Joining w e → ⊥
+      none-joins : readReturn r v ≡ false → isKnocking (v .state) ≡ true → readHeard r v ≡ false → (w e : ℕ) → Joining w e → ⊥
       none-joins ok kn f w e J = no-both (joining-known ok w e J .1 (sym (iv .knocking-own kn) ∙ joining-known ok w e J .0)) f
 
       -- a knock that another node awaits was sent
@@ -290,7 +294,7 @@ module _ (W : World) where
           go (inr p) = absurd (no-both p nk)
 
       -- every case, given what the list is after the slot
-      pub after-inside : (L′ : ℕ) → Next L′ → missedReturn r v ≡ false → Stays W S T → (x : Node) → Settled true s (withSet A v₁) x → Gone (withSet A v₁) x ⊎ Tracking W (suc N) L′ i x
+      pub after-inside : (L′ : ℕ) → Next L′ → readReturn r v ≡ false → Stays W S T → (x : Node) → Settled true s (withSet A v₁) x → Gone (withSet A v₁) x ⊎ Tracking W (suc N) L′ i x
       after-inside L′ nx ok ne x (gone g) = inl g
       after-inside L′ nx ok ne x (kept f e) = inr (rw e (go nx))
         where
@@ -314,7 +318,7 @@ module _ (W : World) where
           go (grown w d J q) = rw q (joined-inv w d J (joining-known ok w d J .0) ne nk)
 
       -- what the list is after the slot, as any tracking node has it
-      pub next-from : missedReturn r v ≡ false → (x : Node) → Settled true s (withSet A v₁) x → Gone (withSet A v₁) x ⊎ Next (x .set)
+      pub next-from : readReturn r v ≡ false → (x : Node) → Settled true s (withSet A v₁) x → Gone (withSet A v₁) x ⊎ Next (x .set)
       next-from ok x (gone g) = inl g
       next-from ok x (kept f e) = inr (plain (λ w d J. no-both (must-join ok w d J) f) (ap (λ (y : Node). y .set) e))
       next-from ok x (backed j kn f e) = inr (plain (none-joins ok kn f) (ap (λ (y : Node). y .set) e))

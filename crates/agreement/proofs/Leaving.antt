@@ -9,12 +9,12 @@ use borrow.Author.Tests.{eq-eqb}
 use Rattle.nodeset.specs.Sums.{sum, num}
 use Rattle.nodeset.specs.Sets.{has, size}
 use Rattle.nodeset.proofs.Sums.{sum-next}
+use Rattle.ring.specs.declared.Cable.{Cable}
 use Rattle.ring.specs.declared.Found.{Found}
 use Rattle.ring.specs.declared.Found.the-variants.{Member}
-use Rattle.ring.specs.Ring.{sender}
+use Rattle.ring.specs.Ring.{sender, isFound}
 use Rattle.ring.proofs.Senders.{same-slot, size-round}
 use Rattle.ring.proofs.Walks.{member}
-use Rattle.node_steps.specs.Steps.{isFound}
 use Rattle.agreement.specs.Demand.{memberAfter}
 use Rattle.agreement.proofs.History.{World, K, lst, span, num-is, sum-more}
 use Rattle.agreement.proofs.Depart.{since-next}
@@ -28,7 +28,8 @@ pub not-found : (x : ℕ) (f : Found) → isFound x f ≡ false → f ≢ Member
 not-found x f e q = true≢false (sym (ap (isFound x) q ∙ eq-eqb x x refl) ∙ e)
 
 module _ (W : World) where
-  open World W using (n, k, n-pos, k-two, E)
+  open World W using (cable, n-pos, k-two, E)
+  open Cable cable using (n, k)
 
   module _ (N L : ℕ) (κ : K W N L) (enough : k < size n L) (listed-is : E (suc N) .listed ≡ has L (sender n (suc N)))
       (u e : ℕ) (u-pos : 1 ≤ u) (ago : u + e ≡ N) (recent : suc e < n) (waits : sum (lst W) (suc u) e < k) where

@@ -1,6 +1,6 @@
 -- A listed slot, step 1: the marks (M). Assumes nothing.
 use Prim.Native.Nat.{ℕ, zero, suc, _+_, _-_, _^_, _≤_, _<_}
-use mathlib.Core.Path.{_≡_, sym, ap, _∙_}
+use mathlib.Core.Path.{_≡_, sym, ap, ap₂, _∙_}
 use mathlib.Core.Logic.{_≢_, _⊎_, inl, inr}
 use mathlib.Core.Bool.{true, false, not}
 use native.Mathlib.Omega.{arith}
@@ -10,20 +10,23 @@ use Rattle.nodeset.specs.Sums.{sum, num}
 use Rattle.nodeset.specs.Sets.{has, size}
 use Rattle.nodeset.proofs.Tests.{by-cases}
 use Rattle.nodeset.proofs.Sums.{sum-at, num-le}
+use Rattle.ring.specs.declared.Cable.{Cable}
 use Rattle.ring.specs.declared.Found.the-variants.{Member}
-use Rattle.ring.specs.Ring.{sender}
-use Rattle.ring.specs.Answers.{sponsoredOf}
+use Rattle.ring.specs.Ring.{sender, sponsors, sponsored}
 use Rattle.ring.proofs.Senders.{sender-range, sender-once, same-slot}
 use Rattle.message.specs.declared.Reading.{Reading}
 use Rattle.node_record.specs.declared.Node.{Node}
 use Rattle.node_record.specs.States.{isMember}
-use Rattle.node_steps.specs.Steps.{isHeard, returnIn, marksAfter}
-use Rattle.agreement.proofs.History.{World, sender-most, Untold, K, lst, told-in-time, ks-is, Decision, sponsored-since, Sponsored, num-is}
+use Rattle.node_record.specs.Sponsoring.{sponsorsIn, sponsoredIn}
+use Rattle.node_steps.specs.Steps.{isHeard, returnIn, readMarks}
+use Rattle.node_steps.specs.Digests.{bitsIn}
+use Rattle.agreement.proofs.History.{World, sender-most, Untold, K, lst, told-in-time, sponsors-are, Decision, sponsored-since, Sponsored, num-is}
 use Rattle.agreement.proofs.Invariant.{Tracking, Off}
-use Rattle.agreement.proofs.Marks.{no-both, not-true, not-false, bitsIn, Told, sponsors, mark-of-sender, off-before, on-before}
+use Rattle.agreement.proofs.Marks.{no-both, not-true, not-false, Told, mark-of-sender, off-before, on-before}
 
 module _ (W : World) where
-  open World W using (n, k, n-pos, n-most, k-two, k-lt, E, fair, few, once)
+  open World W using (cable, n-pos, E, fair)
+  open Cable cable using (n, k)
 
   -- a slot begins
   pub record Begins (N L : ℕ) : Type 0 where
@@ -43,7 +46,7 @@ module _ (W : World) where
     pub z : Node
     pub inv : Tracking W N L (sender n (suc N)) z
     pub member : isMember (z .state) ≡ true
-    pub bits : (j x : ℕ) → j < k → sponsoredOf n k L (sender n (suc N)) (suc j) ≡ Member x → has (bitsIn r) (suc j) ≡ has (z .present) x
+    pub bits : (j x : ℕ) → j < k → sponsored cable L (sender n (suc N)) (suc j) ≡ Member x → has (bitsIn r) (suc j) ≡ has (z .present) x
     pub ret : returnIn r ≡ not (eqb (z .returning) 0)
 
   -- the sender of an earlier slot of the round is another
@@ -81,29 +84,30 @@ module _ (W : World) where
     pub i-pos : 1 ≤ i
     pub i-le : i ≤ n
     pub v : Node
-    pub vn : v .n ≡ n
-    pub vk : v .k ≡ k
+    pub vc : v .cable ≡ cable
     pub vo : v .own ≡ i
     pub iv : Tracking W N L i v
     pub h : Hears N i v r
 
   module _ (S : ListedSlot) (T : Hearer (S .N) (S .L)) where
     open ListedSlot S using (N, L, B, lT, onL)
-    open Hearer T using (r, says, i, i-pos, i-le, v, vn, vk, iv, h)
+    open Hearer T using (r, says, i, i-pos, i-le, v, vc, iv, h)
 
     abbrev s : ℕ
     s = sender n (suc N)
 
-    sponsors-is : sponsors v ≡ k
-    sponsors-is = rw (vn, vk, iv .set-is) (ks-is W L (B .enough))
+    sponsors-is : sponsorsIn v ≡ k
+    sponsors-is = ap₂ sponsors vc (iv .set-is) ∙ sponsors-are W L (B .enough)
+
+    sponsored-is : (j : ℕ) → sponsoredIn s j v ≡ sponsored cable L s j
+    sponsored-is j = ap₂ (λ (c : Cable) (set : ℕ). sponsored c set s j) vc (iv .set-is)
 
     -- what is told is the sender's mark
-    told-mark : (x : ℕ) (Z : Says N L r) → Told s (bitsIn r) v x (sponsors v) → has (Z .z .present) x ≡ true
+    told-mark : (x : ℕ) (Z : Says N L r) → Told s (bitsIn r) v x (sponsorsIn v) → has (Z .z .present) x ≡ true
     told-mark x Z t =
-        let y : sponsoredOf n k L s (suc (t .i)) ≡ Member x = rw (vn, vk, iv .set-is) at (t .it) in
-        sym (Z .bits (t .i) x (omega (arith, t .below, sponsors-is)) y) ∙ t .yes-bit
+        sym (Z .bits (t .i) x (omega (arith, t .below, sponsors-is)) (sym (sponsored-is (suc (t .i))) ∙ t .it)) ∙ t .yes-bit
 
-    pub off-after : (u e : ℕ) → u + e ≡ suc N → e < n → E u .listed ≡ true → E u .sent ≡ false → has (marksAfter s r v) (sender n u) ≡ false
+    pub off-after : (u e : ℕ) → u + e ≡ suc N → e < n → E u .listed ≡ true → E u .sent ≡ false → has (readMarks s r v) (sender n u) ≡ false
     off-after u zero z l p q =
         let y : u ≡ suc N = omega arith in
         rw y (mark-of-sender s r v (sender-range n n-pos (suc N) .0) (sender-most W (suc N)) ∙ h .unsent (rw y at q))
@@ -111,15 +115,15 @@ module _ (W : World) where
         let ne : s ≢ sender n u = other-sender N u e (B .late) z l in
         let ago : u + e ≡ N = omega arith in
         let was : has (v .present) (sender n u) ≡ false = iv .marks-off u e ago (omega arith) p q in
-        not-true (has (marksAfter s r v) (sender n u)) (λ on. go ago was (on-before s r v (sender n u) (sender-range n n-pos u .0) (sender-most W u) ne on))
+        not-true (has (readMarks s r v) (sender n u)) (λ on. go ago was (on-before s r v (sender n u) (sender-range n n-pos u .0) (sender-most W u) ne on))
       where
-        go : u + e ≡ N → has (v .present) (sender n u) ≡ false → (has (v .present) (sender n u) ≡ true) ⊎ ((isHeard r ≡ true) × Told s (bitsIn r) v (sender n u) (sponsors v)) → ⊥
+        go : u + e ≡ N → has (v .present) (sender n u) ≡ false → (has (v .present) (sender n u) ≡ true) ⊎ ((isHeard r ≡ true) × Told s (bitsIn r) v (sender n u) (sponsorsIn v)) → ⊥
         go ago was (inl y) = no-both y was
         go ago was (inr t) =
             let Z = says (t .0) in
             no-both (told-mark (sender n u) Z (t .1)) (Z .inv .marks-off u e ago (omega arith) p q)
 
-    pub untold-after : (u e : ℕ) → u + e ≡ N → suc e < n → E u .sent ≡ true → has L (sender n u) ≡ true → has (marksAfter s r v) (sender n u) ≡ false → Off W N i u v
+    pub untold-after : (u e : ℕ) → u + e ≡ N → suc e < n → E u .sent ≡ true → has L (sender n u) ≡ true → has (readMarks s r v) (sender n u) ≡ false → Off W N i u v
         → lst W (suc N) ≤ E (suc N) .failures + num (E u .missed s)
     untold-after u e ago l sent on off o = by-cases (E (suc N) .sent) (λ p. sent-case p (ℕ-discrete i s)) (λ p. omega (arith, fair (suc N) .unsent p lT, num-le (E (suc N) .listed)))
       where
@@ -139,8 +143,7 @@ module _ (W : World) where
 
         heard-with : isHeard r ≡ true → (Z : Says N L r) → Sponsored W N L u → lst W (suc N) ≤ E (suc N) .failures + num (E u .missed s)
         heard-with p Z sp =
-            let y : sponsoredOf (v .n) (v .k) (v .set) s (suc (sp .j)) ≡ Member (sender n u) = rw (vn, vk, iv .set-is) (sp .it) in
-            let nb : has (bitsIn r) (suc (sp .j)) ≡ false = not-true (has (bitsIn r) (suc (sp .j))) (λ b. off-before s r v (sender n u) (sender-range n n-pos u .0) (sender-most W u) ne off .1 p (record { i = sp .j; below = omega (arith, sp .few, sponsors-is); yes-bit = b; it = y })) in
+            let nb : has (bitsIn r) (suc (sp .j)) ≡ false = not-true (has (bitsIn r) (suc (sp .j))) (λ b. off-before s r v (sender n u) (sender-range n n-pos u .0) (sender-most W u) ne off .1 p (record { i = sp .j; below = omega (arith, sp .few, sponsors-is); yes-bit = b; it = sponsored-is (suc (sp .j)) ∙ sp .it })) in
             let zo : has (Z .z .present) (sender n u) ≡ false = sym (Z .bits (sp .j) (sender n u) (sp .few) (sp .it)) ∙ nb in
             the-sender (Z .inv .marks-on u e ago (omega arith) sent on zo .who)
 
@@ -156,7 +159,7 @@ module _ (W : World) where
             (λ q. heard-case q (says q))
             (λ q. omega (arith, missed-failure (suc N) i p (h .missing q p e .1) i-pos i-le, num-le (E (suc N) .listed)))
 
-    pub on-after : (u e : ℕ) → u + e ≡ suc N → e < n → E u .sent ≡ true → has L (sender n u) ≡ true → has (marksAfter s r v) (sender n u) ≡ false → Off W (suc N) i u v
+    pub on-after : (u e : ℕ) → u + e ≡ suc N → e < n → E u .sent ≡ true → has L (sender n u) ≡ true → has (readMarks s r v) (sender n u) ≡ false → Off W (suc N) i u v
     on-after u zero z l p q off = rw y (new (rw y at p) (ℕ-discrete i s))
       where
         y : u ≡ suc N

@@ -1,21 +1,22 @@
 -- The laws of the marks after step 1. Assumes nothing.
-use Prim.Native.Nat.{ℕ, zero, suc, _-_, _≤_, _<_}
+use Prim.Native.Nat.{ℕ, zero, suc, _≤_, _<_}
 use mathlib.Core.Path.{_≡_, refl, sym, ap, _∙_}
 use mathlib.Core.Logic.{_≢_, _⊎_, inl, inr}
 use mathlib.Core.Bool.{Bool, true, false, true≢false}
 use native.Mathlib.Omega.{arith}
 use native.Mathlib.Decide.{ℕ-discrete}
-use Rattle.nodeset.specs.Sets.{has, with, size}
+use Rattle.nodeset.specs.Sets.{has, with}
 use Rattle.nodeset.proofs.Tests.{by-cases, chosen, otherwise}
 use Rattle.nodeset.proofs.Laws.{has-with, has-with-other, has-without, has-without-other}
 use Rattle.ring.specs.declared.Found.{Found}
 use Rattle.ring.specs.declared.Found.the-variants as found
-use Rattle.ring.specs.Ring.{ks}
-use Rattle.ring.specs.Answers.{sponsoredOf}
+use Rattle.ring.specs.Ring.{memberIn}
 use Rattle.message.specs.declared.Reading.{Reading}
 use Rattle.message.specs.declared.Reading.the-variants.{Heard, Refused}
 use Rattle.node_record.specs.declared.Node.{Node}
-use Rattle.node_steps.specs.Steps.{isHeard, withFound, confirmed, marksAfter}
+use Rattle.node_record.specs.Sponsoring.{sponsorsIn, sponsoredIn}
+use Rattle.node_steps.specs.Steps.{isHeard, confirmed, readMarks}
+use Rattle.node_steps.specs.Digests.{bitsIn}
 
 pub no-both : {b : Bool} → b ≡ true → b ≡ false → ⊥
 no-both p q = true≢false (sym p ∙ q)
@@ -38,41 +39,33 @@ has-with-keeps m y x h l e = go (ℕ-discrete y x)
     go (yes p) = rw p (has-with m x h l)
     go (no p) = has-with-other m y x p ∙ e
 
--- The acknowledgement bits of a reading.
-abbrev pub bitsIn : Reading → ℕ
-bitsIn (Heard bits returnBit) = bits
-bitsIn (Refused r) = 0
-
 -- Node x is one of the first j members that s sponsors, and its bit is 1.
 pub record Told (s bits : ℕ) (v : Node) (x j : ℕ) : Type 0 where
   pub i : ℕ
   pub below : i < j
   pub yes-bit : has bits (suc i) ≡ true
-  pub it : sponsoredOf (v .n) (v .k) (v .set) s (suc i) ≡ found.Member x
+  pub it : sponsoredIn s (suc i) v ≡ found.Member x
 
 module _ (s bits : ℕ) (v : Node) (x : ℕ) (pos : 1 ≤ x) (most : x ≤ 32) where
   -- the j-th sponsored member
   abbrev sponsor : ℕ → Found
-  sponsor j = sponsoredOf (v .n) (v .k) (v .set) s j
+  sponsor j = sponsoredIn s j v
 
-  found-keeps : (marks : ℕ) (f : Found) → has marks x ≡ true → has (withFound marks f) x ≡ true
-  found-keeps marks (found.Member m) e = has-with-keeps marks m x pos most e
-  found-keeps marks found.Nobody e = e
-  found-keeps marks (found.Refused r) e = e
-
-  found-marks : (marks : ℕ) (f : Found) → f ≡ found.Member x → has (withFound marks f) x ≡ true
+  found-marks : (marks : ℕ) (f : Found) → f ≡ found.Member x → has (with marks (memberIn f)) x ≡ true
   found-marks marks f e = rw e (has-with marks x pos most)
 
-  found-only : (marks : ℕ) (f : Found) → has (withFound marks f) x ≡ true → (has marks x ≡ true) ⊎ (f ≡ found.Member x)
-  found-only marks (found.Member m) e = go (ℕ-discrete m x)
+  found-only : (marks : ℕ) (f : Found) → has (with marks (memberIn f)) x ≡ true → (has marks x ≡ true) ⊎ (f ≡ found.Member x)
+  found-only marks f e = go (ℕ-discrete (memberIn f) x)
     where
-      go : Dec (m ≡ x) → (has marks x ≡ true) ⊎ (found.Member m ≡ found.Member x)
-      go (yes p) = inr (ap found.Member p)
-      go (no p) = inl (sym (has-with-other marks m x p) ∙ e)
-  found-only marks found.Nobody e = inl e
-  found-only marks (found.Refused r) e = inl e
+      it : (f : Found) → memberIn f ≡ x → f ≡ found.Member x
+      it (found.Member m) p = ap found.Member p
+      it found.Nobody p = let z : ⊥ = omega arith in absurd z
 
-  confirmed-yes : (j : ℕ) → has bits (suc j) ≡ true → confirmed (suc j) s bits v ≡ withFound (confirmed j s bits v) (sponsor (suc j))
+      go : Dec (memberIn f ≡ x) → (has marks x ≡ true) ⊎ (f ≡ found.Member x)
+      go (yes p) = inr (it f p)
+      go (no p) = inl (sym (has-with-other marks (memberIn f) x p) ∙ e)
+
+  confirmed-yes : (j : ℕ) → has bits (suc j) ≡ true → confirmed (suc j) s bits v ≡ with (confirmed j s bits v) (memberIn (sponsor (suc j)))
   unfolding confirmed
   confirmed-yes j e = chosen _ _ e
 
@@ -89,7 +82,7 @@ module _ (s bits : ℕ) (v : Node) (x : ℕ) (pos : 1 ≤ x) (most : x ≤ 32) w
   confirmed-keeps (suc j) e =
       let r : has (confirmed j s bits v) x ≡ true = confirmed-keeps j e in
       by-cases (has bits (suc j))
-      (λ b. ap (λ (m : ℕ). has m x) (confirmed-yes j b) ∙ found-keeps (confirmed j s bits v) (sponsor (suc j)) r)
+      (λ b. ap (λ (m : ℕ). has m x) (confirmed-yes j b) ∙ has-with-keeps (confirmed j s bits v) (memberIn (sponsor (suc j))) x pos most r)
       (λ b. ap (λ (m : ℕ). has m x) (confirmed-no j b) ∙ r)
 
   confirmed-marks : (j : ℕ) → Told s bits v x j → has (confirmed j s bits v) x ≡ true
@@ -105,7 +98,7 @@ module _ (s bits : ℕ) (v : Node) (x : ℕ) (pos : 1 ≤ x) (most : x ≤ 32) w
       go r (no e) =
           let h : has (confirmed j s bits v) x ≡ true = r (omega (arith, t .below)) in
           by-cases (has bits (suc j))
-          (λ b. ap (λ (m : ℕ). has m x) (confirmed-yes j b) ∙ found-keeps (confirmed j s bits v) (sponsor (suc j)) h)
+          (λ b. ap (λ (m : ℕ). has m x) (confirmed-yes j b) ∙ has-with-keeps (confirmed j s bits v) (memberIn (sponsor (suc j))) x pos most h)
           (λ b. ap (λ (m : ℕ). has m x) (confirmed-no j b) ∙ h)
 
   confirmed-only : (j : ℕ) → has (confirmed j s bits v) x ≡ true → (has (with (v .present) s) x ≡ true) ⊎ Told s bits v x j
@@ -125,30 +118,26 @@ module _ (s bits : ℕ) (v : Node) (x : ℕ) (pos : 1 ≤ x) (most : x ≤ 32) w
       two b (inl h) r = more (r h)
       two b (inr y) r = inr (record { i = j; below = omega arith; yes-bit = b; it = y })
 
--- how many members the node's set makes a sender sponsor
-abbrev pub sponsors : Node → ℕ
-sponsors v = ks (v .k) (size (v .n) (v .set))
-
 -- the sender's mark
-pub mark-of-sender : (s : ℕ) (r : Reading) (v : Node) → 1 ≤ s → s ≤ 32 → has (marksAfter s r v) s ≡ isHeard r
-mark-of-sender s (Heard bits returnBit) v h l = confirmed-keeps s bits v s h l (sponsors v) (has-with (v .present) s h l)
+pub mark-of-sender : (s : ℕ) (r : Reading) (v : Node) → 1 ≤ s → s ≤ 32 → has (readMarks s r v) s ≡ isHeard r
+mark-of-sender s (Heard bits returnBit) v h l = confirmed-keeps s bits v s h l (sponsorsIn v) (has-with (v .present) s h l)
 mark-of-sender s (Refused c) v h l = has-without (v .present) s
 
 -- another mark that is off was off, and was not confirmed
-pub off-before : (s : ℕ) (r : Reading) (v : Node) (x : ℕ) → 1 ≤ x → x ≤ 32 → s ≢ x → has (marksAfter s r v) x ≡ false
-    → (has (v .present) x ≡ false) × (isHeard r ≡ true → Told s (bitsIn r) v x (sponsors v) → ⊥)
+pub off-before : (s : ℕ) (r : Reading) (v : Node) (x : ℕ) → 1 ≤ x → x ≤ 32 → s ≢ x → has (readMarks s r v) x ≡ false
+    → (has (v .present) x ≡ false) × (isHeard r ≡ true → Told s (bitsIn r) v x (sponsorsIn v) → ⊥)
 off-before s (Heard bits returnBit) v x h l ne e = (
-  not-true (has (v .present) x) (λ p. no-both (confirmed-keeps s bits v x h l (sponsors v) (has-with-other (v .present) s x ne ∙ p)) e),
-  λ _ t. no-both (confirmed-marks s bits v x h l (sponsors v) t) e,
+  not-true (has (v .present) x) (λ p. no-both (confirmed-keeps s bits v x h l (sponsorsIn v) (has-with-other (v .present) s x ne ∙ p)) e),
+  λ _ t. no-both (confirmed-marks s bits v x h l (sponsorsIn v) t) e,
 )
 off-before s (Refused c) v x h l ne e = (sym (has-without-other (v .present) s x ne) ∙ e, λ p t. true≢false (sym p))
 
 -- another mark that is on was on, or was confirmed
-pub on-before : (s : ℕ) (r : Reading) (v : Node) (x : ℕ) → 1 ≤ x → x ≤ 32 → s ≢ x → has (marksAfter s r v) x ≡ true
-    → (has (v .present) x ≡ true) ⊎ ((isHeard r ≡ true) × Told s (bitsIn r) v x (sponsors v))
-on-before s (Heard bits returnBit) v x h l ne e = go (confirmed-only s bits v x h l (sponsors v) e)
+pub on-before : (s : ℕ) (r : Reading) (v : Node) (x : ℕ) → 1 ≤ x → x ≤ 32 → s ≢ x → has (readMarks s r v) x ≡ true
+    → (has (v .present) x ≡ true) ⊎ ((isHeard r ≡ true) × Told s (bitsIn r) v x (sponsorsIn v))
+on-before s (Heard bits returnBit) v x h l ne e = go (confirmed-only s bits v x h l (sponsorsIn v) e)
   where
-    go : (has (with (v .present) s) x ≡ true) ⊎ Told s bits v x (sponsors v) → (has (v .present) x ≡ true) ⊎ ((true ≡ true) × Told s bits v x (sponsors v))
+    go : (has (with (v .present) s) x ≡ true) ⊎ Told s bits v x (sponsorsIn v) → (has (v .present) x ≡ true) ⊎ ((true ≡ true) × Told s bits v x (sponsorsIn v))
     go (inl p) = inl (sym (has-with-other (v .present) s x ne) ∙ p)
     go (inr t) = inr (refl, t)
 on-before s (Refused c) v x h l ne e = inl (sym (has-without-other (v .present) s x ne) ∙ e)

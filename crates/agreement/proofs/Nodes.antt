@@ -1,28 +1,31 @@
 -- One slot, for any node: what it was and what it is after the slot. Assumes nothing.
-use Prim.Native.Nat.{ℕ, suc, _+_, _-_, _^_, _≤_, _<_}
-use mathlib.Core.Path.{_≡_, sym, ap, _∙_, subst}
+use Prim.Native.Nat.{ℕ, suc, _+_, _^_, _≤_, _<_}
+use mathlib.Core.Path.{_≡_, sym, ap, ap₂, _∙_, subst}
 use mathlib.Core.Logic.{_⊎_, inl, inr}
 use mathlib.Core.Bool.{true, false, false≢true}
 use native.Mathlib.Omega.{arith}
 use Rattle.nodeset.specs.Sets.{has}
+use Rattle.ring.specs.declared.Cable.{Cable}
 use Rattle.ring.specs.declared.Found.the-variants as found
-use Rattle.ring.specs.Ring.{sender}
-use Rattle.ring.specs.Answers.{decidedOf}
+use Rattle.ring.specs.Ring.{sender, decided}
 use Rattle.message.specs.declared.Reading.{Reading}
 use Rattle.node_record.specs.declared.Node.{Node}
 use Rattle.node_record.specs.declared.State.the-variants.{Member, Out}
 use Rattle.node_record.specs.declared.Cause.{Cause}
 use Rattle.node_record.specs.States.{isMember, isListening}
+use Rattle.node_record.specs.Sponsoring.{decidedIn}
 use Rattle.node_record.proofs.Tracking.{tracks}
 use Rattle.node_changes.specs.Changes.{counted, withSet}
-use Rattle.node_steps.specs.Steps.{isHeard, marked, noted, settle, trackingSlot}
-use Rattle.node_steps.specs.Inner.{insideSlot, outsideSlot}
+use Rattle.node_steps.specs.Steps.{isHeard, noted, settle}
+use Rattle.node_steps.specs.Digests.{bitsIn}
+use Rattle.node_steps.specs.Inner.{readMarked, insideSlot, outsideSlot, slotByCases}
 use Rattle.node_steps.proofs.Cases.{slot-inside, slot-outside}
-use Rattle.node_hearing.specs.Hearing.{listeningSlot}
-use Rattle.node.specs.Slot.{slotIn}
+use Rattle.node_hearing.specs.Hearing.{listeningBy}
+use Rattle.node_slot.specs.Inner.{readIn}
+use Rattle.bench.proofs.Counted.{Same, same-then}
 use Rattle.agreement.proofs.History.{World, K}
 use Rattle.agreement.proofs.Invariant.{Tracking, ListeningInv, Awaits, aware, unaware}
-use Rattle.agreement.proofs.Marks.{no-both, bitsIn}
+use Rattle.agreement.proofs.Marks.{no-both}
 use Rattle.agreement.proofs.Outcome.{Gone, Settled, left, settled, Inside, missed, went, inside-law, noted-law, Noted, settle-outside, setAfter}
 use Rattle.agreement.proofs.Listed.{Begins, Hears, Says, ListedSlot, Hearer}
 use Rattle.agreement.proofs.Returns.{set-after}
@@ -30,14 +33,14 @@ use Rattle.agreement.proofs.Join.{A, Next, after-inside, next-from}
 use Rattle.agreement.proofs.Outside.{OwnSlot, after-noted}
 use Rattle.agreement.proofs.Rounds.{K′}
 use Rattle.agreement.proofs.Hearing.{fresh-inv, listening-law, Hearkened, on, again, follows}
-use Rattle.agreement.proofs.Alike.{not-listening, listening-only, Basic, Like, gone-like, gone-not, inside-like, noted-like, member-tracks, listening-not-member, by-state}
+use Rattle.agreement.proofs.Alike.{not-listening, listening-only, Like, gone-like, gone-not, inside-like, noted-like, member-tracks, listening-not-member, by-state}
 
 module _ (W : World) where
-  open World W using (n, k, n-pos, E)
+  open World W using (cable, E)
+  open Cable cable using (n)
 
   pub record NodeInv (N L i : ℕ) (v : Node) : Type 0 where
-    pub n-is : v .n ≡ n
-    pub k-is : v .k ≡ k
+    pub cable-is : v .cable ≡ cable
     pub own-is : v .own ≡ i
     pub slots-is : v .slots + n ≡ N
     pub track : tracks (v .state) ≡ true → Tracking W N L i v
@@ -72,8 +75,7 @@ module _ (W : World) where
   -- a node's claims after the slot
   finish : (N L L′ i : ℕ) (v x : Node) → NodeInv N L i v → Like (counted v) x → (tracks (x .state) ≡ false) ⊎ Tracking W (suc N) L′ i x → NodeInv (suc N) L′ i x
   finish N L L′ i v x nv lk r = record {
-    n-is = lk .0 .n-is ∙ nv .n-is;
-    k-is = lk .0 .k-is ∙ nv .k-is;
+    cable-is = lk .0 .cable-is ∙ nv .cable-is;
     own-is = lk .0 .own-is ∙ nv .own-is;
     slots-is = omega (arith, lk .0 .slots-is, nv .slots-is);
     track = λ p. go p r;
@@ -86,8 +88,7 @@ module _ (W : World) where
 
   out-after : (N L L′ i : ℕ) (v : Node) → NodeInv N L i v → (c : Cause) → v .state ≡ Out c → NodeInv (suc N) L′ i (counted v)
   out-after N L L′ i v nv c e = record {
-    n-is = nv .n-is;
-    k-is = nv .k-is;
+    cable-is = nv .cable-is;
     own-is = nv .own-is;
     slots-is = omega (arith, nv .slots-is);
     track = λ p. absurd (false≢true (sym (ap tracks e) ∙ p));
@@ -98,30 +99,27 @@ module _ (W : World) where
   pub listening-after : (N L L′ i : ℕ) → n ≤ N → 1 ≤ i → K W (suc N) L′ → K′ W (suc N) → L′ < 2 ^ n → (v : Node) → NodeInv N L i v → isListening (v .state) ≡ true
       → (r : Reading) → isHeard r ≡ E (suc N) .sent → (i ≡ sender n (suc N) → isHeard r ≡ false)
       → (E (suc N) .sent ≡ true → E (suc N) .listed ≡ false → bitsIn r ≡ 0)
-      → NodeInv (suc N) L′ i (listeningSlot (sender n (suc N)) r (counted v))
+      → NodeInv (suc N) L′ i (listeningBy (sender n (suc N)) r (counted v))
   listening-after N L L′ i late i-pos κ κ′ small v nv li r hq own kb =
-      go _ (listening-law W N i late (counted v) (counted-listening N i v (nv .listen li)) r hq own kb (nv .n-is) (nv .k-is) i-pos L′ κ κ′ small)
+      go _ (listening-law W N i late (counted v) (counted-listening N i v (nv .listen li)) r hq own kb (nv .cable-is) i-pos L′ κ κ′ small)
     where
       go : (x : Node) → Hearkened W N i late (counted v) (counted-listening N i v (nv .listen li)) r hq own kb L′ x → NodeInv (suc N) L′ i x
       go x (on l e q) = record {
-        n-is = ap (λ (y : Node). y .n) e ∙ nv .n-is;
-        k-is = ap (λ (y : Node). y .k) e ∙ nv .k-is;
+        cable-is = ap (λ (y : Node). y .cable) e ∙ nv .cable-is;
         own-is = ap (λ (y : Node). y .own) e ∙ nv .own-is;
         slots-is = omega (arith, ap (λ (y : Node). y .slots) e, nv .slots-is);
         track = λ p. absurd (no-both p (ap (λ (y : Node). tracks (y .state)) e ∙ listening-only (v .state) li));
         listen = λ p. q;
       }
       go x (again b e q) = record {
-        n-is = ap (λ (y : Node). y .n) e ∙ nv .n-is;
-        k-is = ap (λ (y : Node). y .k) e ∙ nv .k-is;
+        cable-is = ap (λ (y : Node). y .cable) e ∙ nv .cable-is;
         own-is = ap (λ (y : Node). y .own) e ∙ nv .own-is;
         slots-is = omega (arith, ap (λ (y : Node). y .slots) e, nv .slots-is);
         track = λ p. absurd (no-both p (ap (λ (y : Node). tracks (y .state)) e));
         listen = λ p. q;
       }
       go x (follows b e q) = record {
-        n-is = ap (λ (y : Node). y .n) e ∙ nv .n-is;
-        k-is = ap (λ (y : Node). y .k) e ∙ nv .k-is;
+        cable-is = ap (λ (y : Node). y .cable) e ∙ nv .cable-is;
         own-is = ap (λ (y : Node). y .own) e ∙ nv .own-is;
         slots-is = omega (arith, ap (λ (y : Node). y .slots) e, nv .slots-is);
         track = λ p. q;
@@ -147,7 +145,7 @@ module _ (W : World) where
 
     module _ (r : Reading) (says : isHeard r ≡ true → Says W N L r)
         (i : ℕ) (i-pos : 1 ≤ i) (i-le : i ≤ n) (v : Node) (nv : NodeInv N L i v) (h : HearsAny N i v r) where
-      is-inside : (tr : tracks (v .state) ≡ true) → trackingSlot s r (counted v) ≡ insideSlot s r (counted v)
+      is-inside : (tr : tracks (v .state) ≡ true) → slotByCases s r (counted v) ≡ insideSlot s r (counted v)
       is-inside tr = slot-inside s r (counted v) (ap (λ (y : ℕ). has y s) (nv .track tr .set-is) ∙ onL)
 
       module _ (tr : tracks (v .state) ≡ true) where
@@ -159,52 +157,52 @@ module _ (W : World) where
 
         -- the node as one that hears the slot
         abbrev T : Hearer W (S .N) (S .L)
-        T = record { r = r; says = says; i = i; i-pos = i-pos; i-le = i-le; v = counted v; vn = nv .n-is; vk = nv .k-is; vo = nv .own-is; iv = iv; h = hv }
+        T = record { r = r; says = says; i = i; i-pos = i-pos; i-le = i-le; v = counted v; vc = nv .cable-is; vo = nv .own-is; iv = iv; h = hv }
 
-        decides-it : decidedOf (v .n) (v .k) (v .set) s ≡ found.Member d
-        decides-it = rw (nv .n-is, nv .k-is, nv .track tr .set-is) (D .it)
+        decides-it : decidedIn s v ≡ found.Member d
+        decides-it = ap₂ (λ (c : Cable) (set : ℕ). decided c set s) (nv .cable-is) (nv .track tr .set-is) ∙ D .it
 
         outcome : Inside s d r (counted v) (insideSlot s r (counted v))
         outcome = inside-law s d r (counted v) decides-it
 
-        settled-at : (x : Node) → Settled true s (withSet (setAfter d (marked s r (counted v))) (marked s r (counted v))) x
-            → Settled true s (withSet (A W S) (marked s r (counted v))) x
-        settled-at x st = subst (λ (y : ℕ). Settled true s (withSet y (marked s r (counted v))) x)
+        settled-at : (x : Node) → Settled true s (withSet (setAfter d (readMarked s r (counted v))) (readMarked s r (counted v))) x
+            → Settled true s (withSet (A W S) (readMarked s r (counted v))) x
+        settled-at x st = subst (λ (y : ℕ). Settled true s (withSet y (readMarked s r (counted v))) x)
             (set-after W S T) st
 
         tracked : (L′ : ℕ) → Next W S L′ → (x : Node) → Inside s d r (counted v) x → (tracks (x .state) ≡ false) ⊎ Tracking W (suc N) L′ i x
         tracked L′ nx x (missed g) = inl (gone-not (counted v) x g)
-        tracked L′ nx x (went ok (left g)) = inl (gone-not (marked s r (counted v)) x g)
+        tracked L′ nx x (went ok (left g)) = inl (gone-not (readMarked s r (counted v)) x g)
         tracked L′ nx x (went ok (settled ne st)) =
             go (after-inside W S T L′ nx ok ne x (settled-at x st))
           where
-            go : Gone (withSet (A W S) (marked s r (counted v))) x ⊎ Tracking W (suc N) L′ i x → (tracks (x .state) ≡ false) ⊎ Tracking W (suc N) L′ i x
+            go : Gone (withSet (A W S) (readMarked s r (counted v))) x ⊎ Tracking W (suc N) L′ i x → (tracks (x .state) ≡ false) ⊎ Tracking W (suc N) L′ i x
             go (inl g) = inl (gone-not _ x g)
             go (inr t) = inr t
 
         next-of : (x : Node) → Inside s d r (counted v) x → tracks (x .state) ≡ true → Next W S (x .set)
         next-of x (missed g) p = absurd (no-both p (gone-not (counted v) x g))
-        next-of x (went ok (left g)) p = absurd (no-both p (gone-not (marked s r (counted v)) x g))
+        next-of x (went ok (left g)) p = absurd (no-both p (gone-not (readMarked s r (counted v)) x g))
         next-of x (went ok (settled ne st)) p =
             go (next-from W S T ok x (settled-at x st))
           where
-            go : Gone (withSet (A W S) (marked s r (counted v))) x ⊎ Next W S (x .set) → Next W S (x .set)
+            go : Gone (withSet (A W S) (readMarked s r (counted v))) x ⊎ Next W S (x .set) → Next W S (x .set)
             go (inl g) = absurd (no-both p (gone-not _ x g))
             go (inr t) = t
 
-        tracking-after : (L′ : ℕ) → Next W S L′ → NodeInv (suc N) L′ i (trackingSlot s r (counted v))
+        tracking-after : (L′ : ℕ) → Next W S L′ → NodeInv (suc N) L′ i (slotByCases s r (counted v))
         tracking-after L′ nx = rw (is-inside tr) (finish N L L′ i v _ nv
             (inside-like s d r (counted v) _ (not-listening (v .state) tr) outcome)
             (tracked L′ nx _ outcome))
 
-      pub listed-after : (L′ : ℕ) → Next W S L′ → K W (suc N) L′ → K′ W (suc N) → L′ < 2 ^ n → NodeInv (suc N) L′ i (slotIn (v .state) s r (counted v))
+      pub listed-after : (L′ : ℕ) → Next W S L′ → K W (suc N) L′ → K′ W (suc N) → L′ < 2 ^ n → NodeInv (suc N) L′ i (readIn (v .state) s r (counted v))
       listed-after L′ nx κ κ′ small = by-state (NodeInv (suc N) L′ i) v s r
           (λ tr. tracking-after tr L′ nx)
           (λ li. listening-after N L L′ i (B .late) i-pos κ κ′ small v nv li r (h .listening li) (h .own) (λ _ u. absurd (no-both lT u)))
           (λ c e. out-after N L L′ i v nv c e)
 
       -- the list after the slot, as a member-state node has it
-      pub next-list : isMember (slotIn (v .state) s r (counted v) .state) ≡ true → Next W S (slotIn (v .state) s r (counted v) .set)
+      pub next-list : isMember (readIn (v .state) s r (counted v) .state) ≡ true → Next W S (readIn (v .state) s r (counted v) .set)
       next-list = by-state (λ (x : Node). isMember (x .state) ≡ true → Next W S (x .set)) v s r
           (λ tr. rw (is-inside tr) (λ p. next-of tr _ (outcome tr) (member-tracks (insideSlot s r (counted v) .state) p)))
           (λ li p. absurd (no-both p (listening-not-member s r (counted v) li)))
@@ -214,7 +212,7 @@ module _ (W : World) where
   module _ (N L : ℕ) (B : Begins W N L) (lT : E (suc N) .listed ≡ false) (offL : has L (sender n (suc N)) ≡ false)
       (i : ℕ) (i-pos : 1 ≤ i) (v : Node) (nv : NodeInv N L i v) (r : Reading) (h : HearsAny N i v r) (o : OwnSlot W N i v)
       (knock-bits : E (suc N) .sent ≡ true → bitsIn r ≡ 0) where
-    is-outside : (tr : tracks (v .state) ≡ true) → trackingSlot (sender n (suc N)) r (counted v) ≡ outsideSlot (sender n (suc N)) r (counted v)
+    is-outside : (tr : tracks (v .state) ≡ true) → slotByCases (sender n (suc N)) r (counted v) ≡ outsideSlot (sender n (suc N)) r (counted v)
     is-outside tr = slot-outside (sender n (suc N)) r (counted v) (ap (λ (y : ℕ). has y (sender n (suc N))) (nv .track tr .set-is) ∙ offL)
 
     own-counted : OwnSlot W N i (counted v)
@@ -227,20 +225,17 @@ module _ (W : World) where
         go : (y : Node) → Noted (sender n (suc N)) r (counted v) y → Like (counted v) (settle false (sender n (suc N)) y) × ((tracks (settle false (sender n (suc N)) y .state) ≡ false) ⊎ Tracking W (suc N) L i (settle false (sender n (suc N)) y))
         go y nt = two (settle false (sender n (suc N)) y) (settle-outside (sender n (suc N)) y)
           where
-            b : Basic (v .n) (v .k) (v .own) (v .slots + 1) y × (isListening (y .state) ≡ false)
+            b : Same (counted v) y × (isListening (y .state) ≡ false)
             b = noted-like (sender n (suc N)) r (counted v) y (not-listening (v .state) tr) nt
 
-            over : (x : Node) → Basic (y .n) (y .k) (y .own) (y .slots) x → Basic (v .n) (v .k) (v .own) (v .slots + 1) x
-            over x c = record { n-is = c .n-is ∙ b .0 .n-is; k-is = c .k-is ∙ b .0 .k-is; own-is = c .own-is ∙ b .0 .own-is; slots-is = c .slots-is ∙ b .0 .slots-is }
-
             two : (x : Node) → Gone y x ⊎ (x ≡ y) → Like (counted v) x × ((tracks (x .state) ≡ false) ⊎ Tracking W (suc N) L i x)
-            two x (inl g) = ((over x (gone-like y x g .0), gone-like y x g .1), inl (gone-not y x g))
+            two x (inl g) = ((same-then (counted v) y x (b .0) (gone-like y x g .0), gone-like y x g .1), inl (gone-not y x g))
             two x (inr e) = rw e (
               (b .0, λ p. absurd (no-both p (b .1))),
               inr (after-noted W N L B lT offL i i-pos (counted v) (nv .own-is) (counted-inv N L i v (nv .track tr)) r (counted-hears N i v r (h .tracking tr)) own-counted y nt),
             )
 
-    pub outside-after : K W (suc N) L → K′ W (suc N) → L < 2 ^ n → NodeInv (suc N) L i (slotIn (v .state) (sender n (suc N)) r (counted v))
+    pub outside-after : K W (suc N) L → K′ W (suc N) → L < 2 ^ n → NodeInv (suc N) L i (readIn (v .state) (sender n (suc N)) r (counted v))
     outside-after κ κ′ small = by-state (NodeInv (suc N) L i) v (sender n (suc N)) r
         (λ tr. rw (is-outside tr) (finish N L L i v _ nv (outside-slot tr .0) (outside-slot tr .1)))
         (λ li. listening-after N L L i (B .late) i-pos κ κ′ small v nv li r (h .listening li) (h .own) (λ q _. knock-bits q))

@@ -9,7 +9,6 @@ use Rattle.nodeset.specs.Sets.{has, with, without}
 use Rattle.nodeset.proofs.Tests.{both, chosen, otherwise}
 use Rattle.ring.specs.declared.Found.{Found}
 use Rattle.ring.specs.declared.Found.the-variants as found
-use Rattle.ring.specs.Answers.{decidedOf}
 use Rattle.message.specs.declared.Reading.{Reading}
 use Rattle.node_record.specs.declared.Node.{Node}
 use Rattle.node_record.specs.declared.State.{State}
@@ -17,9 +16,10 @@ use Rattle.node_record.specs.declared.State.the-variants.{Member, Listening, Fo
 use Rattle.node_record.specs.declared.Cause.{Cause}
 use Rattle.node_record.specs.declared.Cause.the-variants.{Unconfirmed, NothingHeard, MissedReturn}
 use Rattle.node_record.specs.States.{isMember, isFollowing, isKnocking}
+use Rattle.node_record.specs.Sponsoring.{decidedIn}
 use Rattle.node_changes.specs.Changes.{outFor, fresh, leave, withSet, withReturning}
-use Rattle.node_steps.specs.Steps.{isHeard, missedReturn, marked, noted, tooFew, nothingHeard, joins, stateOnList, settledAs, join, settle}
-use Rattle.node_steps.specs.Inner.{judged, departs, departing, insideSlot}
+use Rattle.node_steps.specs.Steps.{isHeard, noted, tooFew, nothingHeard, joins, stateOnList, settledAs, join, settle}
+use Rattle.node_steps.specs.Inner.{readReturn, readMarked, judged, departs, departing, insideSlot}
 use Rattle.bench.proofs.Choices.{choose}
 
 -- no longer tracking
@@ -122,21 +122,21 @@ judged-law s m v = go (has (v .present) m) refl
         (λ f. left (leave-law _ v))
         (λ f. one e (eqb-false m (v .own) f))
 
-depart-law : (s m : ℕ) (v : Node) → decidedOf (v .n) (v .k) (v .set) s ≡ found.Member m → Departed s m v (departing s v)
+depart-law : (s m : ℕ) (v : Node) → decidedIn s v ≡ found.Member m → Departed s m v (departing s v)
 depart-law s m v e = rw (ap (λ (f : Found). departs s f v) e) (judged-law s m v)
 
 -- ---- a slot whose sender is in the set
 
 pub data Inside (s m : ℕ) (r : Reading) (v w : Node) : Type 0 where
   missed : Gone v w → Inside s m r v w
-  went : missedReturn r v ≡ false → Departed s m (marked s r v) w → Inside s m r v w
+  went : readReturn r v ≡ false → Departed s m (readMarked s r v) w → Inside s m r v w
 
-pub inside-law : (s m : ℕ) (r : Reading) (v : Node) → decidedOf (v .n) (v .k) (v .set) s ≡ found.Member m → Inside s m r v (insideSlot s r v)
+pub inside-law : (s m : ℕ) (r : Reading) (v : Node) → decidedIn s v ≡ found.Member m → Inside s m r v (insideSlot s r v)
 unfolding insideSlot
 inside-law s m r v e =
-    choose (λ (w : Node). Inside s m r v w) (missedReturn r v) (leave MissedReturn v) (departing s (marked s r v))
+    choose (λ (w : Node). Inside s m r v w) (readReturn r v) (leave MissedReturn v) (departing s (readMarked s r v))
     (λ f. missed (leave-law MissedReturn v))
-    (λ f. went f (depart-law s m (marked s r v) e))
+    (λ f. went f (depart-law s m (readMarked s r v) e))
 
 -- ---- step 2
 

@@ -1,5 +1,5 @@
 -- A slot of a sender outside the list: what stays tracking keeps the invariant. Assumes nothing.
-use Prim.Native.Nat.{ℕ, zero, suc, _+_, _-_, _≤_, _<_}
+use Prim.Native.Nat.{ℕ, zero, suc, _+_, _≤_, _<_}
 use mathlib.Core.Path.{_≡_, refl, sym, ap, _∙_}
 use mathlib.Core.Logic.{_≢_, _⊎_, inl, inr}
 use mathlib.Core.Bool.{Bool, true, false, _&&_, _||_, true≢false, false≢true}
@@ -8,6 +8,7 @@ use native.Mathlib.Decide.{ℕ-discrete}
 use lib.Dec.{eqb}
 use borrow.Author.Tests.{eq-eqb}
 use Rattle.nodeset.specs.Sets.{has}
+use Rattle.ring.specs.declared.Cable.{Cable}
 use Rattle.ring.specs.Ring.{sender}
 use Rattle.message.specs.declared.Reading.{Reading}
 use Rattle.node_record.specs.declared.Node.{Node}
@@ -32,7 +33,8 @@ following-only Knocking f = absurd (false≢true f)
 following-only (Out x) f = absurd (false≢true f)
 
 module _ (W : World) where
-  open World W using (n, k, n-pos, n-most, k-two, k-lt, E, fair, few, once)
+  open World W using (cable, n-pos, E, fair)
+  open Cable cable using (n)
 
   -- the own slot of node i, outside the list
   pub record OwnSlot (N i : ℕ) (v : Node) : Type 0 where

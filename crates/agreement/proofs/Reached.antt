@@ -1,9 +1,6 @@
 -- Whom a message reaches: by whose slot it is, what is lost, who is named, who sends. Assumes nothing.
-use Prim.Native.Nat.{_-_}
 use mathlib.Core.Path.{_≡_, refl, sym}
-use mathlib.Core.Logic.{_≢_}
 use mathlib.Core.Bool.{Bool, true, false, cond, not, _&&_, _||_, true≢false, false≢true}
-use Rattle.ring.specs.declared.Found.the-variants as found
 use Rattle.message.specs.declared.Reading.{Reading}
 use Rattle.message.specs.declared.Reading.the-variants as reading
 use Rattle.node_record.specs.declared.State.{State}
@@ -11,10 +8,8 @@ use Rattle.node_record.specs.declared.State.the-variants.{Member, Listening, Fo
 use Rattle.node_record.specs.States.{isMember, isListening, isFollowing, isOut}
 use Rattle.node_record.proofs.Tracking.{tracks}
 use Rattle.node_steps.specs.Steps.{isHeard}
-use Rattle.node.specs.Slot as node
-use Rattle.node.specs.Calls as calls
+use Rattle.node_steps.specs.Digests.{bitsIn}
 use Rattle.bench.specs.Calls.{unheard}
-use Rattle.agreement.proofs.Marks.{bitsIn}
 
 -- ---- what is heard: by whose slot it is, what is lost, who is named, who sends
 

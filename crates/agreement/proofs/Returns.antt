@@ -6,25 +6,24 @@ use mathlib.Core.Bool.{Bool, true, false, not, _&&_, _||_, false≢true}
 use native.Mathlib.Omega.{arith}
 use native.Mathlib.Decide.{ℕ-discrete, decLt}
 use lib.Dec.{eqb}
-use borrow.Author.Tests.{eqb-true, eq-eqb, ne-eqb, leb-true}
+use borrow.Author.Tests.{eqb-true, eq-eqb, ne-eqb}
 use Rattle.nodeset.specs.Sums.{num}
 use Rattle.nodeset.specs.Sets.{has}
 use Rattle.nodeset.proofs.Tests.{by-cases, both, all}
 use Rattle.nodeset.proofs.Sums.{num-le}
+use Rattle.ring.specs.declared.Cable.{Cable}
 use Rattle.ring.specs.declared.Found.{Found}
 use Rattle.ring.specs.declared.Found.the-variants as found
-use Rattle.ring.specs.Ring.{sender, memberBefore}
-use Rattle.ring.specs.Answers.{beforeOf}
-use Rattle.ring.proofs.Members as members
+use Rattle.ring.specs.Ring.{sender, memberBefore, isFound}
 use Rattle.ring.proofs.Senders.{sender-range}
-use Rattle.ring.proofs.Walks as walks
 use Rattle.message.specs.declared.Reading.{Reading}
 use Rattle.message.specs.declared.Reading.the-variants.{Heard, Refused}
 use Rattle.node_record.specs.declared.Node.{Node}
 use Rattle.node_record.specs.declared.State.{State}
 use Rattle.node_record.specs.declared.State.the-variants.{Member, Listening, Following, Knocking, Out}
 use Rattle.node_record.specs.States.{isMember, isKnocking}
-use Rattle.node_steps.specs.Steps.{isHeard, returnIn, isFound, marksAfter, missedReturn, returnHeard, marked, joins}
+use Rattle.node_steps.specs.Steps.{isHeard, returnIn, readMarks, joins}
+use Rattle.node_steps.specs.Inner.{readReturn, readHeard, readMarked}
 use Rattle.agreement.proofs.History.{World, Untold, lst, told-in-time, one-knock, num-is}
 use Rattle.agreement.proofs.Invariant.{Knock, Awaits, aware, unaware}
 use Rattle.agreement.proofs.Marks.{no-both, not-true, not-false}
@@ -40,23 +39,16 @@ or-true a b e = rw e
 pub found-it : (s : ℕ) (f : Found) → isFound s f ≡ true → f ≡ found.Member s
 found-it s (found.Member m) e = ap found.Member (eqb-true m s e)
 found-it s found.Nobody e = absurd (false≢true e)
-found-it s (found.Refused c) e = absurd (false≢true e)
 
--- before 0 there is no member
-before-some : (s : ℕ) (v : Node) → beforeOf (v .n) (v .set) (v .returning) 1 ≡ found.Member s → v .returning ≢ 0
-before-some s v f z =
-    let p : 1 ≤ v .returning = leb-true 1 (v .returning) (both _ _ (members.on-ring (v .n) (v .returning) s (memberBefore (v .n) (v .set) (v .returning) 1) f .1) .0) in
-    omega arith
-
-pub joins-yes : (s : ℕ) (v : Node) → joins s v ≡ true → (v .returning ≢ 0) × (beforeOf (v .n) (v .set) (v .returning) 1 ≡ found.Member s)
+pub joins-yes : (s : ℕ) (v : Node) → joins s v ≡ true → (v .returning ≢ 0) × (memberBefore (v .cable .n) (v .set) (v .returning) 1 ≡ found.Member s)
 joins-yes s v e =
-    let f : beforeOf (v .n) (v .set) (v .returning) 1 ≡ found.Member s = found-it s (beforeOf (v .n) (v .set) (v .returning) 1) (both (not (eqb (v .returning) 0)) (isFound s (beforeOf (v .n) (v .set) (v .returning) 1)) e .1) in
-    (before-some s v f, f)
+    let t = both (not (eqb (v .returning) 0)) (isFound s (memberBefore (v .cable .n) (v .set) (v .returning) 1)) e in
+    (λ z. no-both (t .0) (ap not (eq-eqb (v .returning) 0 z)), found-it s (memberBefore (v .cable .n) (v .set) (v .returning) 1) (t .1))
 
-pub joins-if : (s : ℕ) (v : Node) → beforeOf (v .n) (v .set) (v .returning) 1 ≡ found.Member s → joins s v ≡ true
-joins-if s v e = all (ap not (ne-eqb (v .returning) 0 (before-some s v e))) (ap (isFound s) e ∙ eq-eqb s s refl)
+pub joins-if : (s : ℕ) (v : Node) → v .returning ≢ 0 → memberBefore (v .cable .n) (v .set) (v .returning) 1 ≡ found.Member s → joins s v ≡ true
+joins-if s v nz e = all (ap not (ne-eqb (v .returning) 0 nz)) (ap (isFound s) e ∙ eq-eqb s s refl)
 
-pub not-missed : (r : Reading) (v : Node) → missedReturn r v ≡ false → v .returning ≡ 0 → returnIn r ≡ false
+pub not-missed : (r : Reading) (v : Node) → readReturn r v ≡ false → v .returning ≡ 0 → returnIn r ≡ false
 not-missed r v e z =
     let p : eqb (v .returning) 0 ≡ true = eq-eqb (v .returning) 0 z in
     go (returnIn r) (eqb (v .returning) 0) p e
@@ -92,7 +84,8 @@ pub or-false : (a b : Bool) → a ≡ false → b ≡ false → (a || b) ≡ fal
 or-false a b p q = rw (p, q) refl
 
 module _ (W : World) where
-  open World W using (n, k, n-pos, n-most, k-two, k-lt, E, fair, few, once)
+  open World W using (cable, n-pos, E, fair)
+  open Cable cable using (n)
 
   pub same-knock : (N w e w′ e′ : ℕ) → n ≤ N → w + e ≡ N → e < n → w′ + e′ ≡ N → e′ < n → E w .outside ≡ true → E w′ .outside ≡ true → w ≡ w′
   same-knock N w e w′ e′ hn z h z′ h′ o o′ = go (decLt w w′) (decLt w′ w)
@@ -106,19 +99,19 @@ module _ (W : World) where
     open ListedSlot S using (N, L, B, lT, onL, D)
 
     module _ (T : Hearer W (S .N) (S .L)) where
-      open Hearer T using (r, says, i, i-pos, i-le, v, vn, vk, vo, iv, h)
+      open Hearer T using (r, says, i, i-pos, i-le, v, vo, iv, h)
 
       abbrev s : ℕ
       s = sender n (suc N)
 
       abbrev pub v₁ : Node
-      v₁ = marked s r v
+      v₁ = readMarked s r v
 
       d-ago : D .u + suc (D .e) ≡ suc N
       d-ago = omega (arith, D .ago)
 
-      d-marked : E (D .u) .sent ≡ true → has (marksAfter s r v) (sender n (D .u)) ≡ true
-      d-marked p = not-false (has (marksAfter s r v) (sender n (D .u))) λ off.
+      d-marked : E (D .u) .sent ≡ true → has (readMarks s r v) (sender n (D .u)) ≡ true
+      d-marked p = not-false (has (readMarks s r v) (sender n (D .u))) λ off.
           let o = on-after W S T (D .u) (suc (D .e)) d-ago (D .recent) p (D .member) off in
           let un : Untold W (D .u) (D .u + suc (D .e)) = rw d-ago (o .untold) in
           omega (arith, told-in-time W (D .u) (suc (D .e)) (omega (arith, D .ago, D .recent, B .late)) (D .recent) p un, since-next W N (D .u) (D .e) (D .ago), D .exact, num-is lT)
@@ -168,7 +161,7 @@ module _ (W : World) where
 
       -- the return bit at a knocking node
       answer : (w e : ℕ) → w + e ≡ N → e < n → E w .listed ≡ false → E w .sent ≡ true → has L (sender n w) ≡ false
-          → isKnocking (v .state) ≡ true → i ≡ sender n w → (v .«return_heard» ≡ true) ⊎ Untold W w N → (returnHeard r v ≡ true) ⊎ Untold W w (suc N)
+          → isKnocking (v .state) ≡ true → i ≡ sender n w → (v .«return_heard» ≡ true) ⊎ Untold W w N → (readHeard r v ≡ true) ⊎ Untold W w (suc N)
       answer w e z l a b c kn io (inl p) = inl (or-true (v .«return_heard») _ p)
       answer w e z l a b c kn io (inr un) = by-cases (E (suc N) .sent)
           (λ p. by-cases (isHeard r) (λ q. by-cases (returnIn r)
@@ -178,7 +171,7 @@ module _ (W : World) where
           (λ p. inr (still-untold w un (λ q. absurd (no-both q p))))
 
       -- R for an open knock, after step 1
-      pub awaits-after : missedReturn r v ≡ false → (w e : ℕ) → w + e ≡ N → e < n → E w .listed ≡ false → E w .sent ≡ true → has L (sender n w) ≡ false → Awaits W (suc N) i w v₁
+      pub awaits-after : readReturn r v ≡ false → (w e : ℕ) → w + e ≡ N → e < n → E w .listed ≡ false → E w .sent ≡ true → has L (sender n w) ≡ false → Awaits W (suc N) i w v₁
       awaits-after ok w e z l a b c = go (iv .open-knock w e z l a b c)
         where
           go : Awaits W N i w v → Awaits W (suc N) i w v₁
@@ -192,7 +185,7 @@ module _ (W : World) where
                   (λ t. inr (missed-failure W (suc N) i p (h .missing t p y .1) i-pos i-le))
 
       -- a lost knock is not answered
-      pub lost-after : isKnocking (v .state) ≡ true → (w e : ℕ) → w + e ≡ suc N → e < n → sender n w ≡ i → E w .sent ≡ false → returnHeard r v ≡ false
+      pub lost-after : isKnocking (v .state) ≡ true → (w e : ℕ) → w + e ≡ suc N → e < n → sender n w ≡ i → E w .sent ≡ false → readHeard r v ≡ false
       lost-after kn w zero z l y f =
           let x : w ≡ suc N = omega arith in
           absurd (no-both onL (rw (← x) (rw y (iv .own-out (not-member (v .state) kn)))))
@@ -215,5 +208,5 @@ module _ (W : World) where
               let nz : Z .z .returning ≢ 0 = λ q. no-both t (Z .ret ∙ ap not (eq-eqb (Z .z .returning) 0 q)) in
               two Z (Z .inv .knock nz) (iv .knock (λ q. let bad : ⊥ = omega (arith, iv .knocking-own kn) in bad))
 
-      pub quiet-after : isKnocking (v .state) ≡ false → returnHeard r v ≡ false
+      pub quiet-after : isKnocking (v .state) ≡ false → readHeard r v ≡ false
       quiet-after kn = or-false (v .«return_heard») _ (iv .quiet kn) (rw kn refl)

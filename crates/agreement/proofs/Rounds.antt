@@ -9,6 +9,7 @@ use Rattle.nodeset.specs.Sums.{sum}
 use Rattle.nodeset.specs.Sets.{has, with, size}
 use Rattle.nodeset.proofs.Tests.{by-cases}
 use Rattle.nodeset.proofs.Laws.{has-with-other, with-lt}
+use Rattle.ring.specs.declared.Cable.{Cable}
 use Rattle.ring.specs.Ring.{sender}
 use Rattle.ring.proofs.Senders.{sender-range, sender-period}
 use Rattle.ring.proofs.Walks.{Met, walk-meets}
@@ -19,7 +20,8 @@ use Rattle.agreement.proofs.Depart.{since-next, k-after, drop-lt}
 use Rattle.agreement.proofs.Join.{A, Next, plain, grown}
 
 module _ (W : World) where
-  open World W using (n, k, n-pos, n-most, k-two, k-lt, E, fair, few, once)
+  open World W using (cable, n-pos, E)
+  open Cable cable using (n, k)
 
   -- K': the last slot but one of a listed sender was sent
   abbrev pub K′ : ℕ → Type 0

@@ -1,6 +1,6 @@
 -- A slot keeps the invariant of a table. Assumes nothing.
-use Prim.Native.Nat.{ℕ, suc, _+_, _-_, _^_, _≤_, _<_}
-use mathlib.Core.Path.{_≡_, refl, sym, ap, _∙_, subst}
+use Prim.Native.Nat.{ℕ, suc, _+_, _^_, _≤_, _<_}
+use mathlib.Core.Path.{_≡_, refl, sym, ap, ap₂, _∙_, subst}
 use mathlib.Core.Logic.{_≢_}
 use mathlib.Core.Bool.{Bool, true, false, cond, not, _&&_, _||_, false≢true}
 use native.Mathlib.Omega.{arith}
@@ -10,9 +10,10 @@ use lib.ListN.{length}
 use borrow.Author.Tests.{eq-eqb, ne-eqb}
 use Rattle.nodeset.specs.Sets.{has, size}
 use Rattle.nodeset.proofs.Tests.{by-cases, chosen, otherwise}
+use Rattle.ring.specs.declared.Cable.{Cable}
+use Rattle.ring.specs.declared.Found.{Found}
 use Rattle.ring.specs.declared.Found.the-variants as found
-use Rattle.ring.specs.Ring.{sender, ks}
-use Rattle.ring.specs.Answers.{sponsoredOf}
+use Rattle.ring.specs.Ring.{sender, memberIn, sponsors, sponsored}
 use Rattle.ring.proofs.Senders.{sender-range, sender-period}
 use Rattle.message.specs.declared.Reading.{Reading}
 use Rattle.message.specs.declared.Reading.the-variants as reading
@@ -20,21 +21,25 @@ use Rattle.node_record.specs.declared.Node.{Node}
 use Rattle.node_record.specs.declared.State.the-variants.{Member}
 use Rattle.node_record.specs.States.{isMember, isListening, isOut}
 use Rattle.node_record.specs.Soundness.{sound, limit}
+use Rattle.node_record.specs.Sponsoring.{sponsoredIn}
 use Rattle.node_record.proofs.Tracking.{tracks}
 use Rattle.node_changes.specs.Changes.{counted}
 use Rattle.node_steps.specs.Steps.{isHeard}
-use Rattle.node_sending.specs.Sending.{sends, hasFound, markBits, bitsSent, returnSent}
+use Rattle.node_steps.specs.Digests.{bitsIn}
+use Rattle.node_sending.specs.Sending.{sends, markBits, bitsSent, returnSent}
 use Rattle.node_sending.proofs.Laws.{has-markBits}
-use Rattle.node.specs.Slot as node
+use Rattle.node_slot.specs.Slot.{afterSlot}
+use Rattle.node_slot.specs.Inner.{readIn}
+use Rattle.node_slot.proofs.Read.{after-read}
 use Rattle.node.specs.declared.Stepped.{Stepped}
 use Rattle.bench.specs.Table.{Table, recordOf, slotsOf, speaker}
 use Rattle.bench.specs.Calls.{transmits, unheard, spoken, heardBy, tableAfterSlot}
 use Rattle.bench.specs.Runs.{slot, listOf, isListed, misses}
 use Rattle.agreement.specs.Demand.{AllHear}
 use Rattle.agreement.proofs.Past.{Past, pastOf}
-use Rattle.agreement.proofs.History.{World, K, decision, ks-is}
+use Rattle.agreement.proofs.History.{World, K, decision, sponsors-are}
 use Rattle.agreement.proofs.Invariant.{Tracking}
-use Rattle.agreement.proofs.Marks.{no-both, not-true, not-false, bitsIn}
+use Rattle.agreement.proofs.Marks.{no-both, not-true, not-false}
 use Rattle.agreement.proofs.Listed.{Begins, Says, ListedSlot}
 use Rattle.agreement.proofs.Join.{Next}
 use Rattle.agreement.proofs.Outside.{OwnSlot}
@@ -47,7 +52,8 @@ use Rattle.agreement.proofs.Tables.{TableInv, Witness, witness, list-is
 use Rattle.agreement.proofs.Reached.{hear, hear-message, unheard-bits, unreached, and-no, reached, sent-parts, not-out, listening-neither, sends-tracks}
 
 module _ (W : World) where
-  open World W using (n, k, n-pos, n-most, k-two, k-lt, E)
+  open World W using (cable, n-pos, n-most, k-lt, E)
+  open Cable cable using (n, k)
 
   module _ (N L : ℕ) (t : Table) (lost : Bool) (missed : ℕ) (inv : TableInv W N L t) (eq : E (suc N) ≡ pastOf lost missed t)
       (enough : k + 1 ≤ size n (listOf t)) (hears : AllHear n (slot lost missed 64) t)
@@ -134,26 +140,19 @@ module _ (W : World) where
         mem : isMember (recordOf t s .state) ≡ true
         mem = not-false (isMember (recordOf t s .state)) (λ f. no-both onL (iv .own-out f))
 
-        ks-here : ks (recordOf t s .k) (size (recordOf t s .n) (recordOf t s .set)) ≡ k
-        ks-here =
-            ap (λ (x : ℕ). ks x (size (recordOf t s .n) (recordOf t s .set))) (nv .k-is) ∙ ap (λ (x : ℕ). ks k (size x (recordOf t s .set))) (nv .n-is)
-            ∙ ap (λ (x : ℕ). ks k (size n x)) (iv .set-is) ∙ ks-is W L (begins .enough)
-
         sent-bits : bitsSent (recordOf t s) ≡ markBits k (recordOf t s)
-        sent-bits = chosen _ _ mem ∙ ap (λ (x : ℕ). markBits x (recordOf t s)) ks-here
+        sent-bits = chosen _ _ mem ∙ ap (λ (x : ℕ). markBits x (recordOf t s)) (ap₂ sponsors (nv .cable-is) (iv .set-is) ∙ sponsors-are W L (begins .enough))
 
-        here : (j : ℕ) → sponsoredOf (recordOf t s .n) (recordOf t s .k) (recordOf t s .set) (recordOf t s .own) j ≡ sponsoredOf n k L s j
+        here : (j : ℕ) → sponsoredIn (recordOf t s .own) j (recordOf t s) ≡ sponsored cable L s j
         here j =
-            ap (λ (x : ℕ). sponsoredOf x (recordOf t s .k) (recordOf t s .set) (recordOf t s .own) j) (nv .n-is)
-            ∙ ap (λ (x : ℕ). sponsoredOf n x (recordOf t s .set) (recordOf t s .own) j) (nv .k-is)
-            ∙ ap (λ (x : ℕ). sponsoredOf n k x (recordOf t s .own) j) (iv .set-is)
-            ∙ ap (λ (x : ℕ). sponsoredOf n k L x j) (nv .own-is)
+            ap₂ (λ (c : Cable) (set : ℕ). sponsored c set (recordOf t s .own) j) (nv .cable-is) (iv .set-is)
+            ∙ ap (λ (x : ℕ). sponsored cable L x j) (nv .own-is)
 
-        bits : (j x : ℕ) → j < k → sponsoredOf n k L s (suc j) ≡ found.Member x → has (bitsSent (recordOf t s)) (suc j) ≡ has (recordOf t s .present) x
+        bits : (j x : ℕ) → j < k → sponsored cable L s (suc j) ≡ found.Member x → has (bitsSent (recordOf t s)) (suc j) ≡ has (recordOf t s .present) x
         bits j x h e =
             ap (λ (b : ℕ). has b (suc j)) sent-bits
             ∙ has-markBits (recordOf t s) k (suc j) (omega arith) (omega arith) (omega (arith, k-lt, n-most))
-            ∙ ap (hasFound (recordOf t s .present)) (here (suc j) ∙ e)
+            ∙ ap (λ (f : Found). has (recordOf t s .present) (memberIn f)) (here (suc j) ∙ e)
 
     says : has L s ≡ true → (i : ℕ) → isHeard (hd i) ≡ true → Says W N L (hd i)
     says onL i e = subst (λ (r : Reading). Says W N L r) (sym (heard-message i e)) (message-says onL (sym transmits-is ∙ sent))
@@ -225,13 +224,13 @@ module _ (W : World) where
     after = tableAfterSlot lost missed t
 
     -- the node after the slot
-    node-after : (i : ℕ) → 1 ≤ i → i ≤ n → recordOf (tableAfterSlot lost missed t) i ≡ node.slotIn (recordOf t i .state) s (hd i) (counted (recordOf t i))
-    unfolding node.afterSlot
+    node-after : (i : ℕ) → 1 ≤ i → i ≤ n → recordOf (tableAfterSlot lost missed t) i ≡ readIn (recordOf t i .state) s (hd i) (counted (recordOf t i))
     node-after i h l =
         after-slot-record lost missed t i h (omega (arith, inv .len))
         ∙ ap (λ (x : Stepped). x .node) (step-done (heardBy lost missed t i) (recordOf t i) (good i h l) few)
-        ∙ ap (λ (x : ℕ). node.slotIn (recordOf t i .state) x (cond (eqb x (recordOf t i .own)) unheard (heardBy lost missed t i)) (counted (recordOf t i))) its
-        ∙ ap (λ (x : Reading). node.slotIn (recordOf t i .state) s (cond (eqb s (recordOf t i .own)) unheard x) (counted (recordOf t i)))
+        ∙ ap (λ (x : ℕ). afterSlot x (heardBy lost missed t i) (counted (recordOf t i))) its
+        ∙ after-read s (heardBy lost missed t i) (counted (recordOf t i))
+        ∙ ap (λ (x : Reading). readIn (recordOf t i .state) s (cond (eqb s (recordOf t i .own)) unheard x) (counted (recordOf t i)))
         (heard-unless lost missed t i ∙ ap (cond (lost || has missed i) unheard) spoken-is)
       where
         nv : NodeInv W N L i (recordOf t i)
@@ -240,10 +239,10 @@ module _ (W : World) where
         few : recordOf t i .slots < limit
         few = omega (arith, nv .slots-is, slots-at W N L t inv, below)
 
-        its : sender (recordOf t i .n) (recordOf t i .slots + 1) ≡ s
+        its : sender (recordOf t i .cable .n) (recordOf t i .slots + 1) ≡ s
         its =
             let z : recordOf t i .slots + 1 + n ≡ suc N = omega (arith, nv .slots-is) in
-            ap (λ (x : ℕ). sender x (recordOf t i .slots + 1)) (nv .n-is) ∙ sym (sender-period n n-pos (recordOf t i .slots + 1) (omega arith)) ∙ ap (sender n) z
+            ap (λ (c : Cable). sender (c .n) (recordOf t i .slots + 1)) (nv .cable-is) ∙ sym (sender-period n n-pos (recordOf t i .slots + 1) (omega arith)) ∙ ap (sender n) z
 
     len-after : length (tableAfterSlot lost missed t) ≡ n
     len-after = after-slot-length lost missed t ∙ inv .len
@@ -257,7 +256,7 @@ module _ (W : World) where
         go : Witness W after → TableInv W (suc N) (listOf after) after
         go x = done (rw (← (x .its)) at nx)
           where
-            e : recordOf after (x .i) ≡ node.slotIn (recordOf t (x .i) .state) s (hd (x .i)) (counted (recordOf t (x .i)))
+            e : recordOf after (x .i) ≡ readIn (recordOf t (x .i) .state) s (hd (x .i)) (counted (recordOf t (x .i)))
             e = node-after (x .i) (x .pos) (x .le)
 
             nx : Next W S (recordOf after (x .i) .set)

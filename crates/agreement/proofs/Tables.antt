@@ -12,6 +12,7 @@ use Rattle.nodeset.specs.Sets.{full, size}
 use Rattle.nodeset.proofs.Tests.{by-cases, chosen, otherwise}
 use Rattle.nodeset.proofs.Laws.{has-full, full-lt}
 use Rattle.nodeset.proofs.Counts.{size-none}
+use Rattle.ring.specs.declared.Cable.{Cable}
 use Rattle.ring.specs.Ring.{sender}
 use Rattle.ring.proofs.Senders.{sender-range}
 use Rattle.node_record.specs.declared.Node.{Node}
@@ -19,7 +20,6 @@ use Rattle.node_record.specs.declared.Cause.{Cause}
 use Rattle.node_record.specs.States.{isMember}
 use Rattle.node_changes.specs.Changes.{starting, outFor, fresh}
 use Rattle.node.specs.Calls.{noNode}
-use Rattle.bench.specs.declared.Listed.the-variants as listed
 use Rattle.bench.specs.Table.{Table, recordOf, each, slotsOf}
 use Rattle.bench.specs.Calls.{startTable, listIn}
 use Rattle.bench.specs.Runs.{setIn, listOf}
@@ -57,7 +57,8 @@ unfolding recordOf
 record-at t j = let z : suc j - 1 ≡ j = omega arith in ap (λ (x : ℕ). getD t x noNode) z
 
 module _ (W : World) where
-  open World W using (n, k, n-pos, n-most, E, early)
+  open World W using (cable, n-pos, n-most, E, early)
+  open Cable cable using (n)
 
   pub record TableInv (N L : ℕ) (t : Table) : Type 0 where
     pub len : length t ≡ n
@@ -127,21 +128,20 @@ module _ (W : World) where
   off-keeps N L t inv a c g is = one-keeps N L t inv a g (λ h l. subst (λ (y : Node). NodeInv W N L a y) (sym (is h l)) (new (inv .nodes a h l)))
     where
       new : NodeInv W N L a (recordOf t a) → NodeInv W N L a (outFor c (recordOf t a))
-      new nv = record { n-is = nv .n-is; k-is = nv .k-is; own-is = nv .own-is; slots-is = nv .slots-is; track = λ b. absurd (false≢true b); listen = λ b. absurd (false≢true b) }
+      new nv = record { cable-is = nv .cable-is; own-is = nv .own-is; slots-is = nv .slots-is; track = λ b. absurd (false≢true b); listen = λ b. absurd (false≢true b) }
 
   pub restart-keeps : (N L : ℕ) (t : Table) → TableInv N L t → (a : ℕ) (g : Node → Node) → (1 ≤ a → a ≤ n → g (recordOf t a) ≡ fresh (recordOf t a))
       → TableInv N L (each (λ i v. cond (eqb i a) (g v) v) t)
   restart-keeps N L t inv a g is = one-keeps N L t inv a g (λ h l. subst (λ (y : Node). NodeInv W N L a y) (sym (is h l)) (new (inv .nodes a h l)))
     where
       new : NodeInv W N L a (recordOf t a) → NodeInv W N L a (fresh (recordOf t a))
-      new nv = record { n-is = nv .n-is; k-is = nv .k-is; own-is = nv .own-is; slots-is = nv .slots-is; track = λ b. absurd (false≢true b); listen = λ b. fresh-inv W N a (fresh (recordOf t a)) refl refl refl }
+      new nv = record { cable-is = nv .cable-is; own-is = nv .own-is; slots-is = nv .slots-is; track = λ b. absurd (false≢true b); listen = λ b. fresh-inv W N a (fresh (recordOf t a)) refl refl refl }
 
   -- ---- the start
 
-  start-node : (i : ℕ) → 1 ≤ i → i ≤ n → NodeInv W n (full n) i (starting n k i)
+  start-node : (i : ℕ) → 1 ≤ i → i ≤ n → NodeInv W n (full n) i (starting cable i)
   start-node i h l = record {
-    n-is = refl;
-    k-is = refl;
+    cable-is = refl;
     own-is = refl;
     slots-is = omega arith;
     track = λ _. record {
@@ -160,9 +160,9 @@ module _ (W : World) where
     listen = λ p. absurd (false≢true p);
   }
 
-  pub start-keeps : (lent : Table) → length lent ≡ n → TableInv n (full n) (startTable n k lent)
+  pub start-keeps : (lent : Table) → length lent ≡ n → TableInv n (full n) (startTable cable lent)
   start-keeps lent len = record {
-    len = length-each (λ i v. starting n k i) lent ∙ len;
+    len = length-each (λ i v. starting cable i) lent ∙ len;
     late = omega arith;
     kept = λ u e z h. let s : E u .sent ≡ true = ap (λ (x : Past). x .sent) (early u (omega arith)) in
         record {
@@ -173,5 +173,5 @@ module _ (W : World) where
         };
     kept′ = λ w e z h p. ap (λ (x : Past). x .sent) (early w (omega arith));
     small = full-lt n;
-    nodes = λ i h l. subst (λ (y : Node). NodeInv W n (full n) i y) (sym (record-each (λ j v. starting n k j) lent i h (omega (arith, len)))) (start-node i h l);
+    nodes = λ i h l. subst (λ (y : Node). NodeInv W n (full n) i y) (sym (record-each (λ j v. starting cable j) lent i h (omega (arith, len)))) (start-node i h l);
   }

@@ -7,6 +7,8 @@ use native.Mathlib.Omega.{arith}
 use lib.ListN.{length, getD}
 use Rattle.nodeset.specs.Sets.{distance}
 use Rattle.nodeset.proofs.Tests.{by-cases}
+use Rattle.ring.specs.declared.Cable.{Cable}
+use Rattle.ring.proofs.Ranges.{ring-size}
 use Rattle.node_record.specs.declared.Node.{Node}
 use Rattle.node_record.specs.States.{isMember}
 use Rattle.node.specs.declared.Answer.{Answer}
@@ -72,18 +74,20 @@ unfolding AtEach
 also-each P Q h [] a = tt
 also-each P Q h (c ∷ cs) a = (also-each P Q h cs (a .0), h c cs (a .1))
 
-module _ (n k : ℕ) (pos : 1 ≤ n) (start : Table) (begins : Placed n k 0 start) where
+module _ (cable : Cable) (pos : 1 ≤ cable .n) (start : Table) (begins : Placed cable 0 start) where
+  open Cable cable using (n)
+
   -- as the bench's call works it out
-  told-zero : (cs : List Call) → Agree n k start cs → greatest (nodeCount (tableAfter start cs)) (tableAfter start cs) ≡ 0
+  told-zero : (cs : List Call) → Agree cable start cs → greatest (nodeCount (tableAfter start cs)) (tableAfter start cs) ≡ 0
   told-zero cs h =
-      let l : nodeCount (tableAfter start cs) ≡ n = run-length n k pos start begins cs in
+      let l : nodeCount (tableAfter start cs) ≡ n = run-length cable pos start begins cs in
       ap (λ (m : ℕ). greatest m (tableAfter start cs)) l ∙ nothing-apart n (tableAfter start cs) l h
 
-  look-tells : (cs : List Call) → Agree n k start cs → LookTells n k start cs
+  look-tells : (cs : List Call) → Agree cable start cs → LookTells cable start cs
   unfolding endedOf lookOf
-  look-tells cs h lost room = rw (never-unsound n k pos start begins cs) (told-zero cs h)
+  look-tells cs h lost room = rw (never-unsound cable pos start begins cs) (told-zero cs h)
 
-  slot-tells : (c : Call) (cs : List Call) → Agree n k start (c ∷ cs) → SlotTells n k start c cs
+  slot-tells : (c : Call) (cs : List Call) → Agree cable start (c ∷ cs) → SlotTells cable start c cs
   unfolding endedOf tableAfter callOf isSlot
   slot-tells (slot lost missed room) cs h = go (slotOf lost missed room (tableAfter start cs) .answer)
     where
@@ -95,19 +99,19 @@ module _ (n k : ℕ) (pos : 1 ≤ n) (start : Table) (begins : Placed n k 0 star
 
 pub distance-throughout : NoDistanceTold
 unfolding EverySequence
-distance-throughout n k three most two fewer lent one-each cs p = record {
-  looks = (look-tells n k pos first placed [] (agree .0), also-each _ _ (λ c x h. look-tells n k pos first placed (c ∷ x) h) cs (agree .1));
-  slots = also-each _ _ (λ c x h. slot-tells n k pos first placed c x h) cs (agree .1);
+distance-throughout cable ring sponsors lent one-each cs p = record {
+  looks = (look-tells cable pos first placed [] (agree .0), also-each _ _ (λ c x h. look-tells cable pos first placed (c ∷ x) h) cs (agree .1));
+  slots = also-each _ _ (λ c x h. slot-tells cable pos first placed c x h) cs (agree .1);
 }
   where
     first : Table
-    first = setUpOf n k lent .table
+    first = setUpOf cable lent .table
 
-    placed : Placed n k 0 first
-    placed = start-placed n k three most two fewer lent one-each
+    placed : Placed cable 0 first
+    placed = start-placed cable ring sponsors lent one-each
 
-    pos : 1 ≤ n
-    pos = omega arith
+    pos : 1 ≤ cable .n
+    pos = omega (arith, ring-size (cable .n) ring)
 
-    agree : AfterEach (Agree n k first) cs
-    agree = demand3 n k three most two fewer lent one-each cs p .agree
+    agree : AfterEach (Agree cable first) cs
+    agree = demand3 cable ring sponsors lent one-each cs p .agree

@@ -9,11 +9,11 @@ use lib.Dec.{eqb, leb}
 use lib.ListN.{length}
 use Rattle.nodeset.specs.Sums.{sum, num}
 use Rattle.nodeset.specs.Sets.{has, size, distance}
-use Rattle.ring.specs.Ring.{sender}
+use Rattle.ring.specs.declared.Cable.{Cable}
 use Rattle.ring.specs.declared.Found.{Found}
 use Rattle.ring.specs.declared.Found.the-variants.{Member, Nobody}
+use Rattle.ring.specs.Ring.{ringSize, sponsorCount, sender, isFound}
 use Rattle.node_record.specs.States.{isMember, isOut}
-use Rattle.node_steps.specs.Steps.{isFound}
 use Rattle.bench.specs.Table.{Table, recordOf, slotsOf, speaker}
 use Rattle.bench.specs.Calls.{transmits, setUpOf}
 use Rattle.bench.specs.Runs as runs
@@ -70,7 +70,9 @@ OffAll n t x = (i : ℕ) → MemberAt n t i → has (recordOf t i .set) x ≡ fa
 
 -- ---- of the calls from a start
 
-module _ (n k : ℕ) (start : Table) where
+module _ (cable : Cable) (start : Table) where
+  open Cable cable using (n, k)
+
   -- The table after the calls, and what slot u was among them.
   abbrev tableAfter : List Call → Table
   tableAfter cs = runs.tableAfter start cs
@@ -149,13 +151,13 @@ module _ (n k : ℕ) (start : Table) where
 
 -- ---- demand 3
 
--- For all n from 3 to 32 and all k from 2 to n - 1, whatever table of n records was lent to set-up: every sequence of calls from there that keeps what is
--- assumed has what is claimed.
-unfoldable pub EverySequence : (assumed claimed : ℕ → ℕ → Table → List Call → Type 0) → Type 0
+-- For every cable ("n from 3 to 32", "k is from 2 to n - 1") and whatever table of n records was lent to set-up: every sequence of calls from there that keeps
+-- what is assumed has what is claimed.
+unfoldable pub EverySequence : (assumed claimed : Cable → Table → List Call → Type 0) → Type 0
 EverySequence assumed claimed =
-    (n k : ℕ) → 3 ≤ n → n ≤ 32 → 2 ≤ k → k ≤ n - 1
-    → (lent : Table) → length lent ≡ n
-    → (cs : List Call) → assumed n k (setUpOf n k lent .table) cs → claimed n k (setUpOf n k lent .table) cs
+    (cable : Cable) → ringSize (cable .n) ≡ true → sponsorCount cable ≡ true
+    → (lent : Table) → length lent ≡ cable .n
+    → (cs : List Call) → assumed cable (setUpOf cable lent .table) cs → claimed cable (setUpOf cable lent .table) cs
 
 abbrev pub Demand3 : Type 0
 Demand3 = EverySequence Premises Claims

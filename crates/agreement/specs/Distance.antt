@@ -3,6 +3,7 @@ use Prim.Native.Nat.{ℕ}
 use mathlib.Core.Path.{_≡_}
 use mathlib.Core.Bool.{Bool, true}
 use mathlib.Core.List.{List}
+use Rattle.ring.specs.declared.Cable.{Cable}
 use Rattle.bench.specs.declared.Command.the-variants as command
 use Rattle.bench.specs.declared.Outcome.{Outcome}
 use Rattle.bench.specs.declared.Outcome.the-variants as outcome
@@ -17,7 +18,7 @@ NoDistance (outcome.Slot number sender fate list distance) = distance ≡ 0
 NoDistance outcome.Quiet = ⊥
 NoDistance (outcome.Refused cause) = ⊥
 
-module _ (n k : ℕ) (start : Table) where
+module _ (cable : Cable) (start : Table) where
   -- A look after the calls so far, whatever it is asked and however many bytes are lent, tells so.
   abbrev pub LookTells : List Call → Type 0
   LookTells cs = (lost : Bool) (room : ℕ) → NoDistance (endedOf (command.Look lost) room (tableAfter start cs) .reply .outcome)

@@ -47,13 +47,13 @@ table-replaced n rows t same = go (decLe n (length rows))
 -- ---- a call
 
 -- a ring of one node at least
+some-record : (t : Table) → tableSound t ≡ true → 1 ≤ length t
+unfolding tableSound
+some-record [] e = absurd (false≢true e)
+some-record (v ∷ t) e = omega arith
+
 some-node : (t : Table) → tableSound t ≡ true → 1 ≤ recordOf t 1 .cable .n
-some-node t e = go t e (sound-placed t e .length-is)
-  where
-    go : (u : Table) → tableSound u ≡ true → length u ≡ recordOf t 1 .cable .n → 1 ≤ recordOf t 1 .cable .n
-    unfolding tableSound
-    go [] e l = absurd (false≢true e)
-    go (v ∷ u) e l = omega arith
+some-node t e = omega (arith, some-record t e, sound-placed t e .length-is)
 
 module _ (t : Table) (sound : tableSound t ≡ true) where
   still-placed : (c : Call) → (slots : ℕ) × Placed (recordOf t 1 .cable) slots (callOf c t .table)
