@@ -21,7 +21,7 @@ use Rattle.node_record.specs.declared.Node.{Node}
 use Rattle.node_record.specs.declared.Window.{Window}
 use Rattle.node_changes.specs.Changes.{listeningAfter, followingWith, withWindow}
 use Rattle.node_steps.specs.Steps.{isHeard}
-use Rattle.node_steps.specs.Digests.{bitsIn}
+use Rattle.node_steps.specs.Digests.{bitsHeard}
 use Rattle.node_hearing.specs.Hearing.{overheard, clean, windowEnd, goesOn, listeningBy}
 use Rattle.agreement.proofs.Past.{Past}
 use Rattle.agreement.proofs.History.{World, K, KFact}
@@ -65,7 +65,7 @@ module _ (W : World) where
 
   module _ (N i : ℕ) (late : n ≤ N) (v : Node) (iv : ListeningInv W N i v) (r : Reading)
       (hq : isHeard r ≡ E (suc N) .sent) (own : i ≡ sender n (suc N) → isHeard r ≡ false)
-      (knock-bits : E (suc N) .sent ≡ true → E (suc N) .listed ≡ false → bitsIn r ≡ 0) where
+      (knock-bits : E (suc N) .sent ≡ true → E (suc N) .listed ≡ false → bitsHeard r ≡ 0) where
     abbrev s : ℕ
     s = sender n (suc N)
 
@@ -103,7 +103,7 @@ module _ (W : World) where
         shows : (u e : ℕ) → u + e ≡ suc N → e < v .listening .done + 1 → E u .sent ≡ true → E u .listed ≡ false → min (v .listening .shortest) (run bits) ≡ 0
         shows u zero z l a b =
             let y : u ≡ suc N = omega arith in
-            let z₁ : run bits ≡ 0 = ap run (sym (ap bitsIn it) ∙ knock-bits (rw y at a) (rw y at b)) ∙ run-zero in
+            let z₁ : run bits ≡ 0 = ap run (sym (ap bitsHeard it) ∙ knock-bits (rw y at a) (rw y at b)) ∙ run-zero in
             omega arith
         shows u (suc e) z l a b = omega (arith, iv .knock-shows u e (omega arith) (omega arith) a b)
 

@@ -19,7 +19,7 @@ use Rattle.node_record.specs.declared.Node.{Node}
 use Rattle.node_record.specs.States.{isMember}
 use Rattle.node_record.specs.Sponsoring.{sponsorsIn, sponsoredIn}
 use Rattle.node_steps.specs.Steps.{isHeard, returnIn, readMarks}
-use Rattle.node_steps.specs.Digests.{bitsIn}
+use Rattle.node_steps.specs.Digests.{bitsHeard}
 use Rattle.agreement.proofs.History.{World, sender-most, Untold, K, lst, told-in-time, sponsors-are, Decision, sponsored-since, Sponsored, num-is}
 use Rattle.agreement.proofs.Invariant.{Tracking, Off}
 use Rattle.agreement.proofs.Marks.{no-both, not-true, not-false, Told, mark-of-sender, off-before, on-before}
@@ -46,7 +46,7 @@ module _ (W : World) where
     pub z : Node
     pub inv : Tracking W N L (sender n (suc N)) z
     pub member : isMember (z .state) ≡ true
-    pub bits : (j x : ℕ) → j < k → sponsored cable L (sender n (suc N)) (suc j) ≡ Member x → has (bitsIn r) (suc j) ≡ has (z .present) x
+    pub bits : (j x : ℕ) → j < k → sponsored cable L (sender n (suc N)) (suc j) ≡ Member x → has (bitsHeard r) (suc j) ≡ has (z .present) x
     pub ret : returnIn r ≡ not (eqb (z .returning) 0)
 
   -- the sender of an earlier slot of the round is another
@@ -103,7 +103,7 @@ module _ (W : World) where
     sponsored-is j = ap₂ (λ (c : Cable) (set : ℕ). sponsored c set s j) vc (iv .set-is)
 
     -- what is told is the sender's mark
-    told-mark : (x : ℕ) (Z : Says N L r) → Told s (bitsIn r) v x (sponsorsIn v) → has (Z .z .present) x ≡ true
+    told-mark : (x : ℕ) (Z : Says N L r) → Told s (bitsHeard r) v x (sponsorsIn v) → has (Z .z .present) x ≡ true
     told-mark x Z t =
         sym (Z .bits (t .i) x (omega (arith, t .below, sponsors-is)) (sym (sponsored-is (suc (t .i))) ∙ t .it)) ∙ t .yes-bit
 
@@ -117,7 +117,7 @@ module _ (W : World) where
         let was : has (v .present) (sender n u) ≡ false = iv .marks-off u e ago (omega arith) p q in
         not-true (has (readMarks s r v) (sender n u)) (λ on. go ago was (on-before s r v (sender n u) (sender-range n n-pos u .0) (sender-most W u) ne on))
       where
-        go : u + e ≡ N → has (v .present) (sender n u) ≡ false → (has (v .present) (sender n u) ≡ true) ⊎ ((isHeard r ≡ true) × Told s (bitsIn r) v (sender n u) (sponsorsIn v)) → ⊥
+        go : u + e ≡ N → has (v .present) (sender n u) ≡ false → (has (v .present) (sender n u) ≡ true) ⊎ ((isHeard r ≡ true) × Told s (bitsHeard r) v (sender n u) (sponsorsIn v)) → ⊥
         go ago was (inl y) = no-both y was
         go ago was (inr t) =
             let Z = says (t .0) in
@@ -143,7 +143,7 @@ module _ (W : World) where
 
         heard-with : isHeard r ≡ true → (Z : Says N L r) → Sponsored W N L u → lst W (suc N) ≤ E (suc N) .failures + num (E u .missed s)
         heard-with p Z sp =
-            let nb : has (bitsIn r) (suc (sp .j)) ≡ false = not-true (has (bitsIn r) (suc (sp .j))) (λ b. off-before s r v (sender n u) (sender-range n n-pos u .0) (sender-most W u) ne off .1 p (record { i = sp .j; below = omega (arith, sp .few, sponsors-is); yes-bit = b; it = sponsored-is (suc (sp .j)) ∙ sp .it })) in
+            let nb : has (bitsHeard r) (suc (sp .j)) ≡ false = not-true (has (bitsHeard r) (suc (sp .j))) (λ b. off-before s r v (sender n u) (sender-range n n-pos u .0) (sender-most W u) ne off .1 p (record { i = sp .j; below = omega (arith, sp .few, sponsors-is); yes-bit = b; it = sponsored-is (suc (sp .j)) ∙ sp .it })) in
             let zo : has (Z .z .present) (sender n u) ≡ false = sym (Z .bits (sp .j) (sender n u) (sp .few) (sp .it)) ∙ nb in
             the-sender (Z .inv .marks-on u e ago (omega arith) sent on zo .who)
 

@@ -16,7 +16,7 @@ use Rattle.message.specs.declared.Reading.the-variants.{Heard, Refused}
 use Rattle.node_record.specs.declared.Node.{Node}
 use Rattle.node_record.specs.Sponsoring.{sponsorsIn, sponsoredIn}
 use Rattle.node_steps.specs.Steps.{isHeard, confirmed, readMarks}
-use Rattle.node_steps.specs.Digests.{bitsIn}
+use Rattle.node_steps.specs.Digests.{bitsHeard}
 
 pub no-both : {b : Bool} → b ≡ true → b ≡ false → ⊥
 no-both p q = true≢false (sym p ∙ q)
@@ -125,7 +125,7 @@ mark-of-sender s (Refused c) v h l = has-without (v .present) s
 
 -- another mark that is off was off, and was not confirmed
 pub off-before : (s : ℕ) (r : Reading) (v : Node) (x : ℕ) → 1 ≤ x → x ≤ 32 → s ≢ x → has (readMarks s r v) x ≡ false
-    → (has (v .present) x ≡ false) × (isHeard r ≡ true → Told s (bitsIn r) v x (sponsorsIn v) → ⊥)
+    → (has (v .present) x ≡ false) × (isHeard r ≡ true → Told s (bitsHeard r) v x (sponsorsIn v) → ⊥)
 off-before s (Heard bits returnBit) v x h l ne e = (
   not-true (has (v .present) x) (λ p. no-both (confirmed-keeps s bits v x h l (sponsorsIn v) (has-with-other (v .present) s x ne ∙ p)) e),
   λ _ t. no-both (confirmed-marks s bits v x h l (sponsorsIn v) t) e,
@@ -134,7 +134,7 @@ off-before s (Refused c) v x h l ne e = (sym (has-without-other (v .present) s x
 
 -- another mark that is on was on, or was confirmed
 pub on-before : (s : ℕ) (r : Reading) (v : Node) (x : ℕ) → 1 ≤ x → x ≤ 32 → s ≢ x → has (readMarks s r v) x ≡ true
-    → (has (v .present) x ≡ true) ⊎ ((isHeard r ≡ true) × Told s (bitsIn r) v x (sponsorsIn v))
+    → (has (v .present) x ≡ true) ⊎ ((isHeard r ≡ true) × Told s (bitsHeard r) v x (sponsorsIn v))
 on-before s (Heard bits returnBit) v x h l ne e = go (confirmed-only s bits v x h l (sponsorsIn v) e)
   where
     go : (has (with (v .present) s) x ≡ true) ⊎ Told s bits v x (sponsorsIn v) → (has (v .present) x ≡ true) ⊎ ((true ≡ true) × Told s bits v x (sponsorsIn v))

@@ -17,7 +17,7 @@ use Rattle.node_record.specs.Sponsoring.{decidedIn}
 use Rattle.node_record.proofs.Tracking.{tracks}
 use Rattle.node_changes.specs.Changes.{counted, withSet}
 use Rattle.node_steps.specs.Steps.{isHeard, noted, settle}
-use Rattle.node_steps.specs.Digests.{bitsIn}
+use Rattle.node_steps.specs.Digests.{bitsHeard}
 use Rattle.node_steps.specs.Inner.{readMarked, insideSlot, outsideSlot, slotByCases}
 use Rattle.node_steps.proofs.Cases.{slot-inside, slot-outside}
 use Rattle.node_hearing.specs.Hearing.{listeningBy}
@@ -98,7 +98,7 @@ module _ (W : World) where
   -- a listening node
   pub listening-after : (N L L′ i : ℕ) → n ≤ N → 1 ≤ i → K W (suc N) L′ → K′ W (suc N) → L′ < 2 ^ n → (v : Node) → NodeInv N L i v → isListening (v .state) ≡ true
       → (r : Reading) → isHeard r ≡ E (suc N) .sent → (i ≡ sender n (suc N) → isHeard r ≡ false)
-      → (E (suc N) .sent ≡ true → E (suc N) .listed ≡ false → bitsIn r ≡ 0)
+      → (E (suc N) .sent ≡ true → E (suc N) .listed ≡ false → bitsHeard r ≡ 0)
       → NodeInv (suc N) L′ i (listeningBy (sender n (suc N)) r (counted v))
   listening-after N L L′ i late i-pos κ κ′ small v nv li r hq own kb =
       go _ (listening-law W N i late (counted v) (counted-listening N i v (nv .listen li)) r hq own kb (nv .cable-is) i-pos L′ κ κ′ small)
@@ -211,7 +211,7 @@ module _ (W : World) where
   -- a slot outside the list
   module _ (N L : ℕ) (B : Begins W N L) (lT : E (suc N) .listed ≡ false) (offL : has L (sender n (suc N)) ≡ false)
       (i : ℕ) (i-pos : 1 ≤ i) (v : Node) (nv : NodeInv N L i v) (r : Reading) (h : HearsAny N i v r) (o : OwnSlot W N i v)
-      (knock-bits : E (suc N) .sent ≡ true → bitsIn r ≡ 0) where
+      (knock-bits : E (suc N) .sent ≡ true → bitsHeard r ≡ 0) where
     is-outside : (tr : tracks (v .state) ≡ true) → slotByCases (sender n (suc N)) r (counted v) ≡ outsideSlot (sender n (suc N)) r (counted v)
     is-outside tr = slot-outside (sender n (suc N)) r (counted v) (ap (λ (y : ℕ). has y (sender n (suc N))) (nv .track tr .set-is) ∙ offL)
 

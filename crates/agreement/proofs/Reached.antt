@@ -8,7 +8,7 @@ use Rattle.node_record.specs.declared.State.the-variants.{Member, Listening, Fo
 use Rattle.node_record.specs.States.{isMember, isListening, isFollowing, isOut}
 use Rattle.node_record.proofs.Tracking.{tracks}
 use Rattle.node_steps.specs.Steps.{isHeard}
-use Rattle.node_steps.specs.Digests.{bitsIn}
+use Rattle.node_steps.specs.Digests.{bitsHeard}
 use Rattle.bench.specs.Calls.{unheard}
 
 -- ---- what is heard: by whose slot it is, what is lost, who is named, who sends
@@ -34,7 +34,7 @@ hear-message false false true tr q e = absurd (false≢true e)
 hear-message false false false true q e = refl
 hear-message false false false false q e = absurd (false≢true e)
 
-pub unheard-bits : (r : Reading) → isHeard r ≡ false → bitsIn r ≡ 0
+pub unheard-bits : (r : Reading) → isHeard r ≡ false → bitsHeard r ≡ 0
 unheard-bits (reading.Heard bits bit) e = absurd (true≢false e)
 unheard-bits (reading.Refused c) e = refl
 

@@ -25,7 +25,7 @@ use Rattle.node_record.specs.Sponsoring.{sponsoredIn}
 use Rattle.node_record.proofs.Tracking.{tracks}
 use Rattle.node_changes.specs.Changes.{counted}
 use Rattle.node_steps.specs.Steps.{isHeard}
-use Rattle.node_steps.specs.Digests.{bitsIn}
+use Rattle.node_steps.specs.Digests.{bitsHeard}
 use Rattle.node_sending.specs.Sending.{sends, markBits, bitsSent, returnSent}
 use Rattle.node_sending.proofs.Laws.{has-markBits}
 use Rattle.node_slot.specs.Slot.{afterSlot}
@@ -164,9 +164,9 @@ module _ (W : World) where
         sent : transmits t ≡ true
         sent = parts (transmits t) (not lost) (not (has missed i)) (not (eqb s (recordOf t i .own))) (sym (heard-is i) ∙ e)
 
-    knock-bits : has L s ≡ false → (i : ℕ) → E (suc N) .sent ≡ true → bitsIn (hd i) ≡ 0
+    knock-bits : has L s ≡ false → (i : ℕ) → E (suc N) .sent ≡ true → bitsHeard (hd i) ≡ 0
     unfolding bitsSent
-    knock-bits offL i p = by-cases (isHeard (hd i)) (λ e. ap bitsIn (heard-message i e) ∙ none) (λ e. unheard-bits (hd i) e)
+    knock-bits offL i p = by-cases (isHeard (hd i)) (λ e. ap bitsHeard (heard-message i e) ∙ none) (λ e. unheard-bits (hd i) e)
       where
         none : bitsSent (recordOf t s) ≡ 0
         none = otherwise _ _ (not-true (isMember (recordOf t s .state)) (λ q. no-both (sender-inv (sent-sends p) .own-in q) offL))

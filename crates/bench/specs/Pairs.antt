@@ -51,9 +51,9 @@ changeCount before after = sum (λ x. num (isChanged before after x)) 1 (nodeCou
 abbrev pub Pair : Type 0
 Pair = ℕ × ℕ
 
-unfoldable pub bytesOf : List Pair → List ℕ
-bytesOf [] = []
-bytesOf (p ∷ ps) = p .0 ∷ p .1 ∷ bytesOf ps
+unfoldable pub pairBytes : List Pair → List ℕ
+pairBytes [] = []
+pairBytes (p ∷ ps) = p .0 ∷ p .1 ∷ pairBytes ps
 
 -- How often a pair stands among pairs.
 unfoldable pub times : Pair → List Pair → ℕ
@@ -70,7 +70,7 @@ pub record Reported (before after : Table) (out written : List ℕ) : Type 0 whe
   pub pairs : List Pair
   pub tells : Tells before after pairs
   pub number : length pairs ≡ changeCount before after
-  pub bytes : written ≡ bytesOf pairs ++ drop (2 * changeCount before after) out
+  pub bytes : written ≡ pairBytes pairs ++ drop (2 * changeCount before after) out
 
 -- "The number of pairs is returned": none are told of a slot that is refused.
 abbrev pub pairsTold : Table → Called → ℕ

@@ -31,7 +31,7 @@ use Rattle.bench_walks.specs.declared.Notes.{Notes}
 use Rattle.bench.specs.Table.{Table, recordOf, eachFrom, placedFrom, tableSound, slotsOf}
 use Rattle.bench.specs.Calls.{Called}
 use Rattle.bench.specs.Outcomes.{pairsOf, BytesAfter}
-use Rattle.bench.specs.Pairs.{sameState, kindFrom, isChanged, kindOf, changeCount, Pair, bytesOf, times, Tells, Reported, pairsTold, SlotBytes}
+use Rattle.bench.specs.Pairs.{sameState, kindFrom, isChanged, kindOf, changeCount, Pair, pairBytes, times, Tells, Reported, pairsTold, SlotBytes}
 use Rattle.bench_walks.specs.Survey.{foldFrom, surveyOf, fineTable}
 use Rattle.bench_walks.specs.Orders.{ifGood, fateBy, turnOf, orderFor, carried, pushed, withPair, noPairs, noticed, noNotes, noticedFrom, notesOf, pairsBy, bytesTold, puts, writtenBy}
 use Rattle.bench_calls.proofs.Surveys.{placed, fine-table, said}
@@ -98,7 +98,7 @@ told-part o m i (v ∷ t) = told-part o (noticed m v (carried o i v)) (suc i) t
 pub record Noted (p r : Pairs) (ps : List Pair) : Type 0 where
   pub count : r .count ≡ p .count + length ps
   pub size : length (r .bytes) ≡ 64
-  pub bytes : take (r .count * 2) (r .bytes) ≡ take (p .count * 2) (p .bytes) ++ bytesOf ps
+  pub bytes : take (r .count * 2) (r .bytes) ≡ take (p .count * 2) (p .bytes) ++ pairBytes ps
 
 double : (c : ℕ) → (c + 1) * 2 ≡ suc (suc (c * 2))
 double c = omega arith
@@ -113,7 +113,7 @@ push-size p x k h = length-set (set (p .bytes) (p .count * 2) x) (p .count * 2 +
 
 notes : (cable : Cable) (slots : ℕ) (o : Order) (p : Pairs) (i : ℕ) (t : Table) → placedFrom cable slots (suc i) t ≡ true → p .count ≤ i → i + length t ≤ 32 → length (p .bytes) ≡ 64
     → Noted p (notedFrom o p i t) (changesOf o i t)
-unfolding foldFrom withPair bytesOf
+unfolding foldFrom withPair pairBytes
 notes cable slots o p i [] e l m h = record { count = omega arith; size = h; bytes = sym (append-nil (take (p .count * 2) (p .bytes))) }
 notes cable slots o p i (v ∷ t) e l m h =
     let rest = placed cable slots (suc i) v t e .rest in
@@ -139,8 +139,8 @@ notes cable slots o p i (v ∷ t) e l m h =
     with-it later = record {
       count = let c = later .count in omega (arith, c);
       size = later .size;
-      bytes = later .bytes ∙ ap (λ (x : List ℕ). x ++ bytesOf (changesOf o (suc i) t)) (push-bytes p (v .own) (kind o i v) (omega (arith, l, m)) h)
-          ∙ append-assoc (take (p .count * 2) (p .bytes)) (v .own ∷ kind o i v ∷ []) (bytesOf (changesOf o (suc i) t));
+      bytes = later .bytes ∙ ap (λ (x : List ℕ). x ++ pairBytes (changesOf o (suc i) t)) (push-bytes p (v .own) (kind o i v) (omega (arith, l, m)) h)
+          ∙ append-assoc (take (p .count * 2) (p .bytes)) (v .own ∷ kind o i v ∷ []) (pairBytes (changesOf o (suc i) t));
     }
 
     changes : After → Goal false
@@ -314,7 +314,7 @@ done-told o t out (sound, room) =
         tells = told-once cable slots o t (s .rows);
         number = number;
         bytes = ap (λ (j : ℕ). puts (r .bytes) j out) end-is ∙ all-put (r .bytes) out (r .count * 2) (omega (arith, at-most, all-noted .size)) (omega (arith, at-most, room))
-            ∙ ap₂ _++_ (all-noted .bytes ∙ ap (λ (j : ℕ). take (j * 2) (noPairs .bytes) ++ bytesOf ps) no-pairs-count) (ap (λ (j : ℕ). drop j out) twice);
+            ∙ ap₂ _++_ (all-noted .bytes ∙ ap (λ (j : ℕ). take (j * 2) (noPairs .bytes) ++ pairBytes ps) no-pairs-count) (ap (λ (j : ℕ). drop j out) twice);
       },
     )
   where

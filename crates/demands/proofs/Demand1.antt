@@ -6,8 +6,6 @@ use mathlib.Core.List.{List, [], _∷_}
 use lib.Dec.{eqb, ltb, leb}
 use lib.ListN.{length}
 use borrow.Author.Tests.{leb-false}
-use Rattle.refusal.specs.declared.Refusal.{Refusal}
-use Rattle.refusal.specs.declared.Refusal.the-variants.{SponsorCount, MessageLength, SectionCount, SpareBit, OutputShort}
 use Rattle.refusal.specs.Causes.{cause}
 use Rattle.nodeset.specs.Sets.{within}
 use Rattle.nodeset.proofs.Tests.{by-cases}
@@ -20,7 +18,7 @@ use Rattle.ring.specs.Ring.{cableOf, ringSize, nodeNumber, sponsorCount, sponso
 use Rattle.message.specs.declared.Reading.{Reading}
 use Rattle.message.specs.declared.Reading.the-variants as reading
 use Rattle.message.specs.declared.Written.the-variants as written
-use Rattle.message.specs.Message.{Outcome, ifRead, ifWritten, inRange, lengthOf, partOne, partTwo, readOf, saidBy, sectionIn, writeOf}
+use Rattle.message.specs.Message.{Outcome, unread, ifRead, unwritten, ifWritten, inRange, lengthOf, partOne, partTwo, readOf, saidBy, sectionIn, writeOf}
 use Rattle.node_record.specs.Soundness.{sound, limit}
 use Rattle.node_record.specs.States.{isOut}
 use Rattle.node_record.specs.declared.Node.{Node}
@@ -46,13 +44,13 @@ either : {A : Type 0} (P : A → Type 0) (b : Bool) {x y : A} → P x → P y �
 either P true p q = p
 either P false p q = q
 
-either-read : (P : Reading → Type 0) (b : Bool) (cause : Refusal) {r : Reading} → P r → P (reading.Refused cause) → P (ifRead b cause r)
-either-read P true cause p q = p
-either-read P false cause p q = q
+either-read : (P : Reading → Type 0) (b : Bool) (number : ℕ) {r : Reading} → P r → P (unread number) → P (ifRead b number r)
+either-read P true number p q = p
+either-read P false number p q = q
 
-either-written : (P : Outcome → Type 0) (b : Bool) (cause : Refusal) {out : List ℕ} {o : Outcome} → P o → P (written.Refused cause, out) → P (ifWritten b cause out o)
-either-written P true cause p q = p
-either-written P false cause p q = q
+either-written : (P : Outcome → Type 0) (b : Bool) (number : ℕ) {out : List ℕ} {o : Outcome} → P o → P (unwritten number, out) → P (ifWritten b number out o)
+either-written P true number p q = p
+either-written P false number p q = q
 
 either-passed : (P : bench.Called → Type 0) (b : Bool) (number : ℕ) {t : Table} {c : bench.Called}
     → P c → P (record { table = t; answer = answer.Refused (cause number) }) → P (bench.ifPassed b number t c)
@@ -80,20 +78,20 @@ reads k bytes =
     let P : Reading → Type 0 = λ r. EndsBy (2 ∷ 6 ∷ 7 ∷ 8 ∷ []) (ofReading r) in
     let one = sectionIn k (partOne k bytes) in
     let two = sectionIn 1 (partTwo k bytes) in
-    either-read P (inRange k) SponsorCount
-    (either-read P (eqb (length bytes) (lengthOf k)) MessageLength
-    (either-read P (one .counted) SectionCount
-    (either-read P (two .counted) SectionCount
-    (either-read P (one .clear) SpareBit
-    (either-read P (two .clear) SpareBit tt refl) refl) refl) refl) refl) refl
+    either-read P (inRange k) 2
+    (either-read P (eqb (length bytes) (lengthOf k)) 6
+    (either-read P (one .counted) 7
+    (either-read P (two .counted) 7
+    (either-read P (one .clear) 8
+    (either-read P (two .clear) 8 tt refl) refl) refl) refl) refl) refl
 
 writes : (k a : ℕ) (b : Bool) (out : List ℕ) → WritesBy (2 ∷ 8 ∷ 9 ∷ []) out (writeOf k a b out)
 unfolding writeOf
 writes k a b out =
     let P = WritesBy (2 ∷ 8 ∷ 9 ∷ []) out in
-    either-written P (inRange k) SponsorCount
-    (either-written P (ltb a (2 ^ k)) SpareBit
-    (either-written P (leb (lengthOf k) (length out)) OutputShort (tt, tt) (refl, refl)) (refl, refl)) (refl, refl)
+    either-written P (inRange k) 2
+    (either-written P (ltb a (2 ^ k)) 8
+    (either-written P (leb (lengthOf k) (length out)) 9 (tt, tt) (refl, refl)) (refl, refl)) (refl, refl)
 
 -- ---- the node record
 
@@ -128,7 +126,7 @@ sends v out =
     (λ s. by-cases (leb limit (v .slots))
     (λ l. rw (s, l) (refl, refl))
     (λ l. by-cases (itsTurn v)
-    (λ i. rw (sent-or-short v out s (leb-false limit (v .slots) l) i) (either-written P (leb (lengthOf (v .cable .k)) (length out)) OutputShort (tt, tt) (refl, refl)))
+    (λ i. rw (sent-or-short v out s (leb-false limit (v .slots) l) i) (either-written P (leb (lengthOf (v .cable .k)) (length out)) 9 (tt, tt) (refl, refl)))
     (λ i. rw (s, l, i) (refl, refl))))
     (λ s. rw s (refl, refl))
 

@@ -8,7 +8,7 @@ use lib.Dec.{leb}
 use lib.ListN.{length, take, drop}
 use borrow.Author.Tests.{le-leb, lt-leb, lt-ltb}
 use Rattle.refusal.specs.declared.Refusal.{Refusal}
-use Rattle.refusal.specs.declared.Refusal.the-variants.{Unsound, SlotLimit, OutputShort, NotItsSlot}
+use Rattle.refusal.specs.declared.Refusal.the-variants.{Unsound, SlotLimit, NotItsSlot}
 use Rattle.nodeset.proofs.Tests.{all}
 use Rattle.ring.proofs.Ranges.{ring-size, sponsor-count}
 use Rattle.message.specs.declared.Reading.the-variants.{Heard}
@@ -48,7 +48,7 @@ sent-read v out n after e = read-back (v .cable .k) (bitsSent v) (returnSent v) 
 
 -- a node whose turn it is, below the limit, sends, or is lent too few bytes
 pub sent-or-short : (v : Node) (out : List ℕ) → sound v ≡ true → v .slots < limit → itsTurn v ≡ true
-    → sendOf v out ≡ ifWritten (leb (lengthOf (v .cable .k)) (length out)) OutputShort out (Bytes (lengthOf (v .cable .k)), messageOf (v .cable .k) (bitsSent v) (returnSent v) ++ drop (lengthOf (v .cable .k)) out)
+    → sendOf v out ≡ ifWritten (leb (lengthOf (v .cable .k)) (length out)) 9 out (Bytes (lengthOf (v .cable .k)), messageOf (v .cable .k) (bitsSent v) (returnSent v) ++ drop (lengthOf (v .cable .k)) out)
 unfolding sendOf writeOf
 sent-or-short v out e l t =
     let c = clauses v e in

@@ -2,17 +2,16 @@
 use Prim.Native.Nat.{ℕ}
 use mathlib.Core.Path.{_≡_, refl, sym, ap, _∙_}
 use mathlib.Core.Logic.{_≢_}
-use mathlib.Core.Bool.{true, false, cond}
 use lib.Dec.{eqb}
 use borrow.Author.Tests.{eqb-false}
-use Rattle.nodeset.proofs.Tests.{by-cases, chosen, otherwise}
+use Rattle.nodeset.proofs.Tests.{by-cases, otherwise}
 use Rattle.message.specs.declared.Reading.{Reading}
 use Rattle.message.specs.declared.Reading.the-variants as reading
 use Rattle.message.proofs.From.{FromOther}
 use Rattle.node_record.specs.declared.Node.{Node}
 use Rattle.node_record.specs.declared.State.{State}
 use Rattle.node_record.specs.declared.State.the-variants.{Member, Listening, Following, Knocking, Out}
-use Rattle.node_steps.specs.Steps.{isOwn, marksAfter, readMarks, hearsReturn, trackingSlot}
+use Rattle.node_steps.specs.Steps.{trackingSlot}
 use Rattle.node_steps.specs.Inner.{slotByCases}
 use Rattle.node_steps.proofs.Cases.{slot-by-cases, slot-ignores}
 use Rattle.node_hearing.specs.Hearing.{listeningSlot, listeningBy}

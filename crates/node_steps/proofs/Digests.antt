@@ -13,7 +13,7 @@ use Rattle.nodeset.proofs.Laws.{with-lt-32, union-with}
 use Rattle.ring.specs.declared.Cable.{Cable}
 use Rattle.ring.specs.declared.Found.{Found}
 use Rattle.ring.specs.declared.Found.the-variants as found
-use Rattle.ring.specs.Ring.{sponsors, sponsored, decided, memberIn}
+use Rattle.ring.specs.Ring.{sponsored, decided, memberIn}
 use Rattle.message.specs.declared.Reading.{Reading}
 use Rattle.message.specs.declared.Reading.the-variants as reading
 use Rattle.node_record.specs.declared.Node.{Node}
@@ -21,12 +21,12 @@ use Rattle.node_record.specs.declared.State.the-variants.{Knocking}
 use Rattle.node_record.specs.declared.Cause.the-variants.{Unconfirmed, MissedReturn}
 use Rattle.node_record.specs.States.{isFollowing}
 use Rattle.node_record.specs.Sponsoring.{sponsorsIn, decidedIn}
-use Rattle.node_changes.specs.Changes.{leave, withSet, withMarks, withReturning}
+use Rattle.node_changes.specs.Changes.{leave, withSet, withReturning}
 use Rattle.node_steps.specs.declared.Digest.{Digest}
 use Rattle.node_steps.specs.declared.Effect.{Effect}
 use Rattle.node_steps.specs.Steps.{isHeard, returnIn, confirmed, readMarks, noted, settle}
-use Rattle.node_steps.specs.Inner.{readMarked, judged, departs, departing, insideSlot, outsideSlot, slotByCases}
-use Rattle.node_steps.specs.Digests.{bitsIn, marksFor, marksSet, digestOf, marksBy, decidedBy, effectOf, notedBy, departingBy, trackingWith, trackingBy}
+use Rattle.node_steps.specs.Inner.{readMarked, judged, departs, insideSlot, outsideSlot, slotByCases}
+use Rattle.node_steps.specs.Digests.{bitsHeard, marksFor, marksSet, digestOf, marksBy, decidedBy, effectOf, notedBy, departingBy, trackingWith, trackingBy}
 
 -- ---- the marks that a message sets
 
@@ -69,18 +69,18 @@ module _ (s : ℕ) (heard : Reading) (v : Node) (set : ℕ) where
       (λ e. chosen _ _ e ∙ ap (λ (t : ℕ). memberIn (decided (v .cable) t s)) (eqb-true set (v .set) e))
       (λ e. otherwise _ _ e)
 
-  marks-are : marksBy (digestOf s heard (v .cable) set) s (bitsIn heard) v ≡ marksSet s (bitsIn heard) (v .cable) (v .set)
+  marks-are : marksBy (digestOf s heard (v .cable) set) s (bitsHeard heard) v ≡ marksSet s (bitsHeard heard) (v .cable) (v .set)
   unfolding digestOf
   marks-are =
       by-cases (eqb set (v .set))
-      (λ e. chosen _ _ e ∙ ap (marksSet s (bitsIn heard) (v .cable)) (eqb-true set (v .set) e))
+      (λ e. chosen _ _ e ∙ ap (marksSet s (bitsHeard heard) (v .cable)) (eqb-true set (v .set) e))
       (λ e. otherwise _ _ e)
 
   -- what is heard is the message of the digest, or nothing
   pub effect-is : (told : Reading) → (isHeard told ≡ true → told ≡ heard) → v .present < 2 ^ 32
       → effectOf (digestOf s heard (v .cable) set) s told v ≡ record { heard = isHeard told; marks = readMarks s told v; returned = returnIn told }
   effect-is (reading.Heard bits returnBit) h l =
-      let same : bits ≡ bitsIn heard = ap bitsIn (h refl) in
+      let same : bits ≡ bitsHeard heard = ap bitsHeard (h refl) in
       let marks : marksBy (digestOf s heard (v .cable) set) s bits v ≡ marksSet s bits (v .cable) (v .set)
       = ap (λ (b : ℕ). marksBy (digestOf s heard (v .cable) set) s b v) same ∙ marks-are ∙ ap (λ (b : ℕ). marksSet s b (v .cable) (v .set)) (sym same) in
       ap (λ (m : ℕ). record { heard = true; marks = m; returned = returnBit }) (ap (union (v .present)) marks ∙ sym (confirmed-union (sponsorsIn v) s bits v l))

@@ -3,7 +3,7 @@
 use Prim.Native.Nat.{ℕ, zero, suc, _^_, _≤_, _<_}
 use mathlib.Core.Path.{_≡_, refl, sym, ap, _∙_}
 use mathlib.Core.Logic.{_≢_}
-use mathlib.Core.Bool.{Bool, true, false, cond, not, _&&_, _||_, true≢false}
+use mathlib.Core.Bool.{Bool, true, false, not, _&&_, _||_, true≢false}
 use native.Mathlib.Omega.{arith}
 use native.Mathlib.Decide.{ℕ-discrete}
 use lib.Dec.{eqb, ltb}
@@ -14,7 +14,7 @@ use Rattle.nodeset.proofs.Laws.{has-with, has-with-other, has-without, has-with
 use Rattle.nodeset.proofs.Counts.{size-with}
 use Rattle.ring.specs.declared.Found.{Found}
 use Rattle.ring.specs.declared.Found.the-variants as found
-use Rattle.ring.specs.Ring.{nodeNumber, memberIn, sponsored}
+use Rattle.ring.specs.Ring.{nodeNumber, memberIn}
 use Rattle.ring.proofs.Ranges.{ring-size, node-number}
 use Rattle.ring.proofs.Members.{sponsored-member}
 use Rattle.message.specs.declared.Reading.{Reading}

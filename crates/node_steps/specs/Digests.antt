@@ -20,9 +20,9 @@ use Rattle.node_steps.specs.Steps.{settle}
 -- ---- the digest
 
 -- The acknowledgements heard.
-abbrev pub bitsIn : Reading → ℕ
-bitsIn (reading.Heard bits returnBit) = bits
-bitsIn (reading.Refused r) = 0
+abbrev pub bitsHeard : Reading → ℕ
+bitsHeard (reading.Heard bits returnBit) = bits
+bitsHeard (reading.Refused r) = 0
 
 -- The marks that a message of s sets: its own, and those of the first j of the members that it sponsors.
 unfoldable pub marksFor : ℕ → ℕ → ℕ → Cable → ℕ → ℕ
@@ -37,7 +37,7 @@ marksSet s bits cable set = marksFor (sponsors cable set) s bits cable set
 unfoldable pub digestOf : ℕ → Reading → Cable → ℕ → Digest
 digestOf s heard cable set = record {
   set = set;
-  marks = marksSet s (bitsIn heard) cable set;
+  marks = marksSet s (bitsHeard heard) cable set;
   decided = memberIn (decided cable set s);
 }
 

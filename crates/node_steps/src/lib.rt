@@ -15,7 +15,7 @@ ghost use lib.Dec.{eqb};
 ghost use Rattle.nodeset.specs.Sets.{has, with};
 ghost use Rattle.ring.specs.Ring.{memberIn, isFound};
 ghost use Rattle.node_steps.specs.Steps.{tooFew, nothingHeard, joins, stateOnList, joined, join, settle};
-ghost use Rattle.node_steps.specs.Digests.{bitsIn, marksSet, digestOf, marksBy, decidedBy, effectOf, markedBy, notedBy, takenBy, decidedWhere, isStruck, setAfter, trackingBy};
+ghost use Rattle.node_steps.specs.Digests.{bitsHeard, marksSet, digestOf, marksBy, decidedBy, effectOf, markedBy, notedBy, takenBy, decidedWhere, isStruck, setAfter, trackingBy};
 
 // What a slot means to all who hold one set: that set; the marks that the message sets, the sender's
 // and those of the members that it acknowledges; and the member that the sender decides, 0 for
@@ -37,8 +37,8 @@ struct Effect {
 // ---- The digest
 
 // The acknowledgements heard; none where nothing is.
-fn bits_in(heard: Reading) -> u32
-    ensures { λ r. ⌜ r ≡ bitsIn heard ⌝ }
+fn bits_heard(heard: Reading) -> u32
+    ensures { λ r. ⌜ r ≡ bitsHeard heard ⌝ }
 {
     match heard {
         Reading::Heard {
@@ -90,7 +90,7 @@ fn member_in(found: Found) -> u32
 pub fn digest_of(s: u32, heard: Reading, cable: Cable, set: u32) -> Digest
     ensures { λ r. ⌜ r ≡ digestOf s heard cable set ⌝ }
 {
-    let marks = marks_set(s, bits_in(heard), cable, set);
+    let marks = marks_set(s, bits_heard(heard), cable, set);
     let decided = member_in(ring::decided_member(cable, set, s));
     Digest {
         set,

@@ -4,7 +4,6 @@ use Prim.Native.Nat.{ℕ, _-_, _^_, _≤_, _<_}
 use mathlib.Core.Path.{_≡_, refl}
 use mathlib.Core.Bool.{Bool, true, false, cond, _&&_, and-eq-true-iff}
 use mathlib.Core.List.{List, [], _∷_}
-use native.Mathlib.Omega.{arith}
 use lib.Dec.{leb}
 use lib.ListN.{drop}
 use lib.Pow.{pow-pos}
@@ -21,7 +20,7 @@ use Rattle.plan_line.specs.declared.Opening.the-variants as opening
 use Rattle.plan_line.specs.declared.Line.{Line}
 use Rattle.plan_line.specs.declared.Line.the-variants as lines
 use Rattle.plan_line.specs.Words.{after, before, begins, isNumber, same, valueOf, wordsOf}
-use Rattle.plan_line.specs.Plan.{allInRing, allNumbers, ifNamed, ifOpened, ifRead, inRing, lostWord, missWord, missingOf, namedOf, numbersOf, offLine, offWord, okWord, onLine, onWord, openingOf, lineOf, ringOf, risingFrom, shortEnough, valuesOf, withAll, wordOf}
+use Rattle.plan_line.specs.Plan.{allInRing, allNumbers, ifNamed, ifOpened, ifSaid, inRing, lostWord, missWord, missingOf, namedOf, numbersOf, offLine, offWord, okWord, onLine, onWord, openingOf, lineOf, ringOf, risingFrom, shortEnough, valuesOf, withAll, wordOf}
 
 -- ---- line one
 
@@ -89,7 +88,7 @@ on-in : (n : ℕ) (f : Named) → NamedIn n f → NodesIn n (onLine f)
 on-in n (named.Node a) h = h
 on-in n (named.Refused cause) h = tt
 
-if-read : (n : ℕ) (b : Bool) (cause : Refusal) (o : Line) → (b ≡ true → NodesIn n o) → NodesIn n (ifRead b cause o)
+if-read : (n : ℕ) (b : Bool) (cause : Refusal) (o : Line) → (b ≡ true → NodesIn n o) → NodesIn n (ifSaid b cause o)
 if-read n true cause o h = h refl
 if-read n false cause o h = tt
 
@@ -103,7 +102,7 @@ all-below n set (a ∷ values) h e =
 missing-in : (n : ℕ) (text : List ℕ) → NodesIn n (missingOf n text)
 unfolding missingOf
 missing-in n text =
-    if-read n (allNumbers (wordsOf text) && risingFrom 0 values) PlanLine (ifRead (allInRing n values) NodeNumber (lines.Miss (withAll 0 values))) (λ _.
+    if-read n (allNumbers (wordsOf text) && risingFrom 0 values) PlanLine (ifSaid (allInRing n values) NodeNumber (lines.Miss (withAll 0 values))) (λ _.
     if-read n (allInRing n values) NodeNumber (lines.Miss (withAll 0 values)) (all-below n 0 values (pow-pos n)))
   where
     values : List ℕ

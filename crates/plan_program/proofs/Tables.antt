@@ -3,18 +3,10 @@ use Prim.Native.Nat.{ℕ, _-_}
 use mathlib.Core.Path.{_≡_, refl, sym, ap, _∙_}
 use mathlib.Core.Bool.{Bool, true, false, cond}
 use mathlib.Core.List.{List, [], _∷_, _++_}
-use native.Mathlib.Omega.{arith}
 use lib.Dec.{eqb}
-use lib.ListN.{length, length-replicate, length-take}
-use Rattle.nodeset.proofs.Tests.{by-cases}
-use Rattle.node.specs.Calls.{noNode}
-use Rattle.node.specs.declared.Answer.{Answer}
-use Rattle.node.specs.declared.Answer.the-variants.{Done, Refused}
+use Rattle.node.specs.declared.Answer.the-variants.{Refused}
 use Rattle.bench.specs.Table.{Table}
-use Rattle.bench.specs.declared.Command.the-variants.{Slot}
-use Rattle.bench.specs.Calls.{offOf, restartOf, setUpOf, slotOf}
-use Rattle.bench.specs.Outcomes.{endedOf, quietOutcome, slotOutcome}
-use Rattle.bench.specs.Runs.{Call, slot, isDone, isSlot, tableAfter}
+use Rattle.bench.specs.Runs.{Call, tableAfter}
 use Rattle.bench_by_value.specs.ByValue as by-value
 use Rattle.bench_by_value.specs.ByValue.{tableOf}
 use Rattle.plan_line.specs.declared.Opening.{Opening}
@@ -23,12 +15,12 @@ use Rattle.plan_line.specs.declared.Line.{Line}
 use Rattle.plan_line.specs.declared.Line.the-variants as lines
 use Rattle.plan_line.specs.Plan.{lineOf}
 use Rattle.plan_line.proofs.Ranges.{RingIn, opened}
-use Rattle.plan_run.specs.Run.{actOf, noRows, openedBy, ranBy}
+use Rattle.plan_run.specs.Run.{openedBy}
 use Rattle.plan_program.specs.declared.Plan.{Plan}
 use Rattle.plan_program.specs.Program.{afterLine, counted, lineText, noPlan, planOpened, runOf}
 use Rattle.plan_program.specs.Calls.{planSound}
 use Rattle.plan_program.specs.Tables.{afterLines, callsIn, callsOf, madeBy, startOf, textsOf, whole, Opens, SameTables}
-use Rattle.plan_program.proofs.Sound.{counted-some, first-line, later-line, opened-table, over-line, ran-line, sound-line}
+use Rattle.plan_program.proofs.Sound.{counted-some, first-line, later-line, opened-table, sound-line}
 
 -- ---- the text of a run is that of its lines
 

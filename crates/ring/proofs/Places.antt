@@ -10,12 +10,11 @@ use Rattle.nodeset.specs.Sums.{num}
 use Rattle.nodeset.specs.Sets.{has}
 use Rattle.nodeset.proofs.Tests.{by-cases, both}
 use Rattle.ring.specs.declared.Cable.{Cable}
-use Rattle.ring.specs.declared.Found.{Found}
 use Rattle.ring.specs.declared.Found.the-variants.{Member}
 use Rattle.ring.specs.declared.Place.{Place}
 use Rattle.ring.specs.Ring.{previous, walk, memberBefore, sponsors, sponsored, memberIn}
 use Rattle.ring.specs.Places.{startAt, reach, nearestOf, foundAs}
-use Rattle.ring.proofs.Walks.{walk-nobody, walk-past, walk-here, walk-on}
+use Rattle.ring.proofs.Walks.{walk-past, walk-on}
 use Rattle.ring.proofs.Members.{sponsored-before}
 
 -- ---- one slot of the walk, by what stands there

@@ -9,10 +9,9 @@ use borrow.Author.Needs.{needs}
 use Rattle.nodeset.specs.Sets.{has, with}
 use Rattle.ring.specs.declared.Place.{Place}
 use Rattle.ring.specs.Ring.{memberIn}
-use Rattle.ring.specs.Places.{nearestOf}
 use Rattle.ring.proofs.Places.{After, at-start, one-on, next-sponsored}
 use Rattle.node_record.specs.declared.Node.{Node}
-use Rattle.node_record.specs.Sponsoring.{sponsorsIn, sponsoredIn}
+use Rattle.node_record.specs.Sponsoring.{sponsoredIn}
 use Rattle.node_sending.specs.Sending.{markBits}
 use Rattle.node_sending.proofs.mark_bits.Statement.{statement}
 use Rattle.node_sending.proofs.mark_bits.Tie as tie

@@ -7,8 +7,8 @@ use Rattle.node_steps.specs.Digests.{marksSet, digestOf}
 use Rattle.node_steps.proofs.digest_of.Statement.{statement}
 use Rattle.node_steps.proofs.digest_of.Tie as tie
 
-bits-in-requires : tie.Need-bits-in-requires
-bits-in-requires c κs = search needs
+bits-heard-requires : tie.Need-bits-heard-requires
+bits-heard-requires c κs = search needs
 
 marks-set-requires : tie.Need-marks-set-requires
 marks-set-requires c κs = search needs
@@ -23,7 +23,7 @@ returns : tie.Need-returns
 unfolding digestOf
 returns c =
     let a = c .before .before .before .before .args in
-    let marks = c .before .before .marks-set .ensures ∙ ap (λ (b : ℕ). marksSet (a .s) b (a .cable) (a .set)) (c .before .before .before .bits-in .ensures) in
+    let marks = c .before .before .marks-set .ensures ∙ ap (λ (b : ℕ). marksSet (a .s) b (a .cable) (a .set)) (c .before .before .before .bits-heard .ensures) in
     let m = c .member-in .ensures ∙ ap memberIn (c .before .decided-member .ensures) in
     ap₂ (λ (x y : ℕ). record { set = a .set; marks = x; decided = y }) marks m
 
@@ -31,7 +31,7 @@ pub digest-of-spec : {M : Type 1} → statement M
 digest-of-spec =
     tie.close
     (tie.spec
-    bits-in-requires
+    bits-heard-requires
     marks-set-requires
     decided-member-requires
     member-in-requires

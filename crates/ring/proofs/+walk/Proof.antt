@@ -1,6 +1,6 @@
 -- `ring::walk` meets its contract. The slots left are the measure. Assumes nothing.
 use Prim.Native.Nat.{ℕ, suc, _-_, _<_}
-use mathlib.Core.Path.{_≡_, refl, sym, ap, _∙_}
+use mathlib.Core.Path.{_≡_, sym, ap, _∙_}
 use mathlib.Core.Bool.{Bool, true, false, _&&_}
 use native.Mathlib.Omega.{arith}
 use lib.Dec.{eqb}
@@ -8,7 +8,6 @@ use borrow.Fn.Kinds.{In}
 use borrow.Fn.PlainCycle.{Measures, is, falls, and}
 use Rattle.nodeset.specs.Sums.{num}
 use Rattle.nodeset.specs.Sets.{has}
-use Rattle.ring.specs.declared.Place.{Place}
 use Rattle.ring.specs.Ring.{previous}
 use Rattle.ring.specs.Places.{reach}
 use Rattle.ring.proofs.walk.Reads as walk

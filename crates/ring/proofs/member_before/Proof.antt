@@ -1,5 +1,4 @@
 -- `ring::member_before` meets its contract: the node of the place that the walk reaches says what it finds. Assumes nothing.
-use Prim.Native.Nat.{ℕ}
 use mathlib.Core.Path.{ap, _∙_}
 use borrow.Author.Needs.{needs}
 use Rattle.ring.specs.declared.Place.{Place}

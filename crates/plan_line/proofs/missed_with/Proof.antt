@@ -1,12 +1,12 @@
--- `plan_line::joined` meets its contract.
+-- `plan_line::missed_with` meets its contract.
 -- Assumes nothing.
 use mathlib.Core.Path.{_≡_, sym, ap, _∙_}
 use mathlib.Core.Bool.{Bool, _&&_}
 use mathlib.Core.Logic.{⊎-elim}
 use Rattle.plan_line.specs.Plan.{inRing}
 use borrow.Author.Needs.{needs}
-use Rattle.plan_line.proofs.joined.Statement.{statement}
-use Rattle.plan_line.proofs.joined.Tie as tie
+use Rattle.plan_line.proofs.missed_with.Statement.{statement}
+use Rattle.plan_line.proofs.missed_with.Tie as tie
 
 in-ring-requires : tie.Need-in-ring-requires
 in-ring-requires c κs = search needs
@@ -25,5 +25,5 @@ returns c =
     (c .before .if1 .came) in
     cc (both, c .with .ensures)
 
-pub joined-spec : {M : Type 1} → statement M
-joined-spec = tie.close (tie.spec in-ring-requires with-requires returns)
+pub missed-with-spec : {M : Type 1} → statement M
+missed-with-spec = tie.close (tie.spec in-ring-requires with-requires returns)
