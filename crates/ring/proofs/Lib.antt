@@ -5,3 +5,4 @@ pub mod Speakers
 pub mod Walks
 pub mod Members
 pub mod Places
+pub mod Tested

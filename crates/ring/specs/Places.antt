@@ -4,10 +4,21 @@ use mathlib.Core.Bool.{cond, _&&_}
 use lib.Dec.{eqb}
 use Rattle.nodeset.specs.Sums.{num}
 use Rattle.nodeset.specs.Sets.{has}
+use Rattle.refusal.specs.declared.Refusal.the-variants.{RingSize, SponsorCount, NodeNumber}
+use Rattle.ring.specs.declared.Cable.{Cable}
+use Rattle.ring.specs.declared.Tests.{Tests}
+use Rattle.ring.specs.declared.Tests.the-variants.{Passed, Refused}
 use Rattle.ring.specs.declared.Found.{Found}
 use Rattle.ring.specs.declared.Found.the-variants.{Member, Nobody}
 use Rattle.ring.specs.declared.Place.{Place}
-use Rattle.ring.specs.Ring.{previous}
+use Rattle.ring.specs.Ring.{ringSize, sponsorCount, nodeNumber, previous}
+
+-- The tests before a walk, 1, 2 and 3: it is not begun where one fails.
+abbrev pub testsOf : Cable → ℕ → Tests
+testsOf cable x =
+    cond (ringSize (cable .n))
+    (cond (sponsorCount cable) (cond (nodeNumber (cable .n) x) Passed (Refused NodeNumber)) (Refused SponsorCount))
+    (Refused RingSize)
 
 -- Where the walk begins: at node x, with a round's other slots to go.
 abbrev pub startAt : ℕ → ℕ → Place

@@ -5,8 +5,8 @@ ghost use mathlib.Core.Path.{_≡_};
 ghost use Prim.Native.Nat.{_+_, _-_};
 ghost use Rattle.nodeset.specs.Sums.{num};
 ghost use Rattle.ring.specs.Ring.{sameCable, ringSize, nodeNumber, sponsorCount, ks, previous, memberBefore, sponsors, sponsored, decided};
-ghost use Rattle.ring.specs.Answers.{senderOf, beforeOf, onCable, sponsoredOf, decidedOf};
-ghost use Rattle.ring.specs.Places.{startAt, reach, nearestOf, foundAs};
+ghost use Rattle.ring.specs.Answers.{senderOf, beforeOf, sponsoredOf, decidedOf};
+ghost use Rattle.ring.specs.Places.{testsOf, startAt, reach, nearestOf, foundAs};
 
 // What set-up chooses for the whole cable: how many nodes are on it, and how many others a member
 // sponsors at the most.
@@ -30,6 +30,12 @@ pub enum Found {
 // What a call that looks for a member answers.
 pub enum Lookup {
     Found(Found),
+    Refused(Refusal),
+}
+
+// What comes of tests before a walk.
+enum Tests {
+    Passed,
     Refused(Refusal),
 }
 
@@ -212,32 +218,46 @@ pub fn before(n: u32, set: u32, x: u32, j: u32) -> Lookup
     Lookup::Found(found)
 }
 
-// What is found on a cable, where it and node x pass the tests: 1, 2 and 3.
-fn on_cable(cable: Cable, x: u32, found: Found) -> Lookup
-    ensures { λ r. ⌜ r ≡ onCable cable x found ⌝ }
+// Whether a cable and node x pass the tests: 1, 2 and 3.
+fn tests_of(cable: Cable, x: u32) -> Tests
+    ensures { λ r. ⌜ r ≡ testsOf cable x ⌝ }
 {
     if !is_ring_size(cable.n) {
-        return Lookup::Refused(Refusal::RingSize);
+        return Tests::Refused(Refusal::RingSize);
     }
     if !is_sponsor_count(cable) {
-        return Lookup::Refused(Refusal::SponsorCount);
+        return Tests::Refused(Refusal::SponsorCount);
     }
     if !is_node_number(cable.n, x) {
-        return Lookup::Refused(Refusal::NodeNumber);
+        return Tests::Refused(Refusal::NodeNumber);
     }
-    Lookup::Found(found)
+    Tests::Passed
 }
 
 // The j-th member that node x sponsors, the nearest first. Refuses by 1, 2 and 3.
 pub fn sponsored(cable: Cable, set: u32, x: u32, j: u32) -> Lookup
     ensures { λ r. ⌜ r ≡ sponsoredOf cable set x j ⌝ }
 {
-    on_cable(cable, x, sponsored_member(cable, set, x, j))
+    let tests = tests_of(cable, x);
+    match tests {
+        Tests::Passed => {
+            let found = sponsored_member(cable, set, x, j);
+            Lookup::Found(found)
+        }
+        Tests::Refused(cause) => Lookup::Refused(cause),
+    }
 }
 
 // The member that node x decides. Refuses by 1, 2 and 3.
 pub fn decided(cable: Cable, set: u32, x: u32) -> Lookup
     ensures { λ r. ⌜ r ≡ decidedOf cable set x ⌝ }
 {
-    on_cable(cable, x, decided_member(cable, set, x))
+    let tests = tests_of(cable, x);
+    match tests {
+        Tests::Passed => {
+            let found = decided_member(cable, set, x);
+            Lookup::Found(found)
+        }
+        Tests::Refused(cause) => Lookup::Refused(cause),
+    }
 }

@@ -1,8 +1,8 @@
--- `ring::on_cable` meets its contract: the tests in the table's order. Assumes nothing.
+-- `ring::tests_of` meets its contract: the tests in the table's order. Assumes nothing.
 use borrow.Author.Needs.{needs}
 use Rattle.nodeset.proofs.Tests.{failed, passed}
-use Rattle.ring.proofs.on_cable.Statement.{statement}
-use Rattle.ring.proofs.on_cable.Tie as tie
+use Rattle.ring.proofs.tests_of.Statement.{statement}
+use Rattle.ring.proofs.tests_of.Tie as tie
 
 is-ring-size-requires : tie.Need-is-ring-size-requires
 is-ring-size-requires c κs = search needs
@@ -36,8 +36,8 @@ returns-4 c =
       passed (c .before .is-node-number .ensures) (c .if3 .left),
     )
 
-pub on-cable-spec : {M : Type 1} → statement M
-on-cable-spec =
+pub tests-of-spec : {M : Type 1} → statement M
+tests-of-spec =
     tie.close
     (tie.spec
     is-ring-size-requires
