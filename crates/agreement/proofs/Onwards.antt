@@ -2,14 +2,14 @@
 use Prim.Native.Nat.{ℕ, zero, suc, _+_, _-_, _≤_}
 use mathlib.Core.Path.{_≡_, sym, ap, _∙_}
 use mathlib.Core.Logic.{_≢_, _⊎_, inl, inr}
-use mathlib.Core.Bool.{true, false, cond}
+use mathlib.Core.Bool.{Bool, true, false, cond, _&&_}
 use native.Mathlib.Omega.{arith}
 use lib.Dec.{eqb}
 use borrow.Author.Tests.{eqb-true, eqb-false, eq-eqb, ne-eqb}
 use Rattle.nodeset.specs.Sums.{sum, num}
 use Rattle.nodeset.specs.Sets.{has}
-use Rattle.nodeset.proofs.Tests.{by-cases, chosen, otherwise}
-use Rattle.nodeset.proofs.Sums.{sum-none, sum-first, num-le, num-true}
+use Rattle.nodeset.proofs.Tests.{both, by-cases, chosen, otherwise}
+use Rattle.nodeset.proofs.Sums.{sum-none, sum-first}
 use Rattle.ring.specs.declared.Found.the-variants.{Member}
 use Rattle.ring.specs.Ring.{sender}
 use Rattle.ring.proofs.Senders.{sender-range, sender-add}
@@ -42,35 +42,47 @@ module _ (n : ℕ) (pos : 1 ≤ n) (set : ℕ) where
     pub count : sum (member n pos set) (suc a) e ≡ j
     pub found : onwards left n set (sender n a) j ≡ Member (sender n (a + e))
 
+  -- the j-th member is met in slot q
+  abbrev met : ℕ → ℕ → Bool
+  met q j = has set (sender n q) && eqb j 1
+
   -- one slot of the walk
-  one-on : (l a j : ℕ) → 1 ≤ a → onwards (suc l) n set (sender n a) j ≡ cond (eqb (j - m (suc a)) 0) (Member (sender n (suc a))) (onwards l n set (sender n (suc a)) (j - m (suc a)))
+  one-on : (l a j : ℕ) → 1 ≤ a → onwards (suc l) n set (sender n a) j ≡ cond (met (suc a) j) (Member (sender n (suc a))) (onwards l n set (sender n (suc a)) (j - m (suc a)))
   unfolding onwards
   one-on l a j h =
-      ap (λ (y : ℕ). cond (eqb (j - num (has set y)) 0) (Member y) (onwards l n set y (j - num (has set y)))) (next-sender n pos a h)
+      ap (λ (y : ℕ). cond (has set y && eqb j 1) (Member y) (onwards l n set y (j - num (has set y)))) (next-sender n pos a h)
 
-  here : (l a j : ℕ) → 1 ≤ a → 1 ≤ j → eqb (j - m (suc a)) 0 ≡ true → Ahead (suc l) a j
-  here l a j ha hj t =
-      let le : j - m (suc a) ≡ 0 = eqb-true (j - m (suc a)) 0 t in
+  here : (l a j : ℕ) → 1 ≤ a → met (suc a) j ≡ true → Ahead (suc l) a j
+  here l a j ha t =
+      let on = both (has set (sender n (suc a))) (eqb j 1) t in
+      let one : m (suc a) ≡ 1 = ap num (on .0) in
       let z : suc a ≡ a + 1 = omega arith in
       record {
         e = 1;
         on = omega arith;
         within = omega arith;
-        listed = ap (λ (q : ℕ). has set (sender n q)) (sym z) ∙ num-true (has set (sender n (suc a))) (omega arith);
-        count = omega (arith, sum-first m (suc a) 0, sum-none m (suc (suc a)), num-le (has set (sender n (suc a))));
+        listed = ap (λ (q : ℕ). has set (sender n q)) (sym z) ∙ on .0;
+        count = omega (arith, sum-first m (suc a) 0, sum-none m (suc (suc a)), one, eqb-true j 1 (on .1));
         found = one-on l a j ha ∙ chosen _ _ t ∙ ap (λ (q : ℕ). Member (sender n q)) z;
       }
 
-  there : (l a j : ℕ) → 1 ≤ a → eqb (j - m (suc a)) 0 ≡ false → Ahead l (suc a) (j - m (suc a)) → Ahead (suc l) a j
-  there l a j ha t r =
+  -- where it is not met there are more to come
+  more : (q j : ℕ) → 1 ≤ j → met q j ≡ false → m q + 1 ≤ j
+  more q j h t = go (has set (sender n q)) t
+    where
+      go : (b : Bool) → (b && eqb j 1) ≡ false → num b + 1 ≤ j
+      go true f = let ne : j ≢ 1 = eqb-false j 1 f in omega arith
+      go false f = omega arith
+
+  there : (l a j : ℕ) → 1 ≤ a → 1 ≤ j → met (suc a) j ≡ false → Ahead l (suc a) (j - m (suc a)) → Ahead (suc l) a j
+  there l a j ha hj t r =
       let z : suc a + r .e ≡ a + suc (r .e) = omega arith in
-      let ne : j - m (suc a) ≢ 0 = eqb-false (j - m (suc a)) 0 t in
       record {
         e = suc (r .e);
         on = omega arith;
         within = omega (arith, r .within);
         listed = ap (λ (q : ℕ). has set (sender n q)) (sym z) ∙ r .listed;
-        count = omega (arith, r .count, sum-first m (suc a) (r .e));
+        count = omega (arith, r .count, sum-first m (suc a) (r .e), more (suc a) j hj t);
         found = one-on l a j ha ∙ otherwise _ _ t ∙ r .found ∙ ap (λ (q : ℕ). Member (sender n q)) z;
       }
 
@@ -78,8 +90,8 @@ module _ (n : ℕ) (pos : 1 ≤ n) (set : ℕ) where
   pub onwards-meets : (left a j : ℕ) → 1 ≤ a → 1 ≤ j → j ≤ sum (member n pos set) (suc a) left → Ahead left a j
   onwards-meets zero a j ha hj h = let z : ⊥ = omega (arith, sum-none m (suc a)) in absurd z
   onwards-meets (suc l) a j ha hj h =
-      by-cases (eqb (j - m (suc a)) 0)
-      (λ t. here l a j ha hj t)
+      by-cases (met (suc a) j)
+      (λ t. here l a j ha t)
       (λ t.
-      there l a j ha t
-      (onwards-meets l (suc a) (j - m (suc a)) (omega arith) (omega (arith, eqb-false (j - m (suc a)) 0 t)) (omega (arith, sum-first m (suc a) l))))
+      there l a j ha hj t
+      (onwards-meets l (suc a) (j - m (suc a)) (omega arith) (omega (arith, more (suc a) j hj t)) (omega (arith, sum-first m (suc a) l))))

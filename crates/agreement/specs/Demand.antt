@@ -51,8 +51,7 @@ unfoldable pub onwards : ℕ → ℕ → ℕ → ℕ → ℕ → Found
 onwards zero n set x j = Nobody
 onwards (suc left) n set x j =
     let p = next n x in
-    let more = j - num (has set p) in
-    cond (eqb more 0) (Member p) (onwards left n set p more)
+    cond (has set p && eqb j 1) (Member p) (onwards left n set p (j - num (has set p)))
 
 -- "The k-th member after that node, round the ring". (With k + 1 members it is another node.)
 abbrev pub memberAfter : ℕ → ℕ → ℕ → ℕ → Found

@@ -20,7 +20,7 @@ pub enum Listed {
     Nobody,
 }
 
-// What comes of a message: nothing is sent, it is lost, or it is heard, a knock or another.
+// What comes of a message: nothing is sent, it is lost, or it is sent, a knock or another.
 pub enum Fate {
     Silent,
     Lost,

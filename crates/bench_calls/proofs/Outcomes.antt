@@ -1,4 +1,4 @@
--- What each call leaves and answers (bench's specs/Outcomes) is what its order leaves and what is withPair of it (bench_walks' specs/Orders). Of a slot and of a look: what was withPair is the list of the
+-- What each call leaves and answers (bench's specs/Outcomes) is what its order leaves and what is noted of it (bench_walks' specs/Orders). Of a slot and of a look: what was noted is the list of the
 -- table afterwards, and where all members hold that list the greatest distance is 0, so that only other tables are looked through for it. Assumes nothing.
 use Prim.Native.Nat.{ℕ, suc, _+_, _≤_, max, min}
 use mathlib.Core.Path.{_≡_, refl, sym, ap, ap₂, subst, _∙_}
@@ -49,7 +49,7 @@ use Rattle.bench_calls.proofs.Works.{calledBy, slot-table, look-table, 
 use Rattle.bench_calls.proofs.Readings.{of-sound}
 use Rattle.bench_calls.proofs.Reports.{pairs-told, bytes-told}
 
--- ---- the list that is withPair
+-- ---- the list that is noted
 
 abbrev list-after : Listed → Table → Listed
 list-after l [] = l
@@ -67,20 +67,20 @@ list-found (v ∷ t) =
     (λ e. ap (λ (l : Listed). list-after l t) (chosen (listed.Set (v .set)) listed.Nobody e) ∙ list-stays (v .set) t ∙ sym (chosen (listed.Set (v .set)) (listIn t) e))
     (λ e. ap (λ (l : Listed). list-after l t) (otherwise (listed.Set (v .set)) listed.Nobody e) ∙ list-found t ∙ sym (otherwise (listed.Set (v .set)) (listIn t) e))
 
-abbrev sightFrom : Lists → Table → Lists
-sightFrom s [] = s
-sightFrom s (v ∷ t) = sightFrom (listsWith s v) t
+abbrev listsFrom : Lists → Table → Lists
+listsFrom s [] = s
+listsFrom s (v ∷ t) = listsFrom (listsWith s v) t
 
 -- the notes' part of it, over the records after the order
-sight-part : (o : Order) (m : Notes) (i : ℕ) (t : Table) → noticedFrom o m i t .lists ≡ sightFrom (m .lists) (eachFrom (carried o) i t)
+lists-part : (o : Order) (m : Notes) (i : ℕ) (t : Table) → noticedFrom o m i t .lists ≡ listsFrom (m .lists) (eachFrom (carried o) i t)
 unfolding foldFrom noticed eachFrom
-sight-part o m i [] = refl
-sight-part o m i (v ∷ t) = sight-part o (noticed m v (carried o i v)) (suc i) t
+lists-part o m i [] = refl
+lists-part o m i (v ∷ t) = lists-part o (noticed m v (carried o i v)) (suc i) t
 
-sight-list : (s : Lists) (t : Table) → sightFrom s t .list ≡ list-after (s .list) t
+lists-list : (s : Lists) (t : Table) → listsFrom s t .list ≡ list-after (s .list) t
 unfolding listsWith
-sight-list s [] = refl
-sight-list s (v ∷ t) = sight-list (listsWith s v) t
+lists-list s [] = refl
+lists-list s (v ∷ t) = lists-list (listsWith s v) t
 
 -- ---- whether all members hold it
 
@@ -88,7 +88,7 @@ abbrev holds : ℕ → Table → Bool
 holds x [] = true
 holds x (v ∷ t) = sameWith (listed.Set x) v && holds x t
 
-same-held : (b : Bool) (x : ℕ) (t : Table) → sightFrom (record { list = listed.Set x; same = b }) t .same ≡ (b && holds x t)
+same-held : (b : Bool) (x : ℕ) (t : Table) → listsFrom (record { list = listed.Set x; same = b }) t .same ≡ (b && holds x t)
 unfolding listsWith
 same-held b x [] = sym (and-comm b true)
 same-held b x (v ∷ t) = same-held (b && sameWith (listed.Set x) v) x t ∙ and-assoc b (sameWith (listed.Set x) v) (holds x t)
@@ -119,12 +119,12 @@ held-greatest n x (v ∷ t) e =
     go true e far = ap (λ (y : ℕ). farthest n y t) (sym (eqb-true x (v .set) e)) ∙ far
     go false e far = refl
 
-same-none : (n : ℕ) (t : Table) → sightFrom noLists t .same ≡ true → greatest n t ≡ 0
+same-none : (n : ℕ) (t : Table) → listsFrom noLists t .same ≡ true → greatest n t ≡ 0
 unfolding greatest listsWith
 same-none n [] e = refl
 same-none n (v ∷ t) e = go (isMember (v .state)) (same-none n t) e
   where
-    go : (b : Bool) → (sightFrom noLists t .same ≡ true → greatest n t ≡ 0) → sightFrom (record { list = cond b (listed.Set (v .set)) listed.Nobody; same = true }) t .same ≡ true → max (cond b (farthest n (v .set) t) 0) (greatest n t) ≡ 0
+    go : (b : Bool) → (listsFrom noLists t .same ≡ true → greatest n t ≡ 0) → listsFrom (record { list = cond b (listed.Set (v .set)) listed.Nobody; same = true }) t .same ≡ true → max (cond b (farthest n (v .set) t) 0) (greatest n t) ≡ 0
     go true ih e = let h = sym (same-held true (v .set) t) ∙ e in ap₂ max (held-far n (v .set) t h) (held-greatest n (v .set) t h)
     go false ih e = ap (max 0) (ih e)
 
@@ -150,12 +150,12 @@ reached true u ok h = no-members u ∙ sym (h refl)
 reached false u ok h = ap (λ (w : Table). membersOf w .greatest) (all-taken u ok) ∙ of-sound u ok
 
 module _ (o : Order) (t : Table) where
-  seen-is : notesOf o t .lists ≡ sightFrom noLists (carriedFrom o 0 t)
+  seen-is : notesOf o t .lists ≡ listsFrom noLists (carriedFrom o 0 t)
   unfolding notesOf noNotes
-  seen-is = sight-part o noNotes 0 t
+  seen-is = lists-part o noNotes 0 t
 
   list-is : notesOf o t .lists .list ≡ listIn (carriedFrom o 0 t)
-  list-is = ap (λ (s : Lists). s .list) seen-is ∙ sight-list noLists (carriedFrom o 0 t) ∙ list-found (carriedFrom o 0 t)
+  list-is = ap (λ (s : Lists). s .list) seen-is ∙ lists-list noLists (carriedFrom o 0 t) ∙ list-found (carriedFrom o 0 t)
 
   apart-is : tableSound (carriedFrom o 0 t) ≡ true → apartBy o t ≡ greatest (length (carriedFrom o 0 t)) (carriedFrom o 0 t)
   apart-is ok = reached (notesOf o t .lists .same) (carriedFrom o 0 t) ok (λ e. same-none (length (carriedFrom o 0 t)) (carriedFrom o 0 t) (sym (ap (λ (s : Lists). s .same) seen-is) ∙ e))

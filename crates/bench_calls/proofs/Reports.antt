@@ -94,7 +94,7 @@ unfolding foldFrom noticed
 told-part o m i [] = refl
 told-part o m i (v ∷ t) = told-part o (noticed m v (carried o i v)) (suc i) t
 
--- what is withPair of the records from index i on
+-- what is noted of the records from index i on
 pub record Noted (p r : Pairs) (ps : List Pair) : Type 0 where
   pub count : r .count ≡ p .count + length ps
   pub size : length (r .bytes) ≡ 64

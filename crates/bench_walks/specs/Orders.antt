@@ -1,4 +1,4 @@
--- Inner: what a call has each record of a table do, and what is withPair as it is done: the pairs, and the list. The laws in bench_calls' proofs/ tie it
+-- Inner: what a call has each record of a table do, and what is noted as it is done: the pairs, and the list. The laws in bench_calls' proofs/ tie it
 -- to bench's specs/Calls, specs/Pairs and specs/Outcomes.
 use Prim.Native.Nat.{ℕ, zero, suc, _+_, _*_}
 use mathlib.Core.Bool.{Bool, true, cond, _&&_}

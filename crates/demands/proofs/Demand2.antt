@@ -1,14 +1,17 @@
 -- Demand 2 holds. Assumes nothing.
-use Prim.Native.Nat.{ℕ, _≤_, _<_}
+use Prim.Native.Nat.{ℕ, suc, _+_, _≤_, _<_}
 use mathlib.Core.Path.{_≡_, refl, sym, ap, _∙_}
-use mathlib.Core.Bool.{Bool, true, false}
-use mathlib.Core.List.{List}
+use mathlib.Core.Bool.{Bool, true, false, true≢false}
+use mathlib.Core.List.{List, [], _∷_}
 use native.Mathlib.Omega.{arith}
 use lib.Dec.{eqb, ltb, leb}
-use lib.ListN.{take}
-use borrow.Author.Tests.{lt-leb, ltb-true}
+use lib.ListN.{length, take}
+use borrow.Author.Tests.{lt-leb, le-leb, ltb-true, eq-eqb}
 use Rattle.nodeset.specs.Sets.{within}
-use Rattle.nodeset.proofs.Tests.{both}
+use Rattle.nodeset.proofs.Tests.{all, both, by-cases}
+use Rattle.ring.specs.declared.Cable.{Cable}
+use Rattle.ring.specs.Ring.{sender}
+use Rattle.ring.proofs.Senders.{sender-range}
 use Rattle.message.specs.declared.Reading.{Reading}
 use Rattle.message.specs.declared.Written.the-variants.{Bytes}
 use Rattle.message.specs.Message.{readOf}
@@ -20,8 +23,8 @@ use Rattle.node_sending.specs.Sending.{sends}
 use Rattle.node_slot.specs.Slot.{slotIn, afterSlot}
 use Rattle.node.specs.declared.Answer.the-variants.{Done}
 use Rattle.node.specs.declared.Stepped.{Stepped}
-use Rattle.node.specs.Calls.{done, sendOf, stepOf}
-use Rattle.node.proofs.Sent.{sent-by, sent-read}
+use Rattle.node.specs.Calls.{done, refused, unsent, sendOf, stepOf}
+use Rattle.node.proofs.Sent.{sent-by, sent-read, not-its-turn}
 use Rattle.bench.specs.declared.Command.the-variants.{Slot}
 use Rattle.bench.specs.Table.{Table, recordOf, nodeCount, slotsOf, speaker, tableSound}
 use Rattle.bench.specs.Calls as bench
@@ -36,6 +39,14 @@ steps-exactly : (heard : Reading) (v : Node) → sound v ≡ true → v .slots <
     → stepOf heard v ≡ done (slotIn (v .state) (nextSender v) heard (counted v))
 unfolding stepOf afterSlot
 steps-exactly heard v e l = simp (e, lt-leb limit (v .slots) l)
+
+unsound-refused : (heard : Reading) (v : Node) → sound v ≡ false → stepOf heard v ≡ refused 4 v
+unfolding stepOf
+unsound-refused heard v e = simp e
+
+limit-refused : (heard : Reading) (v : Node) → sound v ≡ true → limit ≤ v .slots → stepOf heard v ≡ refused 5 v
+unfolding stepOf
+limit-refused heard v e l = simp (e, le-leb limit (v .slots) l)
 
 -- ---- the bench
 
@@ -69,14 +80,34 @@ sent-is-spoken t out count after e =
     let turn : sends v ≡ true = both (eqb (nextSender v) (v .own)) (sends v) (sent-by v out count after e .0) .1 in
     rw turn (sent-read v out count after e)
 
+-- the next slot of a sound table is that of its speaker's record
+speaks : (t : Table) → tableSound t ≡ true → eqb (nextSender (recordOf t (speaker t))) (recordOf t (speaker t) .own) ≡ true
+unfolding speaker tableSound
+speaks [] e = absurd (true≢false (sym e))
+speaks (w ∷ t) e =
+    let P = sound-placed (w ∷ t) e in
+    let range = sender-range (suc (length t)) (omega arith) (slotsOf (w ∷ t) + 1) in
+    let place = P .at (speaker (w ∷ t)) (range .0) (omega (arith, range .1, P .length-is)) in
+    let n-is : recordOf (w ∷ t) (speaker (w ∷ t)) .cable .n ≡ suc (length t) = ap (λ (c : Cable). c .n) (place .cable-is) ∙ sym (P .length-is) in
+    eq-eqb _ _ (ap (λ (n : ℕ). sender n (recordOf (w ∷ t) (speaker (w ∷ t)) .slots + 1)) n-is ∙ ap (λ (s : ℕ). sender (suc (length t)) (s + 1)) (place .slots-is) ∙ sym (place .own-is))
+
+silent-unheard : (t : Table) (out : List ℕ) → tableSound t ≡ true → sendOf (recordOf t (speaker t)) out ≡ unsent 10 out → bench.spoken t ≡ bench.unheard
+unfolding bench.spoken bench.transmits
+silent-unheard t out e u =
+    let v = recordOf t (speaker t) in
+    by-cases (sends v) (λ s. absurd (true≢false (sym (all (speaks t e) s) ∙ not-its-turn v out u))) (λ s. rw s refl)
+
 -- ---- the demand
 
 pub demand2 : Demand2
 demand2 = record {
   slot = steps-exactly;
+  unsound = unsound-refused;
+  at-limit = limit-refused;
   by-bytes = λ bytes v. refl;
   on-bench = each-steps;
   heard-on-bench = sent-is-spoken;
+  silent-on-bench = silent-unheard;
   read-back = read-back;
   written-read = written-read;
 }

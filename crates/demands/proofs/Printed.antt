@@ -32,23 +32,23 @@ use Rattle.plan_program.specs.Program.{afterLine, noPlan}
 use Rattle.plan_program.specs.Tables.{callsIn, callsOf, madeBy, startOf, Opens}
 use Rattle.plan_program.proofs.Sound.{over-line, ran-line}
 use Rattle.plan_program.proofs.Tables.{Reached, next, ring, begun, reached-first}
-use Rattle.demands.specs.Printed.{AtEachLine, NoDistance, NoDistancePrinted}
+use Rattle.demands.specs.Printed.{AtEachLine, NoOtherDistance, NoDistancePrinted}
 
-quiet-tells : (a : Answer) → NoDistance (quietOutcome a)
+quiet-tells : (a : Answer) → NoOtherDistance (quietOutcome a)
 quiet-tells Done = tt
 quiet-tells (Refused cause) = tt
 
 slot-tells : (lost : Bool) (missed : ℕ) (t : Table) → (isSlot (slot lost missed 64) t ≡ true → calls.NoDistance (endedOf (Slot lost missed) 64 t .reply .outcome))
-    → NoDistance (endedOf (Slot lost missed) 64 t .reply .outcome)
+    → NoOtherDistance (endedOf (Slot lost missed) 64 t .reply .outcome)
 unfolding endedOf isSlot
 slot-tells lost missed t h = go (slotOf lost missed 64 t .answer) h
   where
-    go : (a : Answer) → (isDone a ≡ true → calls.NoDistance (slotOutcome lost t (slotOf lost missed 64 t .table) a)) → NoDistance (slotOutcome lost t (slotOf lost missed 64 t .table) a)
+    go : (a : Answer) → (isDone a ≡ true → calls.NoDistance (slotOutcome lost t (slotOf lost missed 64 t .table) a)) → NoOtherDistance (slotOutcome lost t (slotOf lost missed 64 t .table) a)
     go Done h = h refl
     go (Refused cause) h = tt
 
 module _ (cable : Cable) (start : Table) (p : Plan) (l : List ℕ) (cs : List Call) (r : Reached start p cs) where
-  said-tells : (said : Line) → AtEach (SlotTells cable start) (madeBy said ++ cs) → NoDistance (ranBy (p .n) (p .rows) (actOf said) .outcome)
+  said-tells : (said : Line) → AtEach (SlotTells cable start) (madeBy said ++ cs) → NoOtherDistance (ranBy (p .n) (p .rows) (actOf said) .outcome)
   unfolding AtEach by-value.callOf endedOf
   said-tells lines.Ok tells = slot-tells false 0 (tableOf (p .n) (p .rows)) (rw (r .table) (tells .1))
   said-tells lines.Lost tells = slot-tells true 0 (tableOf (p .n) (p .rows)) (rw (r .table) (tells .1))
@@ -57,7 +57,7 @@ module _ (cable : Cable) (start : Table) (p : Plan) (l : List ℕ) (cs : List Ca
   said-tells (lines.On a) tells = quiet-tells (restartOf a (tableOf (p .n) (p .rows)) .answer)
   said-tells (lines.Refused cause) tells = tt
 
-  line-tells : AtEach (SlotTells cable start) (callsIn p l ++ cs) → NoDistance (afterLine p l .outcome)
+  line-tells : AtEach (SlotTells cable start) (callsIn p l ++ cs) → NoOtherDistance (afterLine p l .outcome)
   line-tells tells =
       by-cases (p .over)
       (λ over. rw (over-line p l over) tt)
@@ -77,14 +77,14 @@ module _ (cable : Cable) (start : Table) (p : Plan) (l : List ℕ) (cs : List Ca
       go false (lines.Refused cause) tells = tells
 
 each : (cable : Cable) (start : Table) (p : Plan) (cs : List Call) (more : List (List ℕ)) → Reached start p cs → AtEach (SlotTells cable start) (callsOf p cs more)
-    → AtEachLine NoDistance p more × AtEach (SlotTells cable start) cs
+    → AtEachLine NoOtherDistance p more × AtEach (SlotTells cable start) cs
 unfolding AtEachLine callsOf
 each cable start p cs [] r tells = (tt, tells)
 each cable start p cs (l ∷ more) r tells =
     let later = each cable start (afterLine p l) (callsIn p l ++ cs) more (next start p l cs r) tells in
     ((line-tells cable start p l cs r (later .1), later .0), earlier cable start p l cs r (later .1))
 
-first-tells : (n k : ℕ) (first : List ℕ) → Opens n k first → NoDistance (afterLine noPlan first .outcome)
+first-tells : (n k : ℕ) (first : List ℕ) → Opens n k first → NoOtherDistance (afterLine noPlan first .outcome)
 unfolding by-value.callOf endedOf
 first-tells n k first opens = rw (begun n k first opens) (quiet-tells (setUpOf (cableOf n k) (tableOf n noRows) .answer))
 

@@ -2,7 +2,7 @@
 -- that would be written.
 use Prim.Native.Nat.{ℕ, _+_, _≤_, _<_}
 use mathlib.Core.Path.{_≡_}
-use mathlib.Core.Bool.{Bool, true}
+use mathlib.Core.Bool.{Bool, true, false}
 use mathlib.Core.List.{List, _++_}
 use lib.ListN.{length, getD, take, drop}
 use Rattle.ring.specs.Ring.{sender}
@@ -15,9 +15,9 @@ use Rattle.node_record.specs.Soundness.{sound, limit}
 use Rattle.node_changes.specs.Changes.{counted}
 use Rattle.node_slot.specs.Slot.{slotIn}
 use Rattle.node.specs.declared.Answer.the-variants.{Done}
-use Rattle.node.specs.Calls.{done, stepOf, slotOf, sendOf}
+use Rattle.node.specs.Calls.{done, refused, unsent, stepOf, slotOf, sendOf}
 use Rattle.bench.specs.declared.Command.the-variants.{Slot}
-use Rattle.bench.specs.Table.{Table, recordOf, nodeCount, speaker}
+use Rattle.bench.specs.Table.{Table, recordOf, nodeCount, speaker, tableSound}
 use Rattle.bench.specs.Calls as bench
 use Rattle.bench.specs.Outcomes.{endedOf}
 
@@ -32,9 +32,12 @@ nextSender v = sender (v .cable .n) (v .slots + 1)
 pub record Demand2 : Type 0 where
   -- "every slot changes a node's record exactly as document 01 says": a sound record below the limit counts the slot and follows the rules of its state, which
   -- take the reading as it was handed over (`slotIn`: "One slot, for a member, following or knocking node" is node_steps' specs/Steps, "Listening" is
-  -- node_hearing's specs/Hearing); any other is refused
+  -- node_hearing's specs/Hearing)
   pub slot : (heard : Reading) (v : Node) → sound v ≡ true → v .slots < limit
       → stepOf heard v ≡ done (slotIn (v .state) (nextSender v) heard (counted v))
+  -- any other is refused, by 4 and 5
+  pub unsound : (heard : Reading) (v : Node) → sound v ≡ false → stepOf heard v ≡ refused 4 v
+  pub at-limit : (heard : Reading) (v : Node) → sound v ≡ true → limit ≤ v .slots → stepOf heard v ≡ refused 5 v
   -- what is heard is what the reader finds in the bytes that are handed over
   pub by-bytes : (bytes : List ℕ) (v : Node) → slotOf bytes v ≡ stepOf (readOf (v .cable .k) bytes) v
   -- a slot that runs on the bench is this slot of each record, and none is refused
@@ -44,6 +47,9 @@ pub record Demand2 : Type 0 where
   -- and what its message is heard as there is what the reader finds in the bytes that the sender sends
   pub heard-on-bench : (t : Table) (out : List ℕ) (count : ℕ) (after : List ℕ) → sendOf (recordOf t (speaker t)) out ≡ (Bytes count, after)
       → readOf (recordOf t (speaker t) .cable .k) (take count after) ≡ bench.spoken t
+  -- nothing, where the sender has none to send
+  pub silent-on-bench : (t : Table) (out : List ℕ) → tableSound t ≡ true → sendOf (recordOf t (speaker t)) out ≡ unsent 10 out
+      → bench.spoken t ≡ bench.unheard
   -- "a message written is read back as the same"
   pub read-back : (k acknowledgements : ℕ) (returnBit : Bool) (out : List ℕ) (count : ℕ) (after : List ℕ)
       → writeOf k acknowledgements returnBit out ≡ (Bytes count, after)

@@ -11,10 +11,10 @@ use Rattle.plan_program.specs.Program.{afterLine, linesIn, noPlan}
 use Rattle.plan_program.specs.Tables.{callsOf, startOf, whole, Opens}
 
 -- What is printed of a line tells no distance but 0.
-abbrev pub NoDistance : Outcome → Type 0
-NoDistance (outcome.Slot number sender fate shown distance) = distance ≡ 0
-NoDistance outcome.Quiet = Unit {0}
-NoDistance (outcome.Refused cause) = Unit {0}
+abbrev pub NoOtherDistance : Outcome → Type 0
+NoOtherDistance (outcome.Slot number sender fate shown distance) = distance ≡ 0
+NoOtherDistance outcome.Quiet = Unit {0}
+NoOtherDistance (outcome.Refused cause) = Unit {0}
 
 unfoldable pub AtEachLine : (Outcome → Type 0) → Plan → List (List ℕ) → Type 0
 AtEachLine P p [] = Unit {0}
@@ -25,4 +25,4 @@ abbrev pub NoDistancePrinted : Type 0
 NoDistancePrinted =
     (n k : ℕ) (input first : List ℕ) (more : List (List ℕ)) → whole (linesIn input) ≡ first ∷ more → Opens n k first
     → Premises (cableOf n k) (startOf n k) (callsOf (afterLine noPlan first) [] more)
-    → AtEachLine NoDistance noPlan (whole (linesIn input))
+    → AtEachLine NoOtherDistance noPlan (whole (linesIn input))

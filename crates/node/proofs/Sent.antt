@@ -1,15 +1,16 @@
 -- A message that is sent is readable, and reads as what the rules say is sent; of the writer's refusals only 9 can come of sending. Assumes nothing.
 use Prim.Native.Nat.{ℕ, _<_, _^_}
-use mathlib.Core.Path.{_≡_, refl, ap}
+use mathlib.Core.Path.{_≡_, refl, sym, ap, _∙_}
 use mathlib.Core.Bool.{Bool, true, false, cond}
 use mathlib.Core.List.{List, _++_}
 use native.Mathlib.Omega.{arith}
 use lib.Dec.{leb}
 use lib.ListN.{length, take, drop}
-use borrow.Author.Tests.{le-leb, lt-leb, lt-ltb}
+use borrow.Author.Tests.{le-leb, lt-leb, lt-ltb, leb-false}
 use Rattle.refusal.specs.declared.Refusal.{Refusal}
 use Rattle.refusal.specs.declared.Refusal.the-variants.{Unsound, SlotLimit, NotItsSlot}
-use Rattle.nodeset.proofs.Tests.{all}
+use Rattle.refusal.specs.Causes.{numberOf}
+use Rattle.nodeset.proofs.Tests.{all, by-cases}
 use Rattle.ring.proofs.Ranges.{ring-size, sponsor-count}
 use Rattle.message.specs.declared.Reading.the-variants.{Heard}
 use Rattle.message.specs.declared.Written.{Written}
@@ -21,7 +22,7 @@ use Rattle.node_record.specs.Soundness.{limit, sound}
 use Rattle.node_record.proofs.Facts.{clauses}
 use Rattle.node_sending.specs.Sending.{bitsSent, returnSent}
 use Rattle.node_sending.proofs.Laws.{bitsSent-lt}
-use Rattle.node.specs.Calls.{itsTurn, sendOf}
+use Rattle.node.specs.Calls.{itsTurn, sendOf, unsent}
 
 refused-no-bytes : (r : Refusal) (n : ℕ) (out after : List ℕ) → _≡_ {A = Written × List ℕ} (Refused r, out) (Bytes n, after) → ⊥
 refused-no-bytes r n out after e =
@@ -56,3 +57,35 @@ sent-or-short v out e l t =
     let n = ring-size (v .cable .n) (c .ring) in
     let range : inRange (v .cable .k) ≡ true = all (le-leb 2 (v .cable .k) (k .0)) (le-leb (v .cable .k) 31 (omega arith)) in
     simp (e, lt-leb limit (v .slots) l, t, range, lt-ltb (bitsSent v) (2 ^ v .cable .k) (bitsSent-lt v))
+
+-- ---- refused by 10
+
+abbrev numberIn : Written → ℕ
+numberIn (Bytes n) = 0
+numberIn (Refused r) = numberOf r
+
+-- where sending is refused by 10 it is not the node's turn
+pub not-its-turn : (v : Node) (out : List ℕ) → sendOf v out ≡ unsent 10 out → itsTurn v ≡ false
+unfolding sendOf
+not-its-turn v out e =
+    by-cases (itsTurn v)
+    (λ t. absurd (by-cases (sound v) (λ s. by-cases (leb limit (v .slots)) (late s) (timely t s)) unsound))
+    (λ f. f)
+  where
+    ten : numberIn (sendOf v out .0) ≡ 10
+    ten = ap (λ (p : Written × List ℕ). numberIn (p .0)) e
+
+    unsound : sound v ≡ false → ⊥
+    unsound s = let z : sendOf v out ≡ unsent 4 out = simp s in omega (arith, ten, ap (λ (p : Written × List ℕ). numberIn (p .0)) z)
+
+    late : sound v ≡ true → leb limit (v .slots) ≡ true → ⊥
+    late s l = let z : sendOf v out ≡ unsent 5 out = simp (s, l) in omega (arith, ten, ap (λ (p : Written × List ℕ). numberIn (p .0)) z)
+
+    not-ten : (b : Bool) (m : ℕ) (bytes : List ℕ) → numberIn (ifWritten b 9 out (Bytes m, bytes) .0) ≡ 10 → ⊥
+    not-ten true m bytes q = omega (arith, q)
+    not-ten false m bytes q = omega (arith, q)
+
+    timely : itsTurn v ≡ true → sound v ≡ true → leb limit (v .slots) ≡ false → ⊥
+    timely t s l =
+        not-ten (leb (lengthOf (v .cable .k)) (length out)) _ _
+        (sym (ap (λ (p : Written × List ℕ). numberIn (p .0)) (sent-or-short v out s (leb-false limit (v .slots) l) t)) ∙ ten)

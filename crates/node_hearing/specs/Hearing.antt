@@ -12,17 +12,17 @@ use Rattle.node_record.specs.declared.Window.{Window}
 use Rattle.node_changes.specs.Changes.{listeningAfter, followingWith, withWindow}
 
 -- One more slot of the window is done, and nobody was heard in it.
-abbrev pub unheard : Window → Window
-unheard w = record { done = w .done + 1; heard = w .heard; shortest = w .shortest; «return_seen» = w .«return_seen»; last = w .last }
+abbrev pub slotUnheard : Window → Window
+slotUnheard w = record { done = w .done + 1; heard = w .heard; shortest = w .shortest; «return_seen» = w .«return_seen»; last = w .last }
 
 -- Who was heard, "the shortest run of ones", "whether a return bit of 1 was heard". "An unreadable message is unheard".
 abbrev pub overheard : ℕ → Reading → Window → Window
 overheard s (reading.Heard bits returnBit) w = record { done = w .done + 1; heard = with (w .heard) s; shortest = min (w .shortest) (run bits); «return_seen» = w .«return_seen» || returnBit; last = w .last }
-overheard s (reading.Refused r) w = unheard w
+overheard s (reading.Refused r) w = slotUnheard w
 
 -- "the own slot hears nothing"
 abbrev pub windowAfter : ℕ → Reading → Node → Window
-windowAfter s heard v = cond (eqb s (v .own)) (unheard (v .listening)) (overheard s heard (v .listening))
+windowAfter s heard v = cond (eqb s (v .own)) (slotUnheard (v .listening)) (overheard s heard (v .listening))
 
 -- "A window is clean if every message heard has return bit 0, and the run of ones from bit 1 in each is at least the smaller of k and
 -- (number of nodes heard) - 1"; "a window with fewer than two nodes heard is unclean".

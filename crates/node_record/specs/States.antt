@@ -49,6 +49,6 @@ causeNumber NothingHeard = 2
 causeNumber MissedReturn = 3
 causeNumber SwitchedOff = 4
 
--- The cause of leaving with this number. (proofs/Causes: its number is this one.)
+-- The cause of leaving with this number. (proofs/Causes: its number is this one. No definition asks for another.)
 abbrev pub leavingCause : ℕ → Cause
 leavingCause number = cond (eqb number 1) Unconfirmed (cond (eqb number 2) NothingHeard (cond (eqb number 3) MissedReturn SwitchedOff))

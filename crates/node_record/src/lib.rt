@@ -1,4 +1,5 @@
-// The node record (document 01, "The node record"): what it holds, and when it is sound.
+// The node record (document 01, "The node record"): what it holds, and when it is sound. An inner
+// layer: it takes every record as it is.
 use ring::Cable;
 ghost use mathlib.Core.Path.{_≡_};
 ghost use Rattle.node_record.specs.States.{isMember, isListening, isFollowing, isKnocking, isOut, causeNumber};

@@ -3,7 +3,7 @@ use Prim.Native.Nat.{ℕ}
 use mathlib.Core.Path.{_≡_, refl, sym, ap, ap₂, _∙_}
 use mathlib.Core.Bool.{Bool, true, false, cond, not, _&&_, true≢false}
 use lib.Dec.{eqb}
-use borrow.Author.Tests.{eqb-true, ne-eqb}
+use borrow.Author.Tests.{eqb-true, eq-eqb, ne-eqb}
 use Rattle.nodeset.specs.Sets.{has, without}
 use Rattle.nodeset.proofs.Tests.{by-cases, chosen, otherwise}
 use Rattle.ring.specs.declared.Found.{Found}
@@ -38,7 +38,7 @@ marked-read s heard v f =
 -- ---- step 3
 
 -- a member m that is struck is the node itself, or another; b: m is marked, c: the node is
-struck : {X : Type 0} (f : ℕ → X) (x : X) (set left : ℕ) (a b c : Bool) → (a ≡ true → b ≡ c) → cond (a && not c) x (f (cond b set left)) ≡ cond b (f set) (cond a x (f left))
+struck : {X : Type 0} (f : ℕ → X) (x : X) (set left : ℕ) (a b c : Bool) → (a ≡ true → b ≡ c) → cond (a && not c) x (f (cond (not b) left set)) ≡ cond b (f set) (cond a x (f left))
 struck f x set left true true true h = refl
 struck f x set left true true false h = absurd (true≢false (h refl))
 struck f x set left true false true h = absurd (true≢false (sym (h refl)))
@@ -48,10 +48,11 @@ struck f x set left false false c h = refl
 
 departs-is : (s : ℕ) (d : Found) (v : Node)
     → cond (isFound (v .own) d && not (has (v .present) (v .own))) (leave (leavingCause 1) v)
-    (settle true s (withSet (cond (has (v .present) (memberIn d)) (v .set) (without (v .set) (memberIn d))) v)) ≡ departs s d v
+    (settle true s (withSet (cond (isFound (memberIn d) d && not (has (v .present) (memberIn d))) (without (v .set) (memberIn d)) (v .set)) v)) ≡ departs s d v
 unfolding judged has without
 departs-is s (found.Member m) v =
-    struck (λ (set : ℕ). settle true s (withSet set v)) (leave (leavingCause 1) v) (v .set) (without (v .set) m) (eqb m (v .own)) (has (v .present) m) (has (v .present) (v .own)) (λ e. ap (has (v .present)) (eqb-true m (v .own) e))
+    let self : eqb m m ≡ true = eq-eqb m m refl in
+    rw self (struck (λ (set : ℕ). settle true s (withSet set v)) (leave (leavingCause 1) v) (v .set) (without (v .set) m) (eqb m (v .own)) (has (v .present) m) (has (v .present) (v .own)) (λ e. ap (has (v .present)) (eqb-true m (v .own) e)))
 departs-is s found.Nobody v = refl
 
 -- ---- the slot

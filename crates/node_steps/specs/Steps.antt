@@ -86,7 +86,7 @@ leaves s v x = isFound x (decidedIn s v) && not (has (v .present) x)
 abbrev pub withoutDecided : ℕ → Node → ℕ
 withoutDecided s v =
     let m = memberIn (decidedIn s v) in
-    cond (has (v .present) m) (v .set) (without (v .set) m)
+    cond (leaves s v m) (without (v .set) m) (v .set)
 
 abbrev pub departed : ℕ → Node → Node
 departed s v = withSet (withoutDecided s v) v

@@ -1,10 +1,10 @@
 // The lines of a plan (document 01, "The bench program"): what a line says, or by which cause it is
-// refused. A line comes without its line feed.
+// refused. A line comes without its line feed. An inner layer: it takes every n as it is.
 use refusal::Refusal;
 use ring::Cable;
 ghost use mathlib.Core.Path.{_≡_};
 ghost use mathlib.Core.Bool.{true, false, _&&_};
-ghost use Prim.Native.Nat.{_+_, _≤_, min};
+ghost use Prim.Native.Nat.{_+_, min};
 ghost use lib.ListN.{length, drop};
 ghost use lib.Dec.{leb};
 ghost use Rattle.plan_line.specs.Words.{allDigits, begins, gap, isNumber, leadingZero, leastAfter, same, valueOf};
@@ -276,7 +276,7 @@ pub fn line_of(n: u32, line: &[u8]) -> Line
     word(n, line)
 }
 
-// The ring of n nodes in which each sponsors k.
+// The opening by these two numbers: a ring of n nodes in which a member has k sponsors. It refuses by 1 and 2.
 fn ring_of(n: u32, k: u32) -> Opening
     ensures { λ r. ⌜ r ≡ ringOf n k ⌝ }
 {

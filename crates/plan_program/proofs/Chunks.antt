@@ -37,7 +37,7 @@ pub fed-line : (p : Plan) (line : List ℕ) (ps : List (List ℕ)) → Some ps �
 unfolding runOf
 fed-line p line ps (some q more e) = ap (λ (z : List (List ℕ)). runOf p (line ∷ z)) e ∙ sym (ap (λ (z : List (List ℕ)). textThen (lineText (afterLine p line)) (runOf (afterLine p line) z)) e)
 
--- what is runOf after a beginning
+-- what is run after a beginning
 abbrev pub onwards : Run → List ℕ → Run
 onwards f b = textThen (f .text) (runOf (f .plan) (begunWith (f .rest) (linesIn b)))
 

@@ -19,12 +19,12 @@ use Rattle.plan_run.specs.Run.{openedBy}
 use Rattle.plan_program.specs.declared.Plan.{Plan}
 use Rattle.plan_program.specs.Program.{afterLine, counted, lineText, noPlan, planOpened, runOf}
 use Rattle.plan_program.specs.Calls.{planSound}
-use Rattle.plan_program.specs.Tables.{afterLines, callsIn, callsOf, madeBy, startOf, textsOf, whole, Opens, SameTables}
+use Rattle.plan_program.specs.Tables.{afterLines, callsIn, callsOf, madeBy, startOf, textsOf, whole, Opens, PrintedByLines, SameTables}
 use Rattle.plan_program.proofs.Sound.{counted-some, first-line, later-line, opened-table, sound-line}
 
 -- ---- the text of a run is that of its lines
 
-pub texts-run : (p : Plan) (parts : List (List ℕ)) → runOf p parts .text ≡ textsOf p (whole parts)
+pub texts-run : PrintedByLines
 unfolding runOf textsOf whole
 texts-run p [] = refl
 texts-run p (rest ∷ []) = refl

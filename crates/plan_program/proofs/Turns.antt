@@ -1,4 +1,4 @@
--- What the loop over the lines of a runPiece has done so far.
+-- What the loop over the lines of a piece has done so far.
 -- Assumes nothing.
 use Prim.Native.Nat.{ℕ, _+_, _-_, _*_, _≤_, _<_}
 use mathlib.Core.Path.{_≡_, refl, sym, ap, _∙_}
@@ -17,7 +17,7 @@ use Rattle.plan_program.specs.Inner.{Goes}
 use Rattle.plan_program.proofs.Chunks.{fed-line, begun-none, parts-some}
 use Rattle.plan_program.proofs.Lines.{enough, line-at, last-at, text-short}
 
--- Of a runPiece that begins at plan `p₀` with `x₀` of a line, the bytes before `at` were run, and came to plan `p` with `x` of a line.
+-- Of a piece that begins at plan `p₀` with `x₀` of a line, the bytes before `at` were run, and came to plan `p` with `x` of a line.
 pub record Sofar (p₀ : Plan) (x₀ input out₀ : List ℕ) (p : Plan) (x : List ℕ) (held at : ℕ) (out : List ℕ) : Type 0 where
   pub text : List ℕ
   pub put : PutAt held 0 text out₀ out

@@ -14,7 +14,7 @@ use Rattle.plan_line.specs.declared.Line.the-variants as lines
 use Rattle.plan_line.specs.Plan.{openingOf, lineOf}
 use Rattle.plan_run.specs.Run.{noRows}
 use Rattle.plan_program.specs.declared.Plan.{Plan}
-use Rattle.plan_program.specs.Program.{afterLine, lineText, noPlan}
+use Rattle.plan_program.specs.Program.{afterLine, lineText, noPlan, runOf}
 
 -- ---- the lines of a text
 
@@ -24,7 +24,7 @@ whole [] = []
 whole (rest ∷ []) = []
 whole (line ∷ next ∷ parts) = line ∷ whole (next ∷ parts)
 
--- The plan after some lines, and what is printed of them (`texts-run`, proofs/Tables: the text of a run).
+-- The plan after some lines, and what is printed of them.
 unfoldable pub afterLines : Plan → List (List ℕ) → Plan
 afterLines p [] = p
 afterLines p (line ∷ more) = afterLines (afterLine p line) more
@@ -58,6 +58,10 @@ abbrev pub startOf : ℕ → ℕ → Table
 startOf n k = setUpOf (cableOf n k) (tableOf n noRows) .table
 
 -- ---- the claims
+
+-- What a run prints (`printed` is made of it) is what is printed of its lines.
+abbrev pub PrintedByLines : Type 0
+PrintedByLines = (p : Plan) (parts : List (List ℕ)) → runOf p parts .text ≡ textsOf p (whole parts)
 
 -- A plan whose line one says n and k.
 pub record Opens (n k : ℕ) (first : List ℕ) : Type 0 where

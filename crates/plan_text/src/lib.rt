@@ -1,4 +1,5 @@
-// The lines that the bench program prints (document 01, "The bench program"), written into lent bytes at a place.
+// The lines that the bench program prints (document 01, "The bench program"), written into lent bytes
+// at a place. An inner layer: the calls of `plan_program` print whole lines.
 use bench::Fate;
 use bench::Listed;
 use refusal::Refusal;

@@ -22,7 +22,7 @@ use Rattle.bench.proofs.Runs.{start-placed, run-length}
 use Rattle.agreement.proofs.Beginnings.{at-end}
 use Rattle.agreement.proofs.Throughout.{nothing-apart}
 use Rattle.premises.specs.Plans.{twoMiss, twoKnocks, threeLeft, noThird, missesTwice}
-use Rattle.premises.specs.Needed.{Premise, few-failures, one-outside, list-kept, all-heard, Holds, Others, Bites, Without}
+use Rattle.premises.specs.Needed.{Premise, few-failures, one-outside, list-kept, all-heard, Holds, Others, Bites, Without, EachNeeded}
 use Rattle.premises.proofs.Scan.{noted, scan}
 use Rattle.premises.proofs.Tested.{every, test, by-test, by-failed-test}
 
@@ -131,7 +131,7 @@ refuted : (p : Premise) (cable : Cable) (lent : Table) (cs : List Call) → Bite
 unfolding EverySequence
 refuted p cable lent cs b w = b .fails (at-end (Agree cable (setUpOf cable lent .table)) cs (w cable (b .ring) (b .sponsors) lent (b .one-each) cs (b .others) .agree))
 
-pub needed : (p : Premise) → Without p → ⊥
+pub needed : EachNeeded
 needed few-failures = refuted few-failures _ _ _ (failures-bite noNode noNode noNode noNode)
 needed one-outside = refuted one-outside _ _ _ (outside-bites noNode noNode noNode noNode noNode)
 needed list-kept = refuted list-kept _ _ _ (list-bites noNode noNode noNode noNode)

@@ -45,3 +45,7 @@ pub record Bites (p : Premise) (Claim : Cable → Table → List Call → Type 0
 -- Demand 3 with the premises but this one.
 abbrev pub Without : Premise → Type 0
 Without p = EverySequence (Others p) Claims
+
+-- Each is needed: without it the demand is false.
+abbrev pub EachNeeded : Type 0
+EachNeeded = (p : Premise) → Without p → ⊥

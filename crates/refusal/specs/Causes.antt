@@ -31,7 +31,8 @@ numberOf NotOut = 11
 -- "plan line unreadable or too long"
 numberOf PlanLine = 12
 
--- The cause with this number, so that a definition can name a refusal as document 01 does. (proofs/Numbers: its number is this one.)
+-- The cause with this number, so that a definition can name a refusal as document 01 does. (proofs/Numbers: its number is this one. No
+-- definition asks for a number that is none.)
 abbrev pub cause : ℕ → Refusal
 cause number =
     cond (eqb number 1) RingSize

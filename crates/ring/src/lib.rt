@@ -60,7 +60,7 @@ pub fn is_node_number(n: u32, x: u32) -> bool
     1 <= x && x <= n
 }
 
-// Whether a member may sponsor k others.
+// Whether the cable's k is 2 to n - 1.
 pub fn is_sponsor_count(cable: Cable) -> bool
     ensures { λ r. ⌜ r ≡ sponsorCount cable ⌝ }
 {

@@ -1,4 +1,4 @@
--- `bench_walks::pairs::kind_from` meets its contract: its tests are those of the definition. Assumes nothing.
+-- `bench_walks::kinds::kind_from` meets its contract: its tests are those of the definition. Assumes nothing.
 use borrow.Author.Needs.{needs}
 use mathlib.Core.Path.{sym, ap₂, _∙_}
 use mathlib.Core.Bool.{_&&_, _||_}

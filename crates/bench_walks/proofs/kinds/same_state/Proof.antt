@@ -1,4 +1,4 @@
--- `bench_walks::pairs::same_state` meets its contract: in each state of the one record the definition is the test of that state of the other. Assumes nothing.
+-- `bench_walks::kinds::same_state` meets its contract: in each state of the one record the definition is the test of that state of the other. Assumes nothing.
 use borrow.Author.Needs.{needs}
 use mathlib.Core.Path.{sym, ap, _∙_}
 use mathlib.Core.Bool.{or-false}
