@@ -4,7 +4,7 @@
 pub mod orders;
 mod pairs;
 mod records;
-mod surveys;
+pub mod surveys;
 
 use bench::Command;
 use bench::Fate;
