@@ -6,7 +6,6 @@ mod c {
         pub unsafe fn message_write(k: u32, acks: u32, ret: bool, ptr: *mut u8, len: usize) -> u64;
         pub safe fn ring_sender(n: u32, done: u64) -> u64;
         pub safe fn ring_before(n: u32, set: u32, x: u32, j: u32) -> u64;
-        pub safe fn ring_before_found(n: u32, set: u32, x: u32, j: u32) -> u64;
         pub safe fn ring_sponsored(n: u32, k: u32, set: u32, x: u32, j: u32) -> u64;
         pub safe fn ring_decided(n: u32, k: u32, set: u32, x: u32) -> u64;
     }
@@ -27,7 +26,7 @@ unsafe extern "C" {
     pub safe fn ring_is_ring_size(n: u32) -> bool;
     pub safe fn ring_is_node_number(n: u32, x: u32) -> bool;
     pub safe fn ring_is_sponsor_count(n: u32, k: u32) -> bool;
-    pub safe fn ring_ks(k: u32, c: u32) -> u32;
+    pub safe fn ring_ks(n: u32, k: u32, c: u32) -> u32;
 }
 
 /// What is below bit 33 if that is the highest bit set. Any other answer is kept whole, so that one
@@ -70,11 +69,6 @@ fn found(answer: u64) -> Found {
 /// The j-th member before node x.
 pub fn before(n: u32, set: u32, x: u32, j: u32) -> Found {
     found(c::ring_before(n, set, x, j))
-}
-
-/// The nearest member before that one.
-pub fn before_found(n: u32, set: u32, x: u32, j: u32) -> Found {
-    found(c::ring_before_found(n, set, x, j))
 }
 
 /// The j-th member that node x sponsors.

@@ -1,3 +1,7 @@
-pub mod agreement
+pub mod Choices
+pub mod Places
+pub mod Counted
+pub mod Accepted
+pub mod Runs
 pub mod SlotKinds
 pub mod Computed

@@ -9,7 +9,6 @@ use lib.Dec.{eqb, leb, ltb}
 use Rattle.nodeset.specs.Sets.{has, without, size}
 use Rattle.nodeset.proofs.Tests.{both}
 use Rattle.ring.specs.Ring.{sender}
-use Rattle.ring.specs.Answers.{decidedOf}
 use Rattle.ring.specs.declared.Found.{Found}
 use Rattle.ring.specs.declared.Found.the-variants as found
 use Rattle.message.specs.declared.Reading.{Reading}
@@ -20,13 +19,15 @@ use Rattle.node_record.specs.declared.State.{State}
 use Rattle.node_record.specs.declared.State.the-variants.{Member, Listening, Following, Knocking, Out}
 use Rattle.node_record.specs.States.{isMember, isListening, isFollowing, isKnocking, isOut}
 use Rattle.node_record.specs.Soundness.{sound, limit}
+use Rattle.node_record.specs.Sponsoring.{decidedIn}
 use Rattle.node_changes.specs.Changes.{outFor, fresh, leave, counted, withSet, withReturning}
-use Rattle.node_steps.specs.Steps.{isHeard, nothingHeard, joins, stateOnList, missedReturn, marked, noted, join, settle, trackingSlot}
-use Rattle.node_steps.specs.Inner.{judged, departs, insideSlot, outsideSlot, slotByCases}
-use Rattle.node_steps.proofs.Cases.{slot-by-cases}
-use Rattle.node_hearing.specs.Hearing.{clean, windowEnd, overheard, listeningSlot}
+use Rattle.node_steps.specs.Steps.{isHeard, nothingHeard, joins, stateOnList, noted, join, settle}
+use Rattle.node_steps.specs.Inner.{readReturn, readMarked, judged, departs, insideSlot, outsideSlot, slotByCases}
+use Rattle.node_hearing.specs.Hearing.{clean, windowEnd, overheard, goesOn, listeningBy}
 use Rattle.node.specs.declared.Stepped.{Stepped}
-use Rattle.node.specs.Slot.{heardFrom, slotIn, afterSlot}
+use Rattle.node_slot.specs.Slot.{afterSlot}
+use Rattle.node_slot.specs.Inner.{heardFrom, readIn}
+use Rattle.node_slot.proofs.Read.{after-read}
 use Rattle.node.specs.Calls.{stepOf}
 use Rattle.bench.specs.Pairs.{sameState, kindFrom}
 
@@ -83,11 +84,11 @@ state-of : (b : Bool) (x y : Node) → cond b x y .state ≡ cond b (x .state) (
 state-of true x y = refl
 state-of false x y = refl
 
-settle-state : (inside : Bool) (s : ℕ) (v : Node) → settle inside s v .state ≡ settled (v .state) (ltb (size (v .n) (v .set)) 2) (nothingHeard v) (inside && joins s v) (v .«return_heard»)
+settle-state : (inside : Bool) (s : ℕ) (v : Node) → settle inside s v .state ≡ settled (v .state) (ltb (size (v .cable .n) (v .set)) 2) (nothingHeard v) (inside && joins s v) (v .«return_heard»)
 unfolding settle join
 settle-state inside s v =
-    state-of (not (isMember (v .state)) && ltb (size (v .n) (v .set)) 2) (fresh v) _
-    ∙ ap (cond (not (isMember (v .state)) && ltb (size (v .n) (v .set)) 2) Listening)
+    state-of (not (isMember (v .state)) && ltb (size (v .cable .n) (v .set)) 2) (fresh v) _
+    ∙ ap (cond (not (isMember (v .state)) && ltb (size (v .cable .n) (v .set)) 2) Listening)
     (state-of (nothingHeard v) (leave NothingHeard v) _
     ∙ ap₂ (cond (nothingHeard v)) (leave-state NothingHeard v)
     (state-of (inside && joins s v) (join v) v
@@ -117,8 +118,8 @@ knocked-ok false false heard = refl
 
 settle-ok : (a : State) (inside : Bool) (s : ℕ) (v : Node) → tracked a ≡ true → v .state ≡ a → Ok a (settle inside s v)
 settle-ok a inside s v t e =
-    ap (allowed a) (settle-state inside s v ∙ ap (λ (b : State). settled b (ltb (size (v .n) (v .set)) 2) (nothingHeard v) (inside && joins s v) (v .«return_heard»)) e)
-    ∙ settled-ok a (ltb (size (v .n) (v .set)) 2) (nothingHeard v) (inside && joins s v) (v .«return_heard») t
+    ap (allowed a) (settle-state inside s v ∙ ap (λ (b : State). settled b (ltb (size (v .cable .n) (v .set)) 2) (nothingHeard v) (inside && joins s v) (v .«return_heard»)) e)
+    ∙ settled-ok a (ltb (size (v .cable .n) (v .set)) 2) (nothingHeard v) (inside && joins s v) (v .«return_heard») t
 
 -- ---- a slot of a node that tracks the list
 
@@ -131,12 +132,11 @@ judged-ok a s m v t e =
 departs-ok : (a : State) (s : ℕ) (f : Found) (v : Node) → tracked a ≡ true → v .state ≡ a → Ok a (departs s f v)
 departs-ok a s (found.Member m) v t e = judged-ok a s m v t e
 departs-ok a s found.Nobody v t e = settle-ok a true s v t e
-departs-ok a s (found.Refused r) v t e = settle-ok a true s v t e
 
 inside-ok : (a : State) (s : ℕ) (heard : Reading) (v : Node) → tracked a ≡ true → v .state ≡ a → Ok a (insideSlot s heard v)
 unfolding insideSlot
 inside-ok a s heard v t e =
-    ways (Ok a) (missedReturn heard v) (leave-ok a MissedReturn v t e) (departs-ok a s (decidedOf (v .n) (v .k) (v .set) s) (marked s heard v) t e)
+    ways (Ok a) (readReturn heard v) (leave-ok a MissedReturn v t e) (departs-ok a s (decidedIn s v) (readMarked s heard v) t e)
 
 -- a follower may knock first
 outside-ok : (a : State) (s : ℕ) (heard : Reading) (v : Node) → tracked a ≡ true → v .state ≡ a → Ok a (outsideSlot s heard v)
@@ -158,20 +158,20 @@ outside-ok a s heard v t e =
     knocks true h =
         let is : a ≡ Following = sym e ∙ following (v .state) (both (isFollowing (v .state)) (eqb (v .returning) 0) h .0) in
         let w = withReturning Knocking (v .own) v in
-        ap₂ allowed is (settle-state false s w) ∙ knocked-ok (ltb (size (w .n) (w .set)) 2) (nothingHeard w) (w .«return_heard»)
+        ap₂ allowed is (settle-state false s w) ∙ knocked-ok (ltb (size (w .cable .n) (w .set)) 2) (nothingHeard w) (w .«return_heard»)
     knocks false h = settle-ok a false s v t e
 
-tracking-ok : (a : State) (s : ℕ) (heard : Reading) (v : Node) → tracked a ≡ true → v .state ≡ a → Ok a (trackingSlot s heard v)
+tracking-ok : (a : State) (s : ℕ) (heard : Reading) (v : Node) → tracked a ≡ true → v .state ≡ a → Ok a (slotByCases s heard v)
 unfolding slotByCases
-tracking-ok a s heard v t e = subst (Ok a) (sym (slot-by-cases s heard v)) (ways (Ok a) (has (v .set) s) (inside-ok a s heard v t e) (outside-ok a s heard v t e))
+tracking-ok a s heard v t e = ways (Ok a) (has (v .set) s) (inside-ok a s heard v t e) (outside-ok a s heard v t e)
 
 -- ---- any slot
 
-listening-ok : (s : ℕ) (heard : Reading) (v : Node) → v .state ≡ Listening → Ok Listening (listeningSlot s heard v)
-unfolding listeningSlot windowEnd
+listening-ok : (s : ℕ) (heard : Reading) (v : Node) → v .state ≡ Listening → Ok Listening (listeningBy s heard v)
+unfolding listeningBy goesOn windowEnd
 listening-ok s heard v e =
-    ways (Ok Listening) (ltb (overheard s heard (v .listening) .done) (v .n)) (ap (allowed Listening) e)
-    (ways (Ok Listening) (clean (v .n) (v .k) (overheard s heard (v .listening))) (ways (Ok Listening) (eqb (overheard s heard (v .listening) .last) (overheard s heard (v .listening) .heard)) refl refl) refl)
+    ways (Ok Listening) (ltb (overheard s heard (v .listening) .done) (v .cable .n)) (ap (allowed Listening) e)
+    (ways (Ok Listening) (clean (v .cable) (overheard s heard (v .listening))) (ways (Ok Listening) (eqb (overheard s heard (v .listening) .last) (overheard s heard (v .listening) .heard)) refl refl) refl)
 
 stays : (a : State) → allowed a a ≡ true
 stays Member = refl
@@ -181,10 +181,9 @@ stays Knocking = refl
 stays (Out cause) = refl
 
 slot-ok : (s : ℕ) (heard : Reading) (v : Node) → Ok (v .state) (afterSlot s heard v)
-unfolding afterSlot
-slot-ok s heard v = go (v .state) refl
+slot-ok s heard v = subst (Ok (v .state)) (sym (after-read s heard v)) (go (v .state) refl)
   where
-    go : (a : State) → v .state ≡ a → Ok a (slotIn a s (heardFrom s heard v) v)
+    go : (a : State) → v .state ≡ a → Ok a (readIn a s (heardFrom s heard v) v)
     go Member e = tracking-ok Member s (heardFrom s heard v) v refl e
     go Listening e = listening-ok s (heardFrom s heard v) v e
     go Following e = tracking-ok Following s (heardFrom s heard v) v refl e
@@ -194,7 +193,7 @@ slot-ok s heard v = go (v .state) refl
 step-ok : (heard : Reading) (v : Node) → Ok (v .state) (stepOf heard v .node)
 unfolding stepOf
 step-ok heard v =
-    ways P (sound v) (ways P (leb limit (v .slots)) (stays (v .state)) (slot-ok (sender (v .n) (v .slots + 1)) heard (counted v))) (stays (v .state))
+    ways P (sound v) (ways P (leb limit (v .slots)) (stays (v .state)) (slot-ok (sender (v .cable .n) (v .slots + 1)) heard (counted v))) (stays (v .state))
   where
     P : Stepped → Type 0
     P r = Ok (v .state) (r .node)

@@ -6,9 +6,9 @@ use mathlib.Core.Bool.{Bool, true, false, cond, _||_}
 use mathlib.Core.List.{[], _∷_}
 use lib.Dec.{eqb, leb, ltb}
 use lib.ListN.{length}
-use Rattle.refusal.specs.declared.Refusal.{Refusal}
 use Rattle.refusal.specs.Causes.{cause}
 use Rattle.nodeset.specs.Sets.{has, within, distance}
+use Rattle.ring.specs.declared.Cable.{Cable}
 use Rattle.ring.specs.Ring.{ringSize, sponsorCount, nodeNumber}
 use Rattle.message.specs.declared.Reading.{Reading}
 use Rattle.message.specs.declared.Reading.the-variants as reading
@@ -23,7 +23,7 @@ use Rattle.bench.specs.declared.Listed.{Listed}
 use Rattle.bench.specs.declared.Listed.the-variants as listed
 use Rattle.bench.specs.declared.Fate.{Fate}
 use Rattle.bench.specs.declared.Fate.the-variants as fate
-use Rattle.bench.specs.Table.{Table, recordOf, each, tableSound, ringOf, slotsOf, speaker}
+use Rattle.bench.specs.Table.{Table, recordOf, each, tableSound, nodeCount, slotsOf, speaker}
 
 -- The table after a call, and what is answered.
 pub record Called : Type 0 where
@@ -33,23 +33,23 @@ pub record Called : Type 0 where
 abbrev pub done : Table → Called
 done t = record { table = t; answer = Done }
 
--- What comes of a call where a test holds; where it does not, the refusal.
-abbrev pub ifPassed : Bool → Refusal → Table → Called → Called
-ifPassed true cause t called = called
-ifPassed false cause t called = record { table = t; answer = Refused cause }
+-- What comes of a call where a test holds; where it does not, the refusal with this number.
+abbrev pub ifPassed : Bool → ℕ → Table → Called → Called
+ifPassed true number t called = called
+ifPassed false number t called = record { table = t; answer = Refused (cause number) }
 
 -- ---- set-up: 1, 2 and 4
 
 -- "All start as members, set full, all marks on, returning 0."
-abbrev pub startTable : ℕ → ℕ → Table → Table
-startTable n k t = each (λ i v. starting n k i) t
+abbrev pub startTable : Cable → Table → Table
+startTable cable t = each (λ i v. starting cable i) t
 
-unfoldable pub setUpOf : ℕ → ℕ → Table → Called
-setUpOf n k t =
-    ifPassed (ringSize n) (cause 1) t
-    (ifPassed (sponsorCount n k) (cause 2) t
-    (ifPassed (eqb (length t) n) (cause 4) t
-    (done (startTable n k t))))
+unfoldable pub setUpOf : Cable → Table → Called
+setUpOf cable t =
+    ifPassed (ringSize (cable .n)) 1 t
+    (ifPassed (sponsorCount cable) 2 t
+    (ifPassed (eqb (length t) (cable .n)) 4 t
+    (done (startTable cable t))))
 
 -- ---- slot: 4, 3, 5 and 9
 
@@ -72,42 +72,42 @@ unfoldable pub heardBy : Bool → ℕ → Table → ℕ → Reading
 heardBy lost missed t i = cond (lost || has missed i) unheard (spoken t)
 
 -- Each record goes through the slot of the node call `step`.
-unfoldable pub afterSlot : Bool → ℕ → Table → Table
-afterSlot lost missed t = each (λ i v. node.stepOf (heardBy lost missed t i) v .node) t
+unfoldable pub tableAfterSlot : Bool → ℕ → Table → Table
+tableAfterSlot lost missed t = each (λ i v. node.stepOf (heardBy lost missed t i) v .node) t
 
 -- "A lent buffer of at least 64 bytes".
 unfoldable pub slotOf : Bool → ℕ → ℕ → Table → Called
 slotOf lost missed room t =
-    ifPassed (tableSound t) (cause 4) t
-    (ifPassed (within (ringOf t) missed) (cause 3) t
-    (ifPassed (ltb (slotsOf t) limit) (cause 5) t
-    (ifPassed (leb 64 room) (cause 9) t
-    (done (afterSlot lost missed t)))))
+    ifPassed (tableSound t) 4 t
+    (ifPassed (within (nodeCount t) missed) 3 t
+    (ifPassed (ltb (slotsOf t) limit) 5 t
+    (ifPassed (leb 64 room) 9 t
+    (done (tableAfterSlot lost missed t)))))
 
 -- ---- off: 4 and 3
 
-abbrev pub afterOff : ℕ → Table → Table
-afterOff a t = each (λ i v. cond (eqb i a) (node.offOf v .node) v) t
+abbrev pub tableAfterOff : ℕ → Table → Table
+tableAfterOff a t = each (λ i v. cond (eqb i a) (node.offOf v .node) v) t
 
 unfoldable pub offOf : ℕ → Table → Called
-offOf a t = ifPassed (tableSound t) (cause 4) t (ifPassed (nodeNumber (ringOf t) a) (cause 3) t (done (afterOff a t)))
+offOf a t = ifPassed (tableSound t) 4 t (ifPassed (nodeNumber (nodeCount t) a) 3 t (done (tableAfterOff a t)))
 
 -- ---- restart: 4, 3 and 11
 
-abbrev pub afterRestart : ℕ → Table → Table
-afterRestart a t = each (λ i v. cond (eqb i a) (node.restartOf v .node) v) t
+abbrev pub tableAfterRestart : ℕ → Table → Table
+tableAfterRestart a t = each (λ i v. cond (eqb i a) (node.restartOf v .node) v) t
 
 unfoldable pub restartOf : ℕ → Table → Called
 restartOf a t =
-    ifPassed (tableSound t) (cause 4) t
-    (ifPassed (nodeNumber (ringOf t) a) (cause 3) t
-    (ifPassed (isOut (recordOf t a .state)) (cause 11) t
-    (done (afterRestart a t))))
+    ifPassed (tableSound t) 4 t
+    (ifPassed (nodeNumber (nodeCount t) a) 3 t
+    (ifPassed (isOut (recordOf t a .state)) 11 t
+    (done (tableAfterRestart a t))))
 
 -- ---- a look: 4
 
 unfoldable pub lookOf : Table → Called
-lookOf t = ifPassed (tableSound t) (cause 4) t (done t)
+lookOf t = ifPassed (tableSound t) 4 t (done t)
 
 -- ---- what is told of a table
 

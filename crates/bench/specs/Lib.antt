@@ -3,5 +3,3 @@ pub mod Calls
 pub mod Pairs
 pub mod Outcomes
 pub mod Runs
-pub mod Demand
-pub mod Told

@@ -4,6 +4,7 @@ use mathlib.Core.Path.{_≡_}
 use mathlib.Core.Bool.{Bool}
 use mathlib.Core.List.{List}
 use lib.ListN.{length}
+use Rattle.ring.specs.Ring.{cableOf}
 use Rattle.node.specs.declared.Answer.{Answer}
 use Rattle.node.specs.declared.Answer.the-variants as answer
 use Rattle.bench.specs.declared.Command.{Command}
@@ -11,13 +12,13 @@ use Rattle.bench.specs.declared.Command.the-variants as command
 use Rattle.bench.specs.declared.Outcome.{Outcome}
 use Rattle.bench.specs.declared.Outcome.the-variants as outcome
 use Rattle.bench.specs.declared.Reply.{Reply}
-use Rattle.bench.specs.Table.{Table, ringOf, slotsOf, speaker}
+use Rattle.bench.specs.Table.{Table, nodeCount, slotsOf, speaker}
 use Rattle.bench.specs.Calls.{Called, setUpOf, slotOf, offOf, restartOf, lookOf, listIn, greatest, fateOf}
 use Rattle.bench.specs.Pairs.{pairsTold, SlotBytes}
 
 -- The call that a command asks for, where so many bytes are lent for the pairs.
 abbrev pub calledOf : Command → ℕ → Table → Called
-calledOf (command.SetUp n k) room t = setUpOf n k t
+calledOf (command.SetUp n k) room t = setUpOf (cableOf n k) t
 calledOf (command.Off a) room t = offOf a t
 calledOf (command.Restart a) room t = restartOf a t
 calledOf (command.Slot lost missed) room t = slotOf lost missed room t
@@ -29,7 +30,7 @@ calledOf (command.Look lost) room t = lookOf t
 -- those of the table before the slot, the others those of the table after it.
 abbrev pub slotOutcome : Bool → Table → Table → Answer → Outcome
 slotOutcome lost before after answer.Done =
-    outcome.Slot (slotsOf after) (speaker before) (fateOf lost before) (listIn after) (greatest (ringOf after) after)
+    outcome.Slot (slotsOf after) (speaker before) (fateOf lost before) (listIn after) (greatest (nodeCount after) after)
 slotOutcome lost before after (answer.Refused cause) = outcome.Refused cause
 
 -- "`off a` and `on a` switch or restart a node, no slot": nothing is printed of them, and nothing of line one.

@@ -12,7 +12,7 @@ use Rattle.node_record.specs.declared.State.{State}
 use Rattle.node_record.specs.States.{isMember, isListening, isFollowing, isKnocking, isOut}
 use Rattle.node.specs.declared.Answer.{Answer}
 use Rattle.node.specs.declared.Answer.the-variants as answer
-use Rattle.bench.specs.Table.{Table, recordOf, ringOf}
+use Rattle.bench.specs.Table.{Table, recordOf, nodeCount}
 use Rattle.bench.specs.Calls.{Called}
 
 -- One of the states "member, listening, following, knocking, out" twice.
@@ -38,22 +38,22 @@ kindFrom a b =
 -- Node x, in a table before a slot and in the one after it: did its state change, and how?
 unfoldable pub isChanged : Table → Table → ℕ → Bool
 isChanged before after x =
-    nodeNumber (ringOf before) x && not (sameState (recordOf before x .state) (recordOf after x .state))
+    nodeNumber (nodeCount before) x && not (sameState (recordOf before x .state) (recordOf after x .state))
 
 unfoldable pub kindOf : Table → Table → ℕ → ℕ
 kindOf before after x = kindFrom (recordOf before x .state) (recordOf after x .state)
 
 -- How many nodes changed their states.
 unfoldable pub changeCount : Table → Table → ℕ
-changeCount before after = sum (λ x. num (isChanged before after x)) 1 (ringOf before)
+changeCount before after = sum (λ x. num (isChanged before after x)) 1 (nodeCount before)
 
 -- A pair, and the bytes of pairs.
 abbrev pub Pair : Type 0
 Pair = ℕ × ℕ
 
-unfoldable pub bytesOf : List Pair → List ℕ
-bytesOf [] = []
-bytesOf (p ∷ ps) = p .0 ∷ p .1 ∷ bytesOf ps
+unfoldable pub pairBytes : List Pair → List ℕ
+pairBytes [] = []
+pairBytes (p ∷ ps) = p .0 ∷ p .1 ∷ pairBytes ps
 
 -- How often a pair stands among pairs.
 unfoldable pub times : Pair → List Pair → ℕ
@@ -70,7 +70,7 @@ pub record Reported (before after : Table) (out written : List ℕ) : Type 0 whe
   pub pairs : List Pair
   pub tells : Tells before after pairs
   pub number : length pairs ≡ changeCount before after
-  pub bytes : written ≡ bytesOf pairs ++ drop (2 * changeCount before after) out
+  pub bytes : written ≡ pairBytes pairs ++ drop (2 * changeCount before after) out
 
 -- "The number of pairs is returned": none are told of a slot that is refused.
 abbrev pub pairsTold : Table → Called → ℕ

@@ -11,7 +11,7 @@ use Rattle.node.specs.declared.Answer.{Answer}
 use Rattle.node.specs.declared.Answer.the-variants.{Done, Refused}
 use Rattle.bench.specs.declared.Listed.{Listed}
 use Rattle.bench.specs.declared.Listed.the-variants as listed
-use Rattle.bench.specs.Table.{Table, recordOf, ringOf, slotsOf, speaker}
+use Rattle.bench.specs.Table.{Table, recordOf, nodeCount, slotsOf, speaker}
 use Rattle.bench.specs.Calls.{Called, slotOf, offOf, restartOf, transmits, listIn}
 
 -- "Demand 3's calls are the bench's slot, off and restart, with any arguments".
@@ -25,12 +25,7 @@ callOf (slot lost missed room) t = slotOf lost missed room t
 callOf (off a) t = offOf a t
 callOf (restart a) t = restartOf a t
 
--- "The first gets the table that set-up leaves (the common start), each later one the table as the last call left it".
-unfoldable pub tableAfter : Table → List Call → Table
-tableAfter start [] = start
-tableAfter start (c ∷ cs) = callOf c (tableAfter start cs) .table
-
--- ---- slots
+-- ---- what a slot is
 
 abbrev pub isDone : Answer → Bool
 isDone Done = true
@@ -62,7 +57,7 @@ misses lost missed t i =
 -- "A failure is: a lost message; one member-state node missing a message sent and not lost; a slot of a listed node in which nothing is sent".
 unfoldable pub failuresIn : Bool → ℕ → Table → ℕ
 failuresIn lost missed t =
-    cond (transmits t) (cond lost 1 (sum (λ i. num (misses lost missed t i)) 1 (ringOf t))) (num (isListed t))
+    cond (transmits t) (cond lost 1 (sum (λ i. num (misses lost missed t i)) 1 (nodeCount t))) (num (isListed t))
 
 -- What a slot was.
 pub record Entry : Type 0 where
@@ -88,10 +83,16 @@ newEntry (slot lost missed room) t = entryOf lost missed t
 newEntry (off a) t = noEntry
 newEntry (restart a) t = noEntry
 
--- The entry of slot u in a sequence of calls.
-unfoldable pub entry : Table → List Call → ℕ → Entry
-entry start [] u = noEntry
-entry start (c ∷ cs) u =
-    cond (isSlot c (tableAfter start cs) && eqb u (slotsOf (tableAfter start cs) + 1))
-    (newEntry c (tableAfter start cs))
-    (entry start cs u)
+-- ---- a sequence of calls
+
+module _ (start : Table) where
+  -- "The first gets the table that set-up leaves (the common start), each later one the table as the last call left it".
+  unfoldable pub tableAfter : List Call → Table
+  tableAfter [] = start
+  tableAfter (c ∷ cs) = callOf c (tableAfter cs) .table
+
+  -- What slot u was.
+  unfoldable pub entry : List Call → ℕ → Entry
+  entry [] u = noEntry
+  entry (c ∷ cs) u =
+      cond (isSlot c (tableAfter cs) && eqb u (slotsOf (tableAfter cs) + 1)) (newEntry c (tableAfter cs)) (entry cs u)

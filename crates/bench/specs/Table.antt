@@ -4,7 +4,8 @@ use mathlib.Core.Bool.{Bool, true, false, _&&_}
 use mathlib.Core.List.{List, [], _∷_}
 use lib.Dec.{eqb}
 use lib.ListN.{length, getD}
-use Rattle.ring.specs.Ring.{sender}
+use Rattle.ring.specs.declared.Cable.{Cable}
+use Rattle.ring.specs.Ring.{sameCable, sender}
 use Rattle.node_record.specs.declared.Node.{Node}
 use Rattle.node_record.specs.Soundness.{sound}
 use Rattle.node.specs.Calls.{noNode}
@@ -26,27 +27,28 @@ each f t = eachFrom f 1 t
 
 -- ---- a table that is not refused by 4
 
--- A sound record at place i of a table of n nodes with k sponsors after so many slots.
-abbrev pub inPlace : ℕ → ℕ → ℕ → ℕ → Node → Bool
-inPlace n k slots i v = sound v && (eqb (v .n) n && (eqb (v .k) k && (eqb (v .slots) slots && eqb (v .own) i)))
+-- A sound record at place i of a table on this cable after so many slots.
+abbrev pub inPlace : Cable → ℕ → ℕ → Node → Bool
+inPlace cable slots i v = sound v && (sameCable (v .cable) cable && (eqb (v .slots) slots && eqb (v .own) i))
 
-unfoldable pub placedFrom : ℕ → ℕ → ℕ → ℕ → Table → Bool
-placedFrom n k slots i [] = true
-placedFrom n k slots i (v ∷ t) = inPlace n k slots i v && placedFrom n k slots (suc i) t
+unfoldable pub placedFrom : Cable → ℕ → ℕ → Table → Bool
+placedFrom cable slots i [] = true
+placedFrom cable slots i (v ∷ t) = inPlace cable slots i v && placedFrom cable slots (suc i) t
 
--- "One per node", and n, k and slot count are those of the first record.
+-- "One per node", and cable and slot count are those of the first record.
 unfoldable pub tableSound : Table → Bool
 tableSound [] = false
-tableSound (v ∷ t) = eqb (v .n) (suc (length t)) && placedFrom (v .n) (v .k) (v .slots) 1 (v ∷ t)
+tableSound (v ∷ t) = eqb (v .cable .n) (suc (length t)) && placedFrom (v .cable) (v .slots) 1 (v ∷ t)
 
 -- ---- what a sound table says of the next slot
 
-abbrev pub ringOf : Table → ℕ
-ringOf t = length t
+-- n: "one per node".
+abbrev pub nodeCount : Table → ℕ
+nodeCount t = length t
 
 unfoldable pub slotsOf : Table → ℕ
 slotsOf t = recordOf t 1 .slots
 
 -- The next slot's sender.
 unfoldable pub speaker : Table → ℕ
-speaker t = sender (ringOf t) (slotsOf t + 1)
+speaker t = sender (nodeCount t) (slotsOf t + 1)

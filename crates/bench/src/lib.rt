@@ -1,6 +1,6 @@
 // What the calls of the bench are asked and what they answer (document 01, "The bench"); what each
-// call does is specs/Calls, specs/Pairs and specs/Outcomes, and demand 3 specs/Demand. The code is in
-// `bench_calls`.
+// call does is specs/Calls, specs/Pairs and specs/Outcomes, and sequences of calls are specs/Runs. The
+// code is in `bench_calls`.
 use refusal::Refusal;
 
 // A call over the table: set-up with n and k; off and restart of a node; a slot, whose message is

@@ -15,16 +15,15 @@ use Rattle.ring.specs.Ring.{ringSize, sender}
 use Rattle.ring.proofs.Senders.{sender-range}
 use Rattle.node_record.specs.declared.Node.{Node}
 use Rattle.node_record.specs.Soundness.{limit}
-use Rattle.node_steps.specs.Lessons.{lessonOf}
+use Rattle.node_steps.specs.Digests.{digestOf}
 use Rattle.node.specs.Calls.{noNode}
 use Rattle.bench.specs.declared.Command.{Command}
 use Rattle.bench.specs.declared.Command.the-variants as command
 use Rattle.bench.specs.Table.{Table, recordOf, slotsOf, speaker, tableSound}
-use Rattle.bench.proofs.agreement.Places.{sound-placed}
 use Rattle.bench_walks.specs.declared.Order.{Order}
 use Rattle.bench_walks.specs.declared.Order.the-variants as order
 use Rattle.bench_walks.specs.Survey.{fineTable, membersOf, senderAfter, surveyOf}
-use Rattle.bench_walks.specs.Orders.{carriedFrom, fateBy, ifGood, notesOf, orderOf, reachOf, replyBy, saidBy, slotOrder, writtenBy}
+use Rattle.bench_walks.specs.Orders.{carriedFrom, fateBy, ifGood, notesOf, orderOf, reachOf, replyBy, spokenBy, slotOrder, writtenBy}
 use Rattle.bench_calls.proofs.Surveys.{fine-table, said, sender-after}
 use Rattle.bench_calls.proofs.Outcomes.{call-run}
 use Rattle.bench_by_value.specs.declared.Ran.{Ran}
@@ -66,7 +65,7 @@ slotBy lost missed fine n slots from v =
     ifGood fine Unsound
     (ifGood (within n missed) NodeNumber
     (ifGood (ltb slots limit) SlotLimit
-    (order.Slot (record { slot = slots + 1; sender = from; fate = fateBy lost v; heard = saidBy lost v; missed = missed; lesson = lessonOf from (saidBy lost v) v }))))
+    (order.Slot (record { slot = slots + 1; sender = from; fate = fateBy lost v; heard = spokenBy lost v; missed = missed; digest = digestOf from (spokenBy lost v) (v .cable) (v .set) }))))
 
 module _ (n : ℕ) (rows : Rows) (all : length rows ≡ 32) (sound : tableSound (tableOf n rows) ≡ true) where
   abbrev t : Table
@@ -90,8 +89,8 @@ module _ (n : ℕ) (rows : Rows) (all : length rows ≡ 32) (sound : tableSound 
   first-is : first ≡ recordOf t 1
   first-is = first-row 1 (omega arith) some
 
-  n-is : first .n ≡ length t
-  n-is = ap (λ (v : Node). v .n) first-is ∙ sound-placed t sound .at 1 (omega arith) some .n-is
+  n-is : first .cable .n ≡ length t
+  n-is = ap (λ (v : Node). v .cable .n) first-is ∙ said t sound .count
 
   slots-is : first .slots ≡ slotsOf t
   unfolding slotsOf
@@ -107,9 +106,9 @@ module _ (n : ℕ) (rows : Rows) (all : length rows ≡ 32) (sound : tableSound 
 
   fine : fineTable (glimpseOf rows) (min n 32) ≡ fineTable (surveyOf t) (length t)
   unfolding glimpseOf
-  fine = eq-eqb (first .n) (min n 32) (n-is ∙ sym (counted n rows all)) ∙ sym (fine-table t ∙ sound)
+  fine = eq-eqb (first .cable .n) (min n 32) (n-is ∙ sym (counted n rows all)) ∙ sym (fine-table t ∙ sound)
 
-  glimpsed-n : glimpseOf rows .n ≡ length t
+  glimpsed-n : glimpseOf rows .cable .n ≡ length t
   unfolding glimpseOf
   glimpsed-n = n-is
 
@@ -128,11 +127,11 @@ module _ (n : ℕ) (rows : Rows) (all : length rows ≡ 32) (sound : tableSound 
   slot-order : (lost : Bool) (missed : ℕ) → slotOrder lost missed 64 (glimpseOf rows) (min n 32) ≡ slotOrder lost missed 64 (surveyOf t) (length t)
   slot-order lost missed =
       let S = said t sound in
-      ap (λ (b : Bool). slotBy lost missed b (glimpseOf rows .n) (glimpseOf rows .slots) (glimpseOf rows .sender) (glimpseOf rows .speaker)) fine
+      ap (λ (b : Bool). slotBy lost missed b (glimpseOf rows .cable .n) (glimpseOf rows .slots) (glimpseOf rows .sender) (glimpseOf rows .speaker)) fine
       ∙ ap (λ (m : ℕ). slotBy lost missed (fineTable (surveyOf t) (length t)) m (glimpseOf rows .slots) (glimpseOf rows .sender) (glimpseOf rows .speaker)) (glimpsed-n ∙ sym (S .n))
-      ∙ ap (λ (m : ℕ). slotBy lost missed (fineTable (surveyOf t) (length t)) (surveyOf t .n) m (glimpseOf rows .sender) (glimpseOf rows .speaker)) (glimpsed-slots ∙ sym (S .slots))
-      ∙ ap (λ (m : ℕ). slotBy lost missed (fineTable (surveyOf t) (length t)) (surveyOf t .n) (surveyOf t .slots) m (glimpseOf rows .speaker)) (glimpsed-sender ∙ sym (S .sender))
-      ∙ ap (slotBy lost missed (fineTable (surveyOf t) (length t)) (surveyOf t .n) (surveyOf t .slots) (surveyOf t .sender)) (glimpsed-speaker ∙ sym (S .spoken))
+      ∙ ap (λ (m : ℕ). slotBy lost missed (fineTable (surveyOf t) (length t)) (surveyOf t .cable .n) m (glimpseOf rows .sender) (glimpseOf rows .speaker)) (glimpsed-slots ∙ sym (S .slots))
+      ∙ ap (λ (m : ℕ). slotBy lost missed (fineTable (surveyOf t) (length t)) (surveyOf t .cable .n) (surveyOf t .slots) m (glimpseOf rows .speaker)) (glimpsed-sender ∙ sym (S .sender))
+      ∙ ap (slotBy lost missed (fineTable (surveyOf t) (length t)) (surveyOf t .cable .n) (surveyOf t .slots) (surveyOf t .sender)) (glimpsed-speaker ∙ sym (S .spoken))
 
   -- The slot that takes the table as it is is the bench's.
   pub slot-is : (lost : Bool) (missed : ℕ) → slotOn n lost missed rows ≡ callOf n (command.Slot lost missed) 64 rows

@@ -34,7 +34,7 @@ rowOf rows x = getD rows (rowPlace x) noNode
 
 -- What a look over the table finds that a slot needs.
 abbrev pub withSpeaker : Survey → Node → Survey
-withSpeaker s v = record { fine = s .fine; n = s .n; k = s .k; slots = s .slots; sender = s .sender; speaker = v; out = s .out }
+withSpeaker s v = record { fine = s .fine; cable = s .cable; slots = s .slots; sender = s .sender; speaker = v; out = s .out }
 
 unfoldable pub glimpseOf : Rows → Survey
 glimpseOf rows = let s = begun true (rowOf rows 1) in withSpeaker s (rowOf rows (s .sender))

@@ -1,4 +1,4 @@
--- What each call leaves and answers (bench's specs/Outcomes) is what its order leaves and what is noted of it (bench_walks' specs/Orders). Of a slot and of a look: what was noted is the list of the
+-- What each call leaves and answers (bench's specs/Outcomes) is what its order leaves and what is withPair of it (bench_walks' specs/Orders). Of a slot and of a look: what was withPair is the list of the
 -- table afterwards, and where all members hold that list the greatest distance is 0, so that only other tables are looked through for it. Assumes nothing.
 use Prim.Native.Nat.{ℕ, suc, _+_, _≤_, max, min}
 use mathlib.Core.Path.{_≡_, refl, sym, ap, ap₂, subst, _∙_}
@@ -15,7 +15,7 @@ use Rattle.nodeset.specs.Sets.{has, within, distance}
 use Rattle.nodeset.specs.Sums.{num}
 use Rattle.nodeset.proofs.Tests.{by-cases, both, all, chosen, otherwise}
 use Rattle.nodeset.proofs.Counts.{distance-same}
-use Rattle.ring.specs.Ring.{ringSize, sponsorCount, nodeNumber}
+use Rattle.ring.specs.Ring.{cableOf, ringSize, sponsorCount, nodeNumber}
 use Rattle.ring.proofs.Ranges.{ring-size}
 use Rattle.node_record.specs.declared.Node.{Node}
 use Rattle.node_record.specs.States.{isMember}
@@ -31,25 +31,25 @@ use Rattle.bench.specs.declared.Reply.{Reply}
 use Rattle.bench_walks.specs.declared.Order.{Order}
 use Rattle.bench_walks.specs.declared.Order.the-variants as order
 use Rattle.bench_walks.specs.declared.Survey.{Survey}
-use Rattle.bench_walks.specs.declared.Sight.{Sight}
+use Rattle.bench_walks.specs.declared.Lists.{Lists}
 use Rattle.bench_walks.specs.declared.Notes.{Notes}
 use Rattle.bench_walks.specs.declared.Members.{Members}
 use Rattle.bench.specs.Table.{Table, recordOf, eachFrom, tableSound, slotsOf, speaker}
-use Rattle.bench.specs.Calls.{listIn, farthest, greatest, fateOf, transmits, afterSlot}
+use Rattle.bench.specs.Calls.{listIn, farthest, greatest, fateOf, transmits, tableAfterSlot}
 use Rattle.bench.specs.Runs.{slot, callOf, isSlot}
 use Rattle.bench.specs.Outcomes.{Ended, slotOutcome, quietOutcome, outcomeOf, endedBy, endedOf, BytesAfter}
-use Rattle.bench.proofs.agreement.Places.{Placed, sound-placed, placed-sound, slots-of-placed}
-use Rattle.bench.proofs.agreement.Accepted.{is-slot, slot-done}
-use Rattle.bench.proofs.agreement.Runs.{placed-call}
+use Rattle.bench.proofs.Places.{Placed, sound-placed, placed-sound, slots-of-placed}
+use Rattle.bench.proofs.Accepted.{is-slot, slot-done}
+use Rattle.bench.proofs.Runs.{placed-call}
 use Rattle.bench_walks.specs.Survey.{foldFrom, surveyOf, fineTable, noMembers, membersOf}
-use Rattle.bench_walks.specs.Orders.{ifGood, fateBy, turnOf, orderOf, orderFor, carried, carriedFrom, listWith, sameWith, sighted, noSight, noticed, noNotes, noticedFrom, notesOf, answerTo, reachOf, outcomeBy, replyBy, writtenBy}
+use Rattle.bench_walks.specs.Orders.{ifGood, fateBy, turnOf, orderOf, orderFor, carried, carriedFrom, listWith, sameWith, listsWith, noLists, noticed, noNotes, noticedFrom, notesOf, answerTo, reachOf, outcomeBy, replyBy, writtenBy}
 use Rattle.bench_walks.proofs.Partly.{take-least}
 use Rattle.bench_calls.proofs.Surveys.{fine-table, said}
 use Rattle.bench_calls.proofs.Works.{calledBy, slot-table, look-table, called-by}
 use Rattle.bench_calls.proofs.Readings.{of-sound}
 use Rattle.bench_calls.proofs.Reports.{pairs-told, bytes-told}
 
--- ---- the list that is noted
+-- ---- the list that is withPair
 
 abbrev list-after : Listed → Table → Listed
 list-after l [] = l
@@ -67,20 +67,20 @@ list-found (v ∷ t) =
     (λ e. ap (λ (l : Listed). list-after l t) (chosen (listed.Set (v .set)) listed.Nobody e) ∙ list-stays (v .set) t ∙ sym (chosen (listed.Set (v .set)) (listIn t) e))
     (λ e. ap (λ (l : Listed). list-after l t) (otherwise (listed.Set (v .set)) listed.Nobody e) ∙ list-found t ∙ sym (otherwise (listed.Set (v .set)) (listIn t) e))
 
-abbrev sightFrom : Sight → Table → Sight
+abbrev sightFrom : Lists → Table → Lists
 sightFrom s [] = s
-sightFrom s (v ∷ t) = sightFrom (sighted s v) t
+sightFrom s (v ∷ t) = sightFrom (listsWith s v) t
 
 -- the notes' part of it, over the records after the order
-sight-part : (o : Order) (m : Notes) (i : ℕ) (t : Table) → noticedFrom o m i t .sight ≡ sightFrom (m .sight) (eachFrom (carried o) i t)
+sight-part : (o : Order) (m : Notes) (i : ℕ) (t : Table) → noticedFrom o m i t .lists ≡ sightFrom (m .lists) (eachFrom (carried o) i t)
 unfolding foldFrom noticed eachFrom
 sight-part o m i [] = refl
 sight-part o m i (v ∷ t) = sight-part o (noticed m v (carried o i v)) (suc i) t
 
-sight-list : (s : Sight) (t : Table) → sightFrom s t .list ≡ list-after (s .list) t
-unfolding sighted
+sight-list : (s : Lists) (t : Table) → sightFrom s t .list ≡ list-after (s .list) t
+unfolding listsWith
 sight-list s [] = refl
-sight-list s (v ∷ t) = sight-list (sighted s v) t
+sight-list s (v ∷ t) = sight-list (listsWith s v) t
 
 -- ---- whether all members hold it
 
@@ -89,7 +89,7 @@ holds x [] = true
 holds x (v ∷ t) = sameWith (listed.Set x) v && holds x t
 
 same-held : (b : Bool) (x : ℕ) (t : Table) → sightFrom (record { list = listed.Set x; same = b }) t .same ≡ (b && holds x t)
-unfolding sighted
+unfolding listsWith
 same-held b x [] = sym (and-comm b true)
 same-held b x (v ∷ t) = same-held (b && sameWith (listed.Set x) v) x t ∙ and-assoc b (sameWith (listed.Set x) v) (holds x t)
 
@@ -119,12 +119,12 @@ held-greatest n x (v ∷ t) e =
     go true e far = ap (λ (y : ℕ). farthest n y t) (sym (eqb-true x (v .set) e)) ∙ far
     go false e far = refl
 
-same-none : (n : ℕ) (t : Table) → sightFrom noSight t .same ≡ true → greatest n t ≡ 0
-unfolding greatest sighted
+same-none : (n : ℕ) (t : Table) → sightFrom noLists t .same ≡ true → greatest n t ≡ 0
+unfolding greatest listsWith
 same-none n [] e = refl
 same-none n (v ∷ t) e = go (isMember (v .state)) (same-none n t) e
   where
-    go : (b : Bool) → (sightFrom noSight t .same ≡ true → greatest n t ≡ 0) → sightFrom (record { list = cond b (listed.Set (v .set)) listed.Nobody; same = true }) t .same ≡ true → max (cond b (farthest n (v .set) t) 0) (greatest n t) ≡ 0
+    go : (b : Bool) → (sightFrom noLists t .same ≡ true → greatest n t ≡ 0) → sightFrom (record { list = cond b (listed.Set (v .set)) listed.Nobody; same = true }) t .same ≡ true → max (cond b (farthest n (v .set) t) 0) (greatest n t) ≡ 0
     go true ih e = let h = sym (same-held true (v .set) t) ∙ e in ap₂ max (held-far n (v .set) t h) (held-greatest n (v .set) t h)
     go false ih e = ap (max 0) (ih e)
 
@@ -150,15 +150,15 @@ reached true u ok h = no-members u ∙ sym (h refl)
 reached false u ok h = ap (λ (w : Table). membersOf w .greatest) (all-taken u ok) ∙ of-sound u ok
 
 module _ (o : Order) (t : Table) where
-  seen-is : notesOf o t .sight ≡ sightFrom noSight (carriedFrom o 0 t)
+  seen-is : notesOf o t .lists ≡ sightFrom noLists (carriedFrom o 0 t)
   unfolding notesOf noNotes
   seen-is = sight-part o noNotes 0 t
 
-  list-is : notesOf o t .sight .list ≡ listIn (carriedFrom o 0 t)
-  list-is = ap (λ (s : Sight). s .list) seen-is ∙ sight-list noSight (carriedFrom o 0 t) ∙ list-found (carriedFrom o 0 t)
+  list-is : notesOf o t .lists .list ≡ listIn (carriedFrom o 0 t)
+  list-is = ap (λ (s : Lists). s .list) seen-is ∙ sight-list noLists (carriedFrom o 0 t) ∙ list-found (carriedFrom o 0 t)
 
   apart-is : tableSound (carriedFrom o 0 t) ≡ true → apartBy o t ≡ greatest (length (carriedFrom o 0 t)) (carriedFrom o 0 t)
-  apart-is ok = reached (notesOf o t .sight .same) (carriedFrom o 0 t) ok (λ e. same-none (length (carriedFrom o 0 t)) (carriedFrom o 0 t) (sym (ap (λ (s : Sight). s .same) seen-is) ∙ e))
+  apart-is ok = reached (notesOf o t .lists .same) (carriedFrom o 0 t) ok (λ e. same-none (length (carriedFrom o 0 t)) (carriedFrom o 0 t) (sym (ap (λ (s : Lists). s .same) seen-is) ∙ e))
 
 fate-read : (lost : Bool) (t : Table) → fateBy lost (recordOf t (speaker t)) ≡ fateOf lost t
 unfolding fateOf transmits
@@ -172,7 +172,7 @@ figures {a} {a′} {b} {b′} {e} {e′} {f} {f′} {l} {l′} p q r s u =
 -- ---- a slot, refused or not
 
 abbrev Ends : Bool → Table → Order → Type 0
-Ends lost t o = outcomeBy o (notesOf o t .sight .list) (apartBy o t) ≡ slotOutcome lost t (carriedFrom o 0 t) (answerTo o)
+Ends lost t o = outcomeBy o (notesOf o t .lists .list) (apartBy o t) ≡ slotOutcome lost t (carriedFrom o 0 t) (answerTo o)
 
 ends-if : (lost : Bool) (t : Table) (b : Bool) (cause : Refusal) (o : Order) → (b ≡ true → Ends lost t o) → Ends lost t (ifGood b cause o)
 ends-if lost t true cause o h = h refl
@@ -185,26 +185,26 @@ module _ (lost : Bool) (missed room : ℕ) (t : Table) (ok : tableSound t ≡ tr
   abbrev after : Table
   after = carriedFrom ran 0 t
 
-  table-is : after ≡ afterSlot lost missed t
+  table-is : after ≡ tableAfterSlot lost missed t
   table-is = slot-table lost missed t ok (ltb-true (slotsOf t) limit below)
 
   runs : isSlot (slot lost missed room) t ≡ true
   runs = is-slot lost missed room t ok ∙ all named (all below fits)
 
-  pos : 1 ≤ length t
-  pos = let r = ring-size (length t) (said t ok .ring) .0 in omega (arith, r)
+  pos : 1 ≤ recordOf t 1 .cable .n
+  pos = let r = ring-size (length t) (said t ok .ring) .0 in omega (arith, r, said t ok .count)
 
-  placed-after : Placed (length t) (recordOf t 1 .k) (slotsOf t + 1) after
+  placed-after : Placed (recordOf t 1 .cable) (slotsOf t + 1) after
   placed-after =
-      let p = placed-call (length t) (recordOf t 1 .k) (slotsOf t) t pos (sound-placed t ok) (slot lost missed room) in
-      subst (λ (u : Table). Placed (length t) (recordOf t 1 .k) (slotsOf t + 1) u) (slot-done lost missed room t runs ∙ sym table-is)
-      (subst (λ (b : Bool). Placed (length t) (recordOf t 1 .k) (slotsOf t + num b) (callOf (slot lost missed room) t .table)) runs p)
+      let p = placed-call (recordOf t 1 .cable) (slotsOf t) t pos (sound-placed t ok) (slot lost missed room) in
+      subst (λ (u : Table). Placed (recordOf t 1 .cable) (slotsOf t + 1) u) (slot-done lost missed room t runs ∙ sym table-is)
+      (subst (λ (b : Bool). Placed (recordOf t 1 .cable) (slotsOf t + num b) (callOf (slot lost missed room) t .table)) runs p)
 
   slot-ran : Ends lost t ran
   slot-ran =
       let s = said t ok in
-      figures (ap (λ (m : ℕ). m + 1) (s .slots) ∙ sym (slots-of-placed (length t) (recordOf t 1 .k) (slotsOf t + 1) after pos placed-after)) (s .sender)
-      (ap (fateBy lost) (s .spoken) ∙ fate-read lost t) (list-is ran t) (apart-is ran t (placed-sound (length t) (recordOf t 1 .k) (slotsOf t + 1) after pos placed-after))
+      figures (ap (λ (m : ℕ). m + 1) (s .slots) ∙ sym (slots-of-placed (recordOf t 1 .cable) (slotsOf t + 1) after pos placed-after)) (s .sender)
+      (ap (fateBy lost) (s .spoken) ∙ fate-read lost t) (list-is ran t) (apart-is ran t (placed-sound (recordOf t 1 .cable) (slotsOf t + 1) after pos placed-after))
 
 slot-ends : (lost : Bool) (missed room : ℕ) (t : Table) → Ends lost t (orderFor (command.Slot lost missed) room t)
 unfolding orderFor
@@ -212,7 +212,7 @@ slot-ends lost missed room t =
     ends-if lost t (fineTable (surveyOf t) (length t)) Unsound _ (λ fine.
     let ok = sym (fine-table t) ∙ fine in
     let s = said t ok in
-    ends-if lost t (within (surveyOf t .n) missed) NodeNumber _ (λ h.
+    ends-if lost t (within (surveyOf t .cable .n) missed) NodeNumber _ (λ h.
     ends-if lost t (ltb (surveyOf t .slots) limit) SlotLimit _ (λ l.
     ends-if lost t (leb 64 room) OutputShort (order.Slot (turnOf lost missed (surveyOf t))) (λ r.
     slot-ran lost missed room t ok (sym (ap (λ (m : ℕ). within m missed) (s .n)) ∙ h) (sym (ap (λ (m : ℕ). ltb m limit) (s .slots)) ∙ l) r))))
@@ -242,20 +242,20 @@ quiet-if false cause o h list apart = refl
 
 set-up-quiet : (n k room : ℕ) (t : Table) → Quiet (orderFor (command.SetUp n k) room t)
 unfolding orderFor
-set-up-quiet n k room t = quiet-if (ringSize n) RingSize _ (quiet-if (sponsorCount n k) SponsorCount _ (quiet-if (eqb (length t) n) Unsound (order.Start n k) (λ list apart. refl)))
+set-up-quiet n k room t = quiet-if (ringSize n) RingSize _ (quiet-if (sponsorCount (cableOf n k)) SponsorCount _ (quiet-if (eqb (length t) n) Unsound (order.Start n k) (λ list apart. refl)))
 
 off-quiet : (a room : ℕ) (t : Table) → Quiet (orderFor (command.Off a) room t)
 unfolding orderFor
-off-quiet a room t = quiet-if (fineTable (surveyOf t) (length t)) Unsound _ (quiet-if (nodeNumber (surveyOf t .n) a) NodeNumber (order.Off a) (λ list apart. refl))
+off-quiet a room t = quiet-if (fineTable (surveyOf t) (length t)) Unsound _ (quiet-if (nodeNumber (surveyOf t .cable .n) a) NodeNumber (order.Off a) (λ list apart. refl))
 
 restart-quiet : (a room : ℕ) (t : Table) → Quiet (orderFor (command.Restart a) room t)
 unfolding orderFor
 restart-quiet a room t =
-    quiet-if (fineTable (surveyOf t) (length t)) Unsound _ (quiet-if (nodeNumber (surveyOf t .n) a) NodeNumber _ (quiet-if (has (surveyOf t .out) a) NotOut (order.Restart a) (λ list apart. refl)))
+    quiet-if (fineTable (surveyOf t) (length t)) Unsound _ (quiet-if (nodeNumber (surveyOf t .cable .n) a) NodeNumber _ (quiet-if (has (surveyOf t .out) a) NotOut (order.Restart a) (λ list apart. refl)))
 
 -- ---- each call
 
-outcome-told : (c : Command) (room : ℕ) (t : Table) → let o = orderFor c room t in outcomeBy o (notesOf o t .sight .list) (apartBy o t) ≡ outcomeOf c t (calledBy o t)
+outcome-told : (c : Command) (room : ℕ) (t : Table) → let o = orderFor c room t in outcomeBy o (notesOf o t .lists .list) (apartBy o t) ≡ outcomeOf c t (calledBy o t)
 outcome-told (command.SetUp n k) room t = set-up-quiet n k room t _ _
 outcome-told (command.Off a) room t = off-quiet a room t _ _
 outcome-told (command.Restart a) room t = restart-quiet a room t _ _

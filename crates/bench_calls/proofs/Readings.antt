@@ -11,6 +11,7 @@ use lib.ListN.{length, getD, set, replicate, length-set, length-replicate}
 use borrow.Author.Tests.{lt-ltb}
 use Rattle.nodeset.specs.Sets.{distance}
 use Rattle.nodeset.proofs.Tests.{by-cases}
+use Rattle.ring.specs.declared.Cable.{Cable}
 use Rattle.ring.proofs.Ranges.{ring-size}
 use Rattle.node_record.specs.declared.Node.{Node}
 use Rattle.node_record.specs.States.{isMember}
@@ -87,19 +88,19 @@ pushed-max g f c t w =
 passed-max : (g c w : ℕ) → max g (max c w) ≡ max g (max (max 0 c) (max 0 w))
 passed-max g c w = omega arith
 
-one-record : (n : ℕ) (m : Members) (i : ℕ) (v : Node) (t : Table) → v .n ≡ n → m .count < 32 → length (m .sets) ≡ 32
+one-record : (n : ℕ) (m : Members) (i : ℕ) (v : Node) (t : Table) → v .cable .n ≡ n → m .count < 32 → length (m .sets) ≡ 32
     → ((m′ : Members) → m′ .count ≤ m .count + 1 → length (m′ .sets) ≡ 32 → Gathers n m′ (suc i) t) → Gathers n m i (v ∷ t)
 unfolding foldFrom greatest gathered
 one-record n m i v t e l h ih = by-cases (isMember (v .state)) member other
   where
     Goal : Bool → Type 0
-    Goal b = foldFrom gathered (cond (b && ltb (m .count) 32) (memberSeen (v .n) m (v .set)) m) (suc i) t .greatest
+    Goal b = foldFrom gathered (cond (b && ltb (m .count) 32) (memberSeen (v .cable .n) m (v .set)) m) (suc i) t .greatest
         ≡ max (m .greatest) (max (max (cond b (farFrom n (v .set) (m .sets) (m .count)) 0) (crossOf n (m .sets) (m .count) t)) (max (cond b (farthest n (v .set) t) 0) (greatest n t)))
 
     in-list : Goal true
     in-list =
-        ap (λ (b : Bool). foldFrom gathered (cond b (memberSeen (v .n) m (v .set)) m) (suc i) t .greatest) (lt-ltb (m .count) 32 l)
-        ∙ ih (memberSeen (v .n) m (v .set)) (omega arith) (length-set (m .sets) (m .count) (v .set) ∙ h)
+        ap (λ (b : Bool). foldFrom gathered (cond b (memberSeen (v .cable .n) m (v .set)) m) (suc i) t .greatest) (lt-ltb (m .count) 32 l)
+        ∙ ih (memberSeen (v .cable .n) m (v .set)) (omega arith) (length-set (m .sets) (m .count) (v .set) ∙ h)
         ∙ ap₂ (λ (k x : ℕ). max (max (m .greatest) (farFrom k (v .set) (m .sets) (m .count))) (max x (greatest n t))) e (cross-push n (m .count) (v .set) (m .sets) t (omega (arith, l, h)))
         ∙ pushed-max (m .greatest) (farFrom n (v .set) (m .sets) (m .count)) (crossOf n (m .sets) (m .count) t) (farthest n (v .set) t) (greatest n t)
 
@@ -114,22 +115,24 @@ one-record n m i v t e l h ih = by-cases (isMember (v .state)) member other
 
 -- ---- the whole table
 
-gathers : (n k slots : ℕ) (m : Members) (i : ℕ) (t : Table) → placedFrom n k slots (suc i) t ≡ true → m .count ≤ i → length (m .sets) ≡ 32 → i + length t ≤ 32 → Gathers n m i t
+gathers : (cable : Cable) (slots : ℕ) (m : Members) (i : ℕ) (t : Table) → placedFrom cable slots (suc i) t ≡ true → m .count ≤ i → length (m .sets) ≡ 32 → i + length t ≤ 32 → Gathers (cable .n) m i t
 unfolding foldFrom greatest
-gathers n k slots m i [] e l h r = omega arith
-gathers n k slots m i (v ∷ t) e l h r =
-    let p = placed n k slots (suc i) v t e in
-    one-record n m i v t (p .ring) (omega (arith, l, r)) h
-    (λ m′ l′ h′. gathers n k slots m′ (suc i) t (p .rest) (omega (arith, l, l′)) h′ (omega (arith, r)))
+gathers cable slots m i [] e l h r = omega arith
+gathers cable slots m i (v ∷ t) e l h r =
+    let p = placed cable slots (suc i) v t e in
+    one-record (cable .n) m i v t (ap (λ (c : Cable). c .n) (p .cable-of)) (omega (arith, l, r)) h
+    (λ m′ l′ h′. gathers cable slots m′ (suc i) t (p .rest) (omega (arith, l, l′)) h′ (omega (arith, r)))
 
-placed-distance : (n k slots : ℕ) (t : Table) → placedFrom n k slots 1 t ≡ true → length t ≤ 32 → membersOf t .greatest ≡ greatest n t
+placed-distance : (cable : Cable) (slots : ℕ) (t : Table) → placedFrom cable slots 1 t ≡ true → length t ≤ 32 → membersOf t .greatest ≡ greatest (cable .n) t
 unfolding membersOf noMembers
-placed-distance n k slots t e r =
-    gathers n k slots noMembers 0 t e (omega arith) (length-replicate {A = ℕ} 32 0) (omega (arith, r))
-    ∙ ap (λ (x : ℕ). max 0 (max x (greatest n t))) (cross-none n (replicate 32 0) t) ∙ least (greatest n t)
+placed-distance cable slots t e r =
+    gathers cable slots noMembers 0 t e (omega arith) (length-replicate {A = ℕ} 32 0) (omega (arith, r))
+    ∙ ap (λ (x : ℕ). max 0 (max x (greatest (cable .n) t))) (cross-none (cable .n) (replicate 32 0) t) ∙ least (greatest (cable .n) t)
   where
     least : (x : ℕ) → max 0 (max 0 x) ≡ x
     least x = omega arith
 
 pub of-sound : (t : Table) → tableSound t ≡ true → membersOf t .greatest ≡ greatest (length t) t
-of-sound t e = let s = said t e in placed-distance (length t) (recordOf t 1 .k) (slotsOf t) t (s .rows) (ring-size (length t) (s .ring) .1)
+of-sound t e =
+    let s = said t e in
+    placed-distance (recordOf t 1 .cable) (slotsOf t) t (s .rows) (ring-size (length t) (s .ring) .1) ∙ ap (λ (n : ℕ). greatest n t) (s .count)

@@ -15,7 +15,8 @@ use Rattle.nodeset.specs.Sets.{has, within}
 use Rattle.nodeset.specs.Sums.{sum, num}
 use Rattle.nodeset.proofs.Sums.{sum-none, sum-first, sum-same}
 use Rattle.nodeset.proofs.Tests.{by-cases, all, chosen, eqb-swap}
-use Rattle.ring.specs.Ring.{ringSize, sponsorCount, nodeNumber}
+use Rattle.ring.specs.declared.Cable.{Cable}
+use Rattle.ring.specs.Ring.{cableOf, ringSize, sponsorCount, nodeNumber}
 use Rattle.ring.proofs.Ranges.{ring-size, node-number}
 use Rattle.node_record.specs.declared.Node.{Node}
 use Rattle.node_record.specs.declared.State.{State}
@@ -25,14 +26,14 @@ use Rattle.bench.specs.declared.Command.{Command}
 use Rattle.bench.specs.declared.Command.the-variants as command
 use Rattle.bench_walks.specs.declared.Order.{Order}
 use Rattle.bench_walks.specs.declared.Order.the-variants as order
-use Rattle.bench_walks.specs.declared.Told.{Told}
+use Rattle.bench_walks.specs.declared.Pairs.{Pairs}
 use Rattle.bench_walks.specs.declared.Notes.{Notes}
 use Rattle.bench.specs.Table.{Table, recordOf, eachFrom, placedFrom, tableSound, slotsOf}
 use Rattle.bench.specs.Calls.{Called}
 use Rattle.bench.specs.Outcomes.{pairsOf, BytesAfter}
-use Rattle.bench.specs.Pairs.{sameState, kindFrom, isChanged, kindOf, changeCount, Pair, bytesOf, times, Tells, Reported, pairsTold, SlotBytes}
+use Rattle.bench.specs.Pairs.{sameState, kindFrom, isChanged, kindOf, changeCount, Pair, pairBytes, times, Tells, Reported, pairsTold, SlotBytes}
 use Rattle.bench_walks.specs.Survey.{foldFrom, surveyOf, fineTable}
-use Rattle.bench_walks.specs.Orders.{ifGood, fateBy, turnOf, orderFor, carried, pushed, noted, noPairs, noticed, noNotes, noticedFrom, notesOf, pairsBy, bytesTold, puts, writtenBy}
+use Rattle.bench_walks.specs.Orders.{ifGood, fateBy, turnOf, orderFor, carried, pushed, withPair, noPairs, noticed, noNotes, noticedFrom, notesOf, pairsBy, bytesTold, puts, writtenBy}
 use Rattle.bench_calls.proofs.Surveys.{placed, fine-table, said}
 use Rattle.bench_calls.proofs.Works.{calledBy, called-by}
 
@@ -85,51 +86,51 @@ few o i (v ∷ t) = go (few o (suc i) t) (same o i v)
     go h false = omega (arith, h)
 
 -- the notes' part of the pairs
-abbrev notedFrom : Order → Told → ℕ → Table → Told
-notedFrom o p i t = foldFrom (λ p i v. noted p v (carried o i v)) p i t
+abbrev notedFrom : Order → Pairs → ℕ → Table → Pairs
+notedFrom o p i t = foldFrom (λ p i v. withPair p v (carried o i v)) p i t
 
-told-part : (o : Order) (m : Notes) (i : ℕ) (t : Table) → noticedFrom o m i t .told ≡ notedFrom o (m .told) i t
+told-part : (o : Order) (m : Notes) (i : ℕ) (t : Table) → noticedFrom o m i t .pairs ≡ notedFrom o (m .pairs) i t
 unfolding foldFrom noticed
 told-part o m i [] = refl
 told-part o m i (v ∷ t) = told-part o (noticed m v (carried o i v)) (suc i) t
 
--- what is noted of the records from index i on
-pub record Noted (p r : Told) (ps : List Pair) : Type 0 where
+-- what is withPair of the records from index i on
+pub record Noted (p r : Pairs) (ps : List Pair) : Type 0 where
   pub count : r .count ≡ p .count + length ps
   pub size : length (r .bytes) ≡ 64
-  pub bytes : take (r .count * 2) (r .bytes) ≡ take (p .count * 2) (p .bytes) ++ bytesOf ps
+  pub bytes : take (r .count * 2) (r .bytes) ≡ take (p .count * 2) (p .bytes) ++ pairBytes ps
 
 double : (c : ℕ) → (c + 1) * 2 ≡ suc (suc (c * 2))
 double c = omega arith
 
-push-bytes : (p : Told) (x k : ℕ) → p .count < 32 → length (p .bytes) ≡ 64 → take (pushed p x k .count * 2) (pushed p x k .bytes) ≡ take (p .count * 2) (p .bytes) ++ (x ∷ k ∷ [])
+push-bytes : (p : Pairs) (x k : ℕ) → p .count < 32 → length (p .bytes) ≡ 64 → take (pushed p x k .count * 2) (pushed p x k .bytes) ≡ take (p .count * 2) (p .bytes) ++ (x ∷ k ∷ [])
 push-bytes p x k l h =
     ap₂ (λ (m j : ℕ). take m (set (set (p .bytes) (p .count * 2) x) j k)) (double (p .count)) (add-one (p .count * 2))
     ∙ stored (p .bytes) (p .count * 2) x k (omega (arith, l, h))
 
-push-size : (p : Told) (x k : ℕ) → length (p .bytes) ≡ 64 → length (pushed p x k .bytes) ≡ 64
+push-size : (p : Pairs) (x k : ℕ) → length (p .bytes) ≡ 64 → length (pushed p x k .bytes) ≡ 64
 push-size p x k h = length-set (set (p .bytes) (p .count * 2) x) (p .count * 2 + 1) k ∙ length-set (p .bytes) (p .count * 2) x ∙ h
 
-notes : (n k slots : ℕ) (o : Order) (p : Told) (i : ℕ) (t : Table) → placedFrom n k slots (suc i) t ≡ true → p .count ≤ i → i + length t ≤ 32 → length (p .bytes) ≡ 64
+notes : (cable : Cable) (slots : ℕ) (o : Order) (p : Pairs) (i : ℕ) (t : Table) → placedFrom cable slots (suc i) t ≡ true → p .count ≤ i → i + length t ≤ 32 → length (p .bytes) ≡ 64
     → Noted p (notedFrom o p i t) (changesOf o i t)
-unfolding foldFrom noted bytesOf
-notes n k slots o p i [] e l m h = record { count = omega arith; size = h; bytes = sym (append-nil (take (p .count * 2) (p .bytes))) }
-notes n k slots o p i (v ∷ t) e l m h =
-    let rest = placed n k slots (suc i) v t e .rest in
-    let ih : After = λ p′ l′ h′. notes n k slots o p′ (suc i) t rest l′ (omega (arith, m)) h′ in
+unfolding foldFrom withPair pairBytes
+notes cable slots o p i [] e l m h = record { count = omega arith; size = h; bytes = sym (append-nil (take (p .count * 2) (p .bytes))) }
+notes cable slots o p i (v ∷ t) e l m h =
+    let rest = placed cable slots (suc i) v t e .rest in
+    let ih : After = λ p′ l′ h′. notes cable slots o p′ (suc i) t rest l′ (omega (arith, m)) h′ in
     by-cases (same o i v) (λ b. subst Goal (sym b) (ih p (omega (arith, l)) h)) (λ b. subst Goal (sym b) (changes ih))
   where
-    q : Told
+    q : Pairs
     q = pushed p (v .own) (kind o i v)
 
     Goal : Bool → Type 0
     Goal b = Noted p (notedFrom o (cond b p (cond (ltb (p .count) 32 && leb (v .own) 32) q p)) (suc i) t) (cond b (changesOf o (suc i) t) ((v .own, kind o i v) ∷ changesOf o (suc i) t))
 
     own-is : v .own ≡ suc i
-    own-is = placed n k slots (suc i) v t e .own
+    own-is = placed cable slots (suc i) v t e .own
 
     After : Type 0
-    After = (p′ : Told) → p′ .count ≤ suc i → length (p′ .bytes) ≡ 64 → Noted p′ (notedFrom o p′ (suc i) t) (changesOf o (suc i) t)
+    After = (p′ : Pairs) → p′ .count ≤ suc i → length (p′ .bytes) ≡ 64 → Noted p′ (notedFrom o p′ (suc i) t) (changesOf o (suc i) t)
 
     test : (ltb (p .count) 32 && leb (v .own) 32) ≡ true
     test = all (lt-ltb (p .count) 32 (omega (arith, l, m))) (le-leb (v .own) 32 (omega (arith, own-is, m)))
@@ -138,8 +139,8 @@ notes n k slots o p i (v ∷ t) e l m h =
     with-it later = record {
       count = let c = later .count in omega (arith, c);
       size = later .size;
-      bytes = later .bytes ∙ ap (λ (x : List ℕ). x ++ bytesOf (changesOf o (suc i) t)) (push-bytes p (v .own) (kind o i v) (omega (arith, l, m)) h)
-          ∙ append-assoc (take (p .count * 2) (p .bytes)) (v .own ∷ kind o i v ∷ []) (bytesOf (changesOf o (suc i) t));
+      bytes = later .bytes ∙ ap (λ (x : List ℕ). x ++ pairBytes (changesOf o (suc i) t)) (push-bytes p (v .own) (kind o i v) (omega (arith, l, m)) h)
+          ∙ append-assoc (take (p .count * 2) (p .bytes)) (v .own ∷ kind o i v ∷ []) (pairBytes (changesOf o (suc i) t));
     }
 
     changes : After → Goal false
@@ -174,19 +175,19 @@ not-first x k o i v t h =
     none : (m : ℕ) → 0 + m ≡ m
     none m = omega arith
 
-module _ (n k slots : ℕ) (o : Order) where
-  low : (x c i : ℕ) (t : Table) → placedFrom n k slots (suc i) t ≡ true → x ≤ i → times (x, c) (changesOf o i t) ≡ 0
+module _ (cable : Cable) (slots : ℕ) (o : Order) where
+  low : (x c i : ℕ) (t : Table) → placedFrom cable slots (suc i) t ≡ true → x ≤ i → times (x, c) (changesOf o i t) ≡ 0
   unfolding times
   low x c i [] e l = refl
   low x c i (v ∷ t) e l =
-      let p = placed n k slots (suc i) v t e in
+      let p = placed cable slots (suc i) v t e in
       not-first x c o i v t (λ h. omega (arith, h, l, p .own)) ∙ low x c (suc i) t (p .rest) (omega (arith, l))
 
-  high : (x c i : ℕ) (t : Table) → placedFrom n k slots (suc i) t ≡ true → i + length t < x → times (x, c) (changesOf o i t) ≡ 0
+  high : (x c i : ℕ) (t : Table) → placedFrom cable slots (suc i) t ≡ true → i + length t < x → times (x, c) (changesOf o i t) ≡ 0
   unfolding times
   high x c i [] e l = refl
   high x c i (v ∷ t) e l =
-      let p = placed n k slots (suc i) v t e in
+      let p = placed cable slots (suc i) v t e in
       not-first x c o i v t (λ h. omega (arith, h, l, p .own)) ∙ high x c (suc i) t (p .rest) (omega (arith, l))
 
   -- the record of node x before and after
@@ -208,10 +209,10 @@ module _ (n k slots : ℕ) (o : Order) where
       let z : x - suc i ≡ suc (x - suc (suc i)) = omega (arith, e) in
       (ap (λ (j : ℕ). getD (v ∷ t) j noNode .state) z, ap (λ (j : ℕ). getD (carried o i v ∷ eachFrom (carried o) (suc i) t) j noNode .state) z)
 
-  mid : (x c i : ℕ) (t : Table) → placedFrom n k slots (suc i) t ≡ true → suc i ≤ x → x ≤ i + length t → times (x, c) (changesOf o i t) ≡ num (tells-of (was x i t) (is x i t) c)
+  mid : (x c i : ℕ) (t : Table) → placedFrom cable slots (suc i) t ≡ true → suc i ≤ x → x ≤ i + length t → times (x, c) (changesOf o i t) ≡ num (tells-of (was x i t) (is x i t) c)
   mid x c i [] e l m = absurd (let q : ⊥ = omega (arith, l, m) in q)
   mid x c i (v ∷ t) e l m =
-      let p = placed n k slots (suc i) v t e in
+      let p = placed cable slots (suc i) v t e in
       by-cases (eqb (v .own) x)
       (λ b. let own : v .own ≡ x = eqb-true (v .own) x b in
       let at = first-there x i v t (omega (arith, own, p .own)) in
@@ -252,35 +253,35 @@ module _ (n k slots : ℕ) (o : Order) where
 abbrev after : Order → Table → Table
 after o t = eachFrom (carried o) 0 t
 
-told-once : (n k slots : ℕ) (o : Order) (t : Table) → placedFrom n k slots 1 t ≡ true → Tells t (after o t) (changesOf o 0 t)
+told-once : (cable : Cable) (slots : ℕ) (o : Order) (t : Table) → placedFrom cable slots 1 t ≡ true → Tells t (after o t) (changesOf o 0 t)
 unfolding isChanged kindOf recordOf
-told-once n k slots o t e x c =
+told-once cable slots o t e x c =
     by-cases (nodeNumber (length t) x)
     (λ b. let r = node-number (length t) x b in
-    mid n k slots o x c 0 t e (r .0) (omega (arith, r .1))
-    ∙ sym (ap (λ (a : Bool). num ((a && not (sameState (was n k slots o x 0 t) (is n k slots o x 0 t))) && eqb c (kindFrom (was n k slots o x 0 t) (is n k slots o x 0 t)))) b))
+    mid cable slots o x c 0 t e (r .0) (omega (arith, r .1))
+    ∙ sym (ap (λ (a : Bool). num ((a && not (sameState (was cable slots o x 0 t) (is cable slots o x 0 t))) && eqb c (kindFrom (was cable slots o x 0 t) (is cable slots o x 0 t)))) b))
     (λ b. by-cases (leb 1 x)
-    (λ one. high n k slots o x c 0 t e (above one b)) (λ none. low n k slots o x c 0 t e (let z = leb-false 1 x none in omega (arith, z)))
-    ∙ sym (ap (λ (a : Bool). num ((a && not (sameState (was n k slots o x 0 t) (is n k slots o x 0 t))) && eqb c (kindFrom (was n k slots o x 0 t) (is n k slots o x 0 t)))) b))
+    (λ one. high cable slots o x c 0 t e (above one b)) (λ none. low cable slots o x c 0 t e (let z = leb-false 1 x none in omega (arith, z)))
+    ∙ sym (ap (λ (a : Bool). num ((a && not (sameState (was cable slots o x 0 t) (is cable slots o x 0 t))) && eqb c (kindFrom (was cable slots o x 0 t) (is cable slots o x 0 t)))) b))
   where
     above : leb 1 x ≡ true → nodeNumber (length t) x ≡ false → 0 + length t < x
     above one b = let z = leb-false x (length t) (sym (ap (λ (a : Bool). a && leb x (length t)) one) ∙ b) in omega (arith, z)
 
-told-count : (n k slots : ℕ) (o : Order) (t : Table) → length (changesOf o 0 t) ≡ changeCount t (after o t)
+told-count : (cable : Cable) (slots : ℕ) (o : Order) (t : Table) → length (changesOf o 0 t) ≡ changeCount t (after o t)
 unfolding changeCount isChanged recordOf
-told-count n k slots o t =
-    counted n k slots o 0 t
-    ∙ sum-same (differ n k slots o 0 t) (λ x. num (nodeNumber (length t) x && not (sameState (was n k slots o x 0 t) (is n k slots o x 0 t)))) 1 (length t) (λ u l m.
-    sym (ap (λ (a : Bool). num (a && not (sameState (was n k slots o u 0 t) (is n k slots o u 0 t)))) (all (le-leb 1 u l) (le-leb u (length t) (omega (arith, m))))))
+told-count cable slots o t =
+    counted cable slots o 0 t
+    ∙ sum-same (differ cable slots o 0 t) (λ x. num (nodeNumber (length t) x && not (sameState (was cable slots o x 0 t) (is cable slots o x 0 t)))) 1 (length t) (λ u l m.
+    sym (ap (λ (a : Bool). num (a && not (sameState (was cable slots o u 0 t) (is cable slots o u 0 t)))) (all (le-leb 1 u l) (le-leb u (length t) (omega (arith, m))))))
 
-abbrev noted-of : Order → Table → Told
-noted-of o t = notesOf o t .told
+abbrev noted-of : Order → Table → Pairs
+noted-of o t = notesOf o t .pairs
 
 noted-is : (o : Order) (t : Table) → noted-of o t ≡ notedFrom o noPairs 0 t
 unfolding notesOf noNotes
 noted-is o t = told-part o noNotes 0 t
 
-abbrev written : Told → List ℕ → List ℕ
+abbrev written : Pairs → List ℕ → List ℕ
 written p out = puts (p .bytes) (bytesTold (p .count) (length out)) out
 
 no-pairs-size : length (noPairs .bytes) ≡ 64
@@ -295,25 +296,25 @@ done-told : (o : Order) (t : Table) (out : List ℕ) → (tableSound t ≡ true)
 done-told o t out (sound, room) =
     let s = said t sound in
     let n = length t in
-    let k = recordOf t 1 .k in
+    let cable = recordOf t 1 .cable in
     let slots = slotsOf t in
     let most = ring-size n (s .ring) .1 in
-    let all-noted : Noted noPairs (noted-of o t) (changesOf o 0 t) = rw (noted-is o t) (notes n k slots o noPairs 0 t (s .rows) (omega (arith, no-pairs-count)) (omega (arith, most)) no-pairs-size) in
+    let all-noted : Noted noPairs (noted-of o t) (changesOf o 0 t) = rw (noted-is o t) (notes cable slots o noPairs 0 t (s .rows) (omega (arith, no-pairs-count)) (omega (arith, most)) no-pairs-size) in
     let ps = changesOf o 0 t in
     let r = noted-of o t in
     let count-is : r .count ≡ length ps = all-noted .count ∙ ap (λ (m : ℕ). m + length ps) no-pairs-count ∙ zero-plus (length ps) in
     let at-most : r .count ≤ 32 = let h = few o 0 t in omega (arith, h, most, count-is) in
     let test : (leb (r .count) 32 && leb 64 (length out)) ≡ true = all (le-leb (r .count) 32 at-most) (le-leb 64 (length out) room) in
     let end-is : cond (leb (r .count) 32 && leb 64 (length out)) (r .count * 2) 0 ≡ r .count * 2 = chosen (r .count * 2) 0 test in
-    let number : length ps ≡ changeCount t (after o t) = told-count n k slots o t in
+    let number : length ps ≡ changeCount t (after o t) = told-count cable slots o t in
     let twice : r .count * 2 ≡ 2 * changeCount t (after o t) = omega (arith, count-is, number) in (
       count-is ∙ number,
       record {
         pairs = ps;
-        tells = told-once n k slots o t (s .rows);
+        tells = told-once cable slots o t (s .rows);
         number = number;
         bytes = ap (λ (j : ℕ). puts (r .bytes) j out) end-is ∙ all-put (r .bytes) out (r .count * 2) (omega (arith, at-most, all-noted .size)) (omega (arith, at-most, room))
-            ∙ ap₂ _++_ (all-noted .bytes ∙ ap (λ (j : ℕ). take (j * 2) (noPairs .bytes) ++ bytesOf ps) no-pairs-count) (ap (λ (j : ℕ). drop j out) twice);
+            ∙ ap₂ _++_ (all-noted .bytes ∙ ap (λ (j : ℕ). take (j * 2) (noPairs .bytes) ++ pairBytes ps) no-pairs-count) (ap (λ (j : ℕ). drop j out) twice);
       },
     )
   where
@@ -328,13 +329,13 @@ SlotTold o t out = (pairsBy o (notesOf o t) ≡ pairsTold t (calledBy o t)) × S
 
 told-if : (b : Bool) (cause : Refusal) (o : Order) (t : Table) (out : List ℕ) → (b ≡ true → SlotTold o t out) → SlotTold (ifGood b cause o) t out
 told-if true cause o t out h = h refl
-told-if false cause o t out h = (refl, none-written (notesOf (order.Refuse cause) t .told .bytes) out)
+told-if false cause o t out h = (refl, none-written (notesOf (order.Refuse cause) t .pairs .bytes) out)
 
 pub slot-told : (lost : Bool) (missed : ℕ) (t : Table) (out : List ℕ) → SlotTold (orderFor (command.Slot lost missed) (length out) t) t out
 unfolding orderFor
 slot-told lost missed t out =
     told-if (fineTable (surveyOf t) (length t)) Unsound _ t out (λ ok.
-    told-if (within (surveyOf t .n) missed) NodeNumber _ t out (λ h.
+    told-if (within (surveyOf t .cable .n) missed) NodeNumber _ t out (λ h.
     told-if (ltb (surveyOf t .slots) limit) SlotLimit _ t out (λ l.
     told-if (leb 64 (length out)) OutputShort (order.Slot (turnOf lost missed (surveyOf t))) t out (λ r.
     done-told (order.Slot (turnOf lost missed (surveyOf t))) t out (sym (fine-table t) ∙ ok, leb-true 64 (length out) r)))))
@@ -351,20 +352,20 @@ silent-if false cause o h m = refl
 silent-written : (c : Command) (t : Table) (out : List ℕ) → let o = orderFor c (length out) t in Silent o → writtenBy o (notesOf o t) out ≡ out
 silent-written c t out h =
     let m = notesOf (orderFor c (length out) t) t in
-    ap (λ (k : ℕ). puts (m .told .bytes) (bytesTold k (length out)) out) (h m) ∙ none-written (m .told .bytes) out
+    ap (λ (k : ℕ). puts (m .pairs .bytes) (bytesTold k (length out)) out) (h m) ∙ none-written (m .pairs .bytes) out
 
 set-up-silent : (n k room : ℕ) (t : Table) → Silent (orderFor (command.SetUp n k) room t)
 unfolding orderFor
-set-up-silent n k room t = silent-if (ringSize n) RingSize _ (silent-if (sponsorCount n k) SponsorCount _ (silent-if (eqb (length t) n) Unsound (order.Start n k) (λ m. refl)))
+set-up-silent n k room t = silent-if (ringSize n) RingSize _ (silent-if (sponsorCount (cableOf n k)) SponsorCount _ (silent-if (eqb (length t) n) Unsound (order.Start n k) (λ m. refl)))
 
 off-silent : (a room : ℕ) (t : Table) → Silent (orderFor (command.Off a) room t)
 unfolding orderFor
-off-silent a room t = silent-if (fineTable (surveyOf t) (length t)) Unsound _ (silent-if (nodeNumber (surveyOf t .n) a) NodeNumber (order.Off a) (λ m. refl))
+off-silent a room t = silent-if (fineTable (surveyOf t) (length t)) Unsound _ (silent-if (nodeNumber (surveyOf t .cable .n) a) NodeNumber (order.Off a) (λ m. refl))
 
 restart-silent : (a room : ℕ) (t : Table) → Silent (orderFor (command.Restart a) room t)
 unfolding orderFor
 restart-silent a room t =
-    silent-if (fineTable (surveyOf t) (length t)) Unsound _ (silent-if (nodeNumber (surveyOf t .n) a) NodeNumber _ (silent-if (has (surveyOf t .out) a) NotOut (order.Restart a) (λ m. refl)))
+    silent-if (fineTable (surveyOf t) (length t)) Unsound _ (silent-if (nodeNumber (surveyOf t .cable .n) a) NodeNumber _ (silent-if (has (surveyOf t .out) a) NotOut (order.Restart a) (λ m. refl)))
 
 look-silent : (lost : Bool) (room : ℕ) (t : Table) → Silent (orderFor (command.Look lost) room t)
 unfolding orderFor

@@ -13,6 +13,7 @@ use Rattle.nodeset.specs.Sets.{has, with}
 use Rattle.nodeset.proofs.Tests.{by-cases, both, chosen, otherwise}
 use Rattle.nodeset.proofs.Bits.{has-none}
 use Rattle.nodeset.proofs.Laws.{has-with, has-with-other}
+use Rattle.ring.specs.declared.Cable.{Cable}
 use Rattle.ring.specs.Ring.{ringSize, nodeNumber, sender}
 use Rattle.ring.proofs.Ranges.{ring-size, node-number}
 use Rattle.ring.proofs.Senders.{sender-range}
@@ -23,7 +24,8 @@ use Rattle.node_record.proofs.Facts.{clauses}
 use Rattle.node.specs.Calls.{noNode}
 use Rattle.bench_walks.specs.declared.Survey.{Survey}
 use Rattle.bench.specs.Table.{Table, recordOf, inPlace, placedFrom, tableSound, slotsOf, speaker}
-use Rattle.bench_walks.specs.Survey.{foldFrom, numberOf, senderAfter, begun, outWith, seen, surveyed, unseen, surveyOf, fineTable}
+use Rattle.bench.proofs.Places.{in-place}
+use Rattle.bench_walks.specs.Survey.{foldFrom, nodeIn, senderAfter, begun, outWith, seen, surveyed, unseen, surveyOf, fineTable}
 
 -- ---- the first record begins the survey, and then each is only seen
 
@@ -46,18 +48,18 @@ survey-is v t = seen-later (seen (begun true v) 0 v) 0 t
 
 -- ---- the parts of the survey
 
-fine-is : (s : Survey) (i : ℕ) (t : Table) → foldFrom seen s i t .fine ≡ (s .fine && placedFrom (s .n) (s .k) (s .slots) (suc i) t)
+fine-is : (s : Survey) (i : ℕ) (t : Table) → foldFrom seen s i t .fine ≡ (s .fine && placedFrom (s .cable) (s .slots) (suc i) t)
 unfolding foldFrom placedFrom
 fine-is s i [] = sym (and-comm (s .fine) true)
 fine-is s i (v ∷ t) =
     fine-is (seen s i v) (suc i) t
-    ∙ ap (λ (j : ℕ). (s .fine && inPlace (s .n) (s .k) (s .slots) j v) && placedFrom (s .n) (s .k) (s .slots) (suc (suc i)) t) (add-one i)
-    ∙ and-assoc (s .fine) (inPlace (s .n) (s .k) (s .slots) (suc i) v) (placedFrom (s .n) (s .k) (s .slots) (suc (suc i)) t)
+    ∙ ap (λ (j : ℕ). (s .fine && inPlace (s .cable) (s .slots) j v) && placedFrom (s .cable) (s .slots) (suc (suc i)) t) (add-one i)
+    ∙ and-assoc (s .fine) (inPlace (s .cable) (s .slots) (suc i) v) (placedFrom (s .cable) (s .slots) (suc (suc i)) t)
 
-n-is : (s : Survey) (i : ℕ) (t : Table) → foldFrom seen s i t .n ≡ s .n
+cable-is : (s : Survey) (i : ℕ) (t : Table) → foldFrom seen s i t .cable ≡ s .cable
 unfolding foldFrom
-n-is s i [] = refl
-n-is s i (v ∷ t) = n-is (seen s i v) (suc i) t
+cable-is s i [] = refl
+cable-is s i (v ∷ t) = cable-is (seen s i v) (suc i) t
 
 slots-is : (s : Survey) (i : ℕ) (t : Table) → foldFrom seen s i t .slots ≡ s .slots
 unfolding foldFrom
@@ -91,36 +93,33 @@ out-is s i (v ∷ t) = out-is (seen s i v) (suc i) t
 
 -- ---- records in their places
 
-pub record Placed (n k slots i : ℕ) (v : Node) (t : Table) : Type 0 where
+-- the first of a table's records in its place, and the rest in theirs
+pub record Placed (cable : Cable) (slots i : ℕ) (v : Node) (t : Table) : Type 0 where
   pub good : sound v ≡ true
-  pub ring : v .n ≡ n
-  pub sponsors : v .k ≡ k
+  pub cable-of : v .cable ≡ cable
   pub slot : v .slots ≡ slots
   pub own : v .own ≡ i
-  pub rest : placedFrom n k slots (suc i) t ≡ true
+  pub rest : placedFrom cable slots (suc i) t ≡ true
 
-pub placed : (n k slots i : ℕ) (v : Node) (t : Table) → placedFrom n k slots i (v ∷ t) ≡ true → Placed n k slots i v t
+pub placed : (cable : Cable) (slots i : ℕ) (v : Node) (t : Table) → placedFrom cable slots i (v ∷ t) ≡ true → Placed cable slots i v t
 unfolding placedFrom
-placed n k slots i v t e =
-    let a = both (inPlace n k slots i v) (placedFrom n k slots (suc i) t) e in
-    let b = both (sound v) (eqb (v .n) n && (eqb (v .k) k && (eqb (v .slots) slots && eqb (v .own) i))) (a .0) in
-    let c = both (eqb (v .n) n) (eqb (v .k) k && (eqb (v .slots) slots && eqb (v .own) i)) (b .1) in
-    let d = both (eqb (v .k) k) (eqb (v .slots) slots && eqb (v .own) i) (c .1) in
-    let f = both (eqb (v .slots) slots) (eqb (v .own) i) (d .1) in
-    record { good = b .0; ring = eqb-true (v .n) n (c .0); sponsors = eqb-true (v .k) k (d .0); slot = eqb-true (v .slots) slots (f .0); own = eqb-true (v .own) i (f .1); rest = a .1 }
+placed cable slots i v t e =
+    let a = both (inPlace cable slots i v) (placedFrom cable slots (suc i) t) e in
+    let p = in-place cable slots i v (a .0) in
+    record { good = p .is-sound; cable-of = p .cable-is; slot = p .slots-is; own = p .own-is; rest = a .1 }
 
-module _ {X : Type 0} (g : Node → X) (n k slots : ℕ) where
-  not-found : (i x : ℕ) (d : X) (t : Table) → placedFrom n k slots i t ≡ true → x < i → found g x d t ≡ d
+module _ {X : Type 0} (g : Node → X) (cable : Cable) (slots : ℕ) where
+  not-found : (i x : ℕ) (d : X) (t : Table) → placedFrom cable slots i t ≡ true → x < i → found g x d t ≡ d
   not-found i x d [] e l = refl
   not-found i x d (v ∷ t) e l =
-      let p = placed n k slots i v t e in
+      let p = placed cable slots i v t e in
       ap (λ (c : X). found g x c t) (otherwise (g v) d (ne-eqb (v .own) x (λ h. omega (arith, h, l, p .own))))
       ∙ not-found (suc i) x d t (p .rest) (omega (arith, l))
 
-  found-at : (i x : ℕ) (d : X) (e : Node) (t : Table) → placedFrom n k slots i t ≡ true → i ≤ x → x < i + length t → found g x d t ≡ g (getD t (x - i) e)
+  found-at : (i x : ℕ) (d : X) (e : Node) (t : Table) → placedFrom cable slots i t ≡ true → i ≤ x → x < i + length t → found g x d t ≡ g (getD t (x - i) e)
   found-at i x d e [] h l m = absurd (let q : ⊥ = omega (arith, l, m) in q)
   found-at i x d e (v ∷ t) h l m =
-      let p = placed n k slots i v t h in
+      let p = placed cable slots i v t h in
       by-cases (eqb i x)
       (λ q. let is : i ≡ x = eqb-true i x q in
       ap (λ (c : X). found g x c t) (chosen (g v) d (eq-eqb (v .own) x (omega (arith, is, p .own))))
@@ -132,7 +131,7 @@ module _ {X : Type 0} (g : Node → X) (n k slots : ℕ) where
       ∙ ap (λ (j : ℕ). g (getD (v ∷ t) j e)) (let z : suc (x - suc i) ≡ x - i = omega (arith, l, not) in z))
 
 -- who is out
-module _ (n k slots : ℕ) where
+module _ (cable : Cable) (slots : ℕ) where
   with-other : (out x : ℕ) (v : Node) → (v .own ≡ x → ⊥) → has (outWith out v) x ≡ has out x
   with-other out x v h = go (isOut (v .state))
     where
@@ -140,10 +139,10 @@ module _ (n k slots : ℕ) where
       go true = has-with-other out (v .own) x h
       go false = refl
 
-  out-before : (i x out : ℕ) (t : Table) → placedFrom n k slots i t ≡ true → x < i → has (outFrom out t) x ≡ has out x
+  out-before : (i x out : ℕ) (t : Table) → placedFrom cable slots i t ≡ true → x < i → has (outFrom out t) x ≡ has out x
   out-before i x out [] e l = refl
   out-before i x out (v ∷ t) e l =
-      let p = placed n k slots i v t e in
+      let p = placed cable slots i v t e in
       out-before (suc i) x (outWith out v) t (p .rest) (omega (arith, l)) ∙ with-other out x v (λ h. omega (arith, h, l, p .own))
 
   with-own : (out x : ℕ) (v : Node) → v .own ≡ x → 1 ≤ x → x ≤ 32 → has out x ≡ false → has (outWith out v) x ≡ isOut (v .state)
@@ -153,10 +152,10 @@ module _ (n k slots : ℕ) where
       go true = ap (λ (y : ℕ). has (with out y) x) own ∙ has-with out x low high
       go false = none
 
-  out-at : (i x out : ℕ) (t : Table) → placedFrom n k slots i t ≡ true → 1 ≤ i → i ≤ x → x < i + length t → x ≤ 32 → has out x ≡ false → has (outFrom out t) x ≡ isOut (getD t (x - i) noNode .state)
+  out-at : (i x out : ℕ) (t : Table) → placedFrom cable slots i t ≡ true → 1 ≤ i → i ≤ x → x < i + length t → x ≤ 32 → has out x ≡ false → has (outFrom out t) x ≡ isOut (getD t (x - i) noNode .state)
   out-at i x out [] e one l m top none = absurd (let q : ⊥ = omega (arith, l, m) in q)
   out-at i x out (v ∷ t) e one l m top none =
-      let p = placed n k slots i v t e in
+      let p = placed cable slots i v t e in
       by-cases (eqb i x)
       (λ q. let is : i ≡ x = eqb-true i x q in
       out-before (suc i) x (outWith out v) t (p .rest) (omega (arith, is)) ∙ with-own out x v (omega (arith, is, p .own)) (omega (arith, one, is)) top none
@@ -172,28 +171,29 @@ unfolding tableSound surveyOf foldFrom unseen
 fine-table [] = refl
 fine-table (v ∷ t) =
     ap (λ (s : Survey). fineTable s (suc (length t))) (survey-is v t)
-    ∙ ap₂ (λ (f : Bool) (n : ℕ). f && eqb n (suc (length t))) (fine-is (begun true v) 0 (v ∷ t)) (n-is (begun true v) 0 (v ∷ t))
-    ∙ and-comm (placedFrom (v .n) (v .k) (v .slots) 1 (v ∷ t)) (eqb (v .n) (suc (length t)))
+    ∙ ap₂ (λ (f : Bool) (c : Cable). f && eqb (c .n) (suc (length t))) (fine-is (begun true v) 0 (v ∷ t)) (cable-is (begun true v) 0 (v ∷ t))
+    ∙ and-comm (placedFrom (v .cable) (v .slots) 1 (v ∷ t)) (eqb (v .cable .n) (suc (length t)))
 
 -- what the survey of a sound table says
 pub record Said (t : Table) : Type 0 where
   pub ring : ringSize (length t) ≡ true
-  pub rows : placedFrom (length t) (recordOf t 1 .k) (slotsOf t) 1 t ≡ true
-  pub n : surveyOf t .n ≡ length t
+  pub count : recordOf t 1 .cable .n ≡ length t
+  pub rows : placedFrom (recordOf t 1 .cable) (slotsOf t) 1 t ≡ true
+  pub n : surveyOf t .cable .n ≡ length t
   pub slots : surveyOf t .slots ≡ slotsOf t
   pub sender : surveyOf t .sender ≡ speaker t
   pub spoken : surveyOf t .speaker ≡ recordOf t (speaker t)
   pub out : (a : ℕ) → nodeNumber (length t) a ≡ true → has (surveyOf t .out) a ≡ isOut (recordOf t a .state)
 
 -- the sender of a record of a ring
-pub sender-after : (v : Node) → ringSize (v .n) ≡ true → senderAfter v ≡ sender (v .n) (v .slots + 1)
+pub sender-after : (v : Node) → ringSize (v .cable .n) ≡ true → senderAfter v ≡ sender (v .cable .n) (v .slots + 1)
 unfolding senderAfter
-sender-after v e = ap numberOf (chosen _ _ e)
+sender-after v e = ap nodeIn (chosen _ _ e)
 
 -- a node of the table is found in its place
-there : {X : Type 0} (g : Node → X) (n k slots x : ℕ) (d : X) (t : Table) → placedFrom n k slots 1 t ≡ true → 1 ≤ x → x ≤ length t → found g x d t ≡ g (recordOf t x)
+there : {X : Type 0} (g : Node → X) (cable : Cable) (slots x : ℕ) (d : X) (t : Table) → placedFrom cable slots 1 t ≡ true → 1 ≤ x → x ≤ length t → found g x d t ≡ g (recordOf t x)
 unfolding recordOf
-there g n k slots x d t h l m = found-at g n k slots 1 x d noNode t h l (omega (arith, m))
+there g cable slots x d t h l m = found-at g cable slots 1 x d noNode t h l (omega (arith, m))
 
 there-is : (t : Table) (a : ℕ) → getD t (a - 1) noNode ≡ recordOf t a
 unfolding recordOf
@@ -207,25 +207,26 @@ pub said : (t : Table) → tableSound t ≡ true → Said t
 unfolding tableSound slotsOf speaker
 said [] e = absurd (true≢false (sym e))
 said (v ∷ t) e =
-    let c = both (eqb (v .n) (suc (length t))) (placedFrom (v .n) (v .k) (v .slots) 1 (v ∷ t)) e in
-    let n-is′ : v .n ≡ suc (length t) = eqb-true (v .n) (suc (length t)) (c .0) in
-    let p = placed (v .n) (v .k) (v .slots) 1 v t (c .1) in
-    let ring-v : ringSize (v .n) ≡ true = clauses v (p .good) .ring in
-    let range = sender-range (v .n) (omega (arith, ring-size (v .n) ring-v .0)) (v .slots + 1) in
+    let c = both (eqb (v .cable .n) (suc (length t))) (placedFrom (v .cable) (v .slots) 1 (v ∷ t)) e in
+    let n-is′ : v .cable .n ≡ suc (length t) = eqb-true (v .cable .n) (suc (length t)) (c .0) in
+    let p = placed (v .cable) (v .slots) 1 v t (c .1) in
+    let ring-v : ringSize (v .cable .n) ≡ true = clauses v (p .good) .ring in
+    let range = sender-range (v .cable .n) (omega (arith, ring-size (v .cable .n) ring-v .0)) (v .slots + 1) in
     let first = first-is v t in
-    let speaks : sender (v .n) (v .slots + 1) ≡ sender (suc (length t)) (recordOf (v ∷ t) 1 .slots + 1) = ap₂ (λ (m s : ℕ). sender m (s + 1)) n-is′ (sym (ap (λ (w : Node). w .slots) first)) in
+    let speaks : sender (v .cable .n) (v .slots + 1) ≡ sender (suc (length t)) (recordOf (v ∷ t) 1 .slots + 1) = ap₂ (λ (m s : ℕ). sender m (s + 1)) n-is′ (sym (ap (λ (w : Node). w .slots) first)) in
     record {
       ring = subst (λ (m : ℕ). ringSize m ≡ true) n-is′ ring-v;
-      rows = subst (λ (w : Node). placedFrom (suc (length t)) (w .k) (w .slots) 1 (v ∷ t) ≡ true) (sym first) (subst (λ (m : ℕ). placedFrom m (v .k) (v .slots) 1 (v ∷ t) ≡ true) n-is′ (c .1));
-      n = ap (λ (s : Survey). s .n) (survey-is v t) ∙ n-is (begun true v) 0 (v ∷ t) ∙ n-is′;
+      count = ap (λ (w : Node). w .cable .n) first ∙ n-is′;
+      rows = subst (λ (w : Node). placedFrom (w .cable) (w .slots) 1 (v ∷ t) ≡ true) (sym first) (c .1);
+      n = ap (λ (s : Survey). s .cable .n) (survey-is v t) ∙ ap (λ (c : Cable). c .n) (cable-is (begun true v) 0 (v ∷ t)) ∙ n-is′;
       slots = ap (λ (s : Survey). s .slots) (survey-is v t) ∙ slots-is (begun true v) 0 (v ∷ t) ∙ sym (ap (λ (w : Node). w .slots) first);
       sender = ap (λ (s : Survey). s .sender) (survey-is v t) ∙ sender-is (begun true v) 0 (v ∷ t) ∙ sender-after v ring-v ∙ speaks;
       spoken = ap (λ (s : Survey). s .speaker) (survey-is v t) ∙ speaker-is (begun true v) 0 (v ∷ t)
-          ∙ there (λ w. w) (v .n) (v .k) (v .slots) (senderAfter v) v (v ∷ t) (c .1) (omega (arith, range .0, sender-after v ring-v)) (omega (arith, range .1, sender-after v ring-v, n-is′))
+          ∙ there (λ w. w) (v .cable) (v .slots) (senderAfter v) v (v ∷ t) (c .1) (omega (arith, range .0, sender-after v ring-v)) (omega (arith, range .1, sender-after v ring-v, n-is′))
           ∙ ap (recordOf (v ∷ t)) (sender-after v ring-v ∙ speaks);
       out = λ a h.
           let m = node-number (suc (length t)) a h in
-          let r = ring-size (v .n) ring-v in
+          let r = ring-size (v .cable .n) ring-v in
           ap (λ (s : Survey). has (s .out) a) (survey-is v t) ∙ ap (λ (x : ℕ). has x a) (out-is (begun true v) 0 (v ∷ t))
-          ∙ out-at (v .n) (v .k) (v .slots) 1 a 0 (v ∷ t) (c .1) (omega arith) (m .0) (omega (arith, m .1)) (omega (arith, m .1, r .1, n-is′)) (has-none a) ∙ ap (λ (w : Node). isOut (w .state)) (there-is (v ∷ t) a);
+          ∙ out-at (v .cable) (v .slots) 1 a 0 (v ∷ t) (c .1) (omega arith) (m .0) (omega (arith, m .1)) (omega (arith, m .1, r .1, n-is′)) (has-none a) ∙ ap (λ (w : Node). isOut (w .state)) (there-is (v ∷ t) a);
     }

@@ -1,6 +1,6 @@
 -- An order carried out (bench_walks' specs/Orders) is the call that asked for it (bench's specs/Calls): off, restart, set-up and slot. The survey decides as the table does
--- (`Surveys.antt`), and in a sound table a record's own number is its place. In a slot each record goes by the lesson of the speaker's record,
--- which is what it would find by itself (node's proofs/Taught). Assumes nothing.
+-- (`Surveys.antt`), and in a sound table a record's own number is its place. In a slot each record goes by the digest of the speaker's set,
+-- or what it finds by itself (node_slot's proofs/Digests). Assumes nothing.
 use Prim.Native.Nat.{ℕ, suc, _+_, _-_, _<_, _≤_}
 use mathlib.Core.Path.{_≡_, refl, sym, ap, ap₂, _∙_}
 use mathlib.Core.Bool.{Bool, true, false, cond, _||_}
@@ -11,10 +11,12 @@ use lib.Dec.{eqb, leb, ltb}
 use lib.ListN.{length, getD}
 use borrow.Author.Tests.{eqb-true, ltb-true, lt-ltb}
 use Rattle.refusal.specs.declared.Refusal.{Refusal}
-use Rattle.refusal.specs.declared.Refusal.the-variants.{RingSize, SponsorCount, Unsound, OutputShort}
+use Rattle.refusal.specs.declared.Refusal.the-variants.{SponsorCount, Unsound}
+use Rattle.refusal.specs.Causes.{cause}
 use Rattle.nodeset.specs.Sets.{has, within}
 use Rattle.nodeset.proofs.Tests.{by-cases, chosen}
-use Rattle.ring.specs.Ring.{ringSize, sponsorCount, nodeNumber, sender}
+use Rattle.ring.specs.declared.Cable.{Cable}
+use Rattle.ring.specs.Ring.{cableOf, ringSize, sponsorCount, nodeNumber, sender}
 use Rattle.ring.proofs.Ranges.{ring-size}
 use Rattle.ring.proofs.Senders.{sender-range}
 use Rattle.message.specs.declared.Reading.{Reading}
@@ -24,10 +26,10 @@ use Rattle.node_record.specs.States.{isOut}
 use Rattle.node_record.specs.Soundness.{sound, limit}
 use Rattle.node_changes.specs.Changes.{starting, outFor, fresh, numbered}
 use Rattle.node.specs.declared.Stepped.{Stepped}
-use Rattle.node.specs.Slot.{afterSlot}
+use Rattle.node_slot.specs.Slot.{afterSlot}
 use Rattle.node.specs.Calls as node
 use Rattle.node.specs.Calls.{noNode}
-use Rattle.node.proofs.Taught.{after-taught, heard-told, sound-own, sound-marks}
+use Rattle.node_slot.proofs.Digests.{after-digest, heard-told, sound-own, sound-marks}
 use Rattle.bench.specs.declared.Command.{Command}
 use Rattle.bench.specs.declared.Command.the-variants as command
 use Rattle.bench_walks.specs.declared.Order.{Order}
@@ -37,12 +39,12 @@ use Rattle.bench_walks.specs.declared.Survey.{Survey}
 use Rattle.bench.specs.declared.Fate.{Fate}
 use Rattle.bench.specs.Table.{Table, eachFrom, placedFrom, tableSound, slotsOf, recordOf, speaker}
 use Rattle.bench.specs.Calls as bench
-use Rattle.bench.specs.Calls.{Called, done, ifPassed, setUpOf, startTable, offOf, afterOff, restartOf, afterRestart, slotOf, heardBy, spoken, transmits, unheard, lookOf}
+use Rattle.bench.specs.Calls.{Called, done, ifPassed, setUpOf, startTable, offOf, tableAfterOff, restartOf, tableAfterRestart, slotOf, heardBy, spoken, transmits, unheard, lookOf}
 use Rattle.bench.specs.Outcomes.{calledOf}
-use Rattle.bench.proofs.agreement.Places.{sound-placed}
-use Rattle.bench.proofs.agreement.Counted.{step-done}
+use Rattle.bench.proofs.Places.{sound-placed}
+use Rattle.bench.proofs.Counted.{step-done}
 use Rattle.bench_walks.specs.Survey.{surveyOf, fineTable}
-use Rattle.bench_walks.specs.Orders.{ifGood, saidBy, turnOf, orderFor, heardAt, stepAt, carried, fateBy, answerTo}
+use Rattle.bench_walks.specs.Orders.{ifGood, spokenBy, turnOf, orderFor, heardAt, stepAt, carried, fateBy, answerTo}
 use Rattle.bench_calls.proofs.Surveys.{Placed, placed, fine-table, Said, said}
 
 -- ---- each record
@@ -62,21 +64,21 @@ unfolding carried
 look-table slots sender fate t = kept-table (order.Look slots sender fate) (λ i v. refl) 0 t
 
 -- two ways to make a table anew are one where they agree on each record in its place
-by-own : (n k slots : ℕ) (w : ℕ → Node) (f g : ℕ → Node → Node) → ((j : ℕ) (v : Node) (u : Table) → Placed n k slots (suc j) v u → v ≡ w j → f j v ≡ g (suc j) v)
-    → (i : ℕ) (t : Table) → placedFrom n k slots (suc i) t ≡ true → ((j : ℕ) → j < length t → getD t j noNode ≡ w (i + j)) → eachFrom f i t ≡ eachFrom g (suc i) t
+by-own : (cable : Cable) (slots : ℕ) (w : ℕ → Node) (f g : ℕ → Node → Node) → ((j : ℕ) (v : Node) (u : Table) → Placed cable slots (suc j) v u → v ≡ w j → f j v ≡ g (suc j) v)
+    → (i : ℕ) (t : Table) → placedFrom cable slots (suc i) t ≡ true → ((j : ℕ) → j < length t → getD t j noNode ≡ w (i + j)) → eachFrom f i t ≡ eachFrom g (suc i) t
 unfolding eachFrom
-by-own n k slots w f g h i [] e is = refl
-by-own n k slots w f g h i (v ∷ t) e is =
-    let p = placed n k slots (suc i) v t e in
+by-own cable slots w f g h i [] e is = refl
+by-own cable slots w f g h i (v ∷ t) e is =
+    let p = placed cable slots (suc i) v t e in
     let first : i + 0 ≡ i = omega arith in
     ap₂ {C = List Node} (λ x r. x ∷ r) (h i v t p (is 0 (omega arith) ∙ ap w first))
-    (by-own n k slots w f g h (suc i) t (p .rest) (λ j l. let z : i + suc j ≡ suc i + j = omega arith in is (suc j) (omega (arith, l)) ∙ ap w z))
+    (by-own cable slots w f g h (suc i) t (p .rest) (λ j l. let z : i + suc j ≡ suc i + j = omega arith in is (suc j) (omega (arith, l)) ∙ ap w z))
 
-by-record : (k slots : ℕ) (f g : ℕ → Node → Node) (t : Table) → placedFrom (length t) k slots 1 t ≡ true
-    → ((j : ℕ) (v : Node) (u : Table) → Placed (length t) k slots (suc j) v u → v ≡ recordOf t (suc j) → f j v ≡ g (suc j) v) → eachFrom f 0 t ≡ eachFrom g 1 t
+by-record : (cable : Cable) (slots : ℕ) (f g : ℕ → Node → Node) (t : Table) → placedFrom cable slots 1 t ≡ true
+    → ((j : ℕ) (v : Node) (u : Table) → Placed cable slots (suc j) v u → v ≡ recordOf t (suc j) → f j v ≡ g (suc j) v) → eachFrom f 0 t ≡ eachFrom g 1 t
 unfolding recordOf
-by-record k slots f g t rows h =
-    by-own (length t) k slots (λ j. getD t (suc j - 1) noNode) f g h 0 t rows
+by-record cable slots f g t rows h =
+    by-own cable slots (λ j. getD t (suc j - 1) noNode) f g h 0 t rows
     (λ j l. let z : j ≡ suc (0 + j) - 1 = omega arith in ap (λ (x : ℕ). getD t x noNode) z)
 
 -- where it goes by the place, of 32 at most
@@ -90,16 +92,16 @@ by-place f g h i (v ∷ t) l = ap₂ {C = List Node} (λ w r. w ∷ r) (h i v (o
 abbrev pub calledBy : Order → Table → Called
 calledBy o t = record { table = eachFrom (carried o) 0 t; answer = answerTo o }
 
-refuses : (cause : Refusal) (t : Table) → calledBy (order.Refuse cause) t ≡ ifPassed false cause t (done t)
-refuses cause t = ap (λ (u : Table). ifPassed false cause u (done u)) (refused-table cause t)
+refuses : (number : ℕ) (t : Table) → calledBy (order.Refuse (cause number)) t ≡ ifPassed false number t (done t)
+refuses number t = ap (λ (u : Table). ifPassed false number u (done u)) (refused-table (cause number) t)
 
 -- one test after the other
-passes : {b b′ : Bool} (cause : Refusal) (o : Order) (t : Table) (c : Called) → b ≡ b′ → (b′ ≡ true → calledBy o t ≡ c) → calledBy (ifGood b cause o) t ≡ ifPassed b′ cause t c
-passes {b} {b′} cause o t c e h = ap (λ (d : Bool). calledBy (ifGood d cause o) t) e ∙ go b′ h
+passes : {b b′ : Bool} (number : ℕ) (o : Order) (t : Table) (c : Called) → b ≡ b′ → (b′ ≡ true → calledBy o t ≡ c) → calledBy (ifGood b (cause number) o) t ≡ ifPassed b′ number t c
+passes {b} {b′} number o t c e h = ap (λ (d : Bool). calledBy (ifGood d (cause number) o) t) e ∙ go b′ h
   where
-    go : (d : Bool) → (d ≡ true → calledBy o t ≡ c) → calledBy (ifGood d cause o) t ≡ ifPassed d cause t c
+    go : (d : Bool) → (d ≡ true → calledBy o t ≡ c) → calledBy (ifGood d (cause number) o) t ≡ ifPassed d number t c
     go true k = k refl
-    go false k = refuses cause t
+    go false k = refuses number t
 
 off-node : (v : Node) → sound v ≡ true → outFor SwitchedOff v ≡ node.offOf v .node
 unfolding node.offOf
@@ -108,13 +110,13 @@ off-node v e = rw e
 off-called : (a room : ℕ) (t : Table) → calledBy (orderFor (command.Off a) room t) t ≡ offOf a t
 unfolding orderFor offOf carried
 off-called a room t =
-    passes _ _ t _ (fine-table t) (λ ok.
+    passes 4 _ t _ (fine-table t) (λ ok.
     let s = said t ok in
-    passes _ _ t _ (ap (λ (m : ℕ). nodeNumber m a) (s .n)) (λ h. ap done (tables (s .rows))))
+    passes 3 _ t _ (ap (λ (m : ℕ). nodeNumber m a) (s .n)) (λ h. ap done (tables (s .rows))))
   where
-    tables : placedFrom (length t) (recordOf t 1 .k) (slotsOf t) 1 t ≡ true → eachFrom (carried (order.Off a)) 0 t ≡ afterOff a t
+    tables : placedFrom (recordOf t 1 .cable) (slotsOf t) 1 t ≡ true → eachFrom (carried (order.Off a)) 0 t ≡ tableAfterOff a t
     tables rows =
-        by-record (recordOf t 1 .k) (slotsOf t) (carried (order.Off a)) (λ i v. cond (eqb i a) (node.offOf v .node) v) t rows
+        by-record (recordOf t 1 .cable) (slotsOf t) (carried (order.Off a)) (λ i v. cond (eqb i a) (node.offOf v .node) v) t rows
         (λ j v u p is. ap₂ (λ (i : ℕ) (w : Node). cond (eqb i a) w v) (p .own) (off-node v (p .good)))
 
 restart-node : (v : Node) → sound v ≡ true → isOut (v .state) ≡ true → fresh v ≡ node.restartOf v .node
@@ -124,10 +126,10 @@ restart-node v e out = rw (e, out)
 restart-called : (a room : ℕ) (t : Table) → calledBy (orderFor (command.Restart a) room t) t ≡ restartOf a t
 unfolding orderFor restartOf carried
 restart-called a room t =
-    passes _ _ t _ (fine-table t) (λ ok.
+    passes 4 _ t _ (fine-table t) (λ ok.
     let s = said t ok in
-    passes _ _ t _ (ap (λ (m : ℕ). nodeNumber m a) (s .n)) (λ h.
-    passes _ _ t _ (s .out a h) (λ out. ap done (tables (s .rows) out))))
+    passes 3 _ t _ (ap (λ (m : ℕ). nodeNumber m a) (s .n)) (λ h.
+    passes 11 _ t _ (s .out a h) (λ out. ap done (tables (s .rows) out))))
   where
     one : (j : ℕ) (v : Node) → sound v ≡ true → isOut (recordOf t a .state) ≡ true → v ≡ recordOf t (suc j) → cond (eqb (suc j) a) (fresh v) v ≡ cond (eqb (suc j) a) (node.restartOf v .node) v
     one j v good out is =
@@ -136,32 +138,32 @@ restart-called a room t =
         ap (λ (w : Node). cond (eqb (suc j) a) w v) (restart-node v good (ap (λ (w : Node). isOut (w .state)) (is ∙ ap (recordOf t) z) ∙ out)))
         (λ e. rw e)
 
-    tables : placedFrom (length t) (recordOf t 1 .k) (slotsOf t) 1 t ≡ true → isOut (recordOf t a .state) ≡ true → eachFrom (carried (order.Restart a)) 0 t ≡ afterRestart a t
+    tables : placedFrom (recordOf t 1 .cable) (slotsOf t) 1 t ≡ true → isOut (recordOf t a .state) ≡ true → eachFrom (carried (order.Restart a)) 0 t ≡ tableAfterRestart a t
     tables rows out =
-        by-record (recordOf t 1 .k) (slotsOf t) (carried (order.Restart a)) (λ i v. cond (eqb i a) (node.restartOf v .node) v) t rows
+        by-record (recordOf t 1 .cable) (slotsOf t) (carried (order.Restart a)) (λ i v. cond (eqb i a) (node.restartOf v .node) v) t rows
         (λ j v u p is. ap (λ (i : ℕ). cond (eqb i a) (fresh v) v) (p .own) ∙ one j v (p .good) out is)
 
-set-up-called : (n k room : ℕ) (t : Table) → calledBy (orderFor (command.SetUp n k) room t) t ≡ setUpOf n k t
+set-up-called : (n k room : ℕ) (t : Table) → calledBy (orderFor (command.SetUp n k) room t) t ≡ setUpOf (cableOf n k) t
 unfolding orderFor setUpOf carried
 set-up-called n k room t =
-    passes {b = ringSize n} RingSize (ifGood (sponsorCount n k) SponsorCount (ifGood (eqb (length t) n) Unsound (order.Start n k))) t _ refl (λ ring.
-    passes {b = sponsorCount n k} SponsorCount (ifGood (eqb (length t) n) Unsound (order.Start n k)) t _ refl (λ sponsors.
-    passes {b = eqb (length t) n} Unsound (order.Start n k) t _ refl (λ size. ap done (tables ring size))))
+    passes {b = ringSize n} 1 (ifGood (sponsorCount (cableOf n k)) SponsorCount (ifGood (eqb (length t) n) Unsound (order.Start n k))) t _ refl (λ ring.
+    passes {b = sponsorCount (cableOf n k)} 2 (ifGood (eqb (length t) n) Unsound (order.Start n k)) t _ refl (λ sponsors.
+    passes {b = eqb (length t) n} 4 (order.Start n k) t _ refl (λ size. ap done (tables ring size))))
   where
     at-most : ringSize n ≡ true → eqb (length t) n ≡ true → 0 + length t ≤ 32
     at-most ring size = let r = ring-size n ring .1 in let e = eqb-true (length t) n size in omega (arith, r, e)
 
-    tables : ringSize n ≡ true → eqb (length t) n ≡ true → eachFrom (carried (order.Start n k)) 0 t ≡ startTable n k t
+    tables : ringSize n ≡ true → eqb (length t) n ≡ true → eachFrom (carried (order.Start n k)) 0 t ≡ startTable (cableOf n k) t
     tables ring size =
-        by-place (carried (order.Start n k)) (λ i v. starting n k i)
-        (λ j v l. ap (starting n k) (chosen (j + 1) 0 (lt-ltb j 32 l) ∙ add-one j)) 0 t (at-most ring size)
+        by-place (carried (order.Start n k)) (λ i v. starting (cableOf n k) i)
+        (λ j v l. ap (starting (cableOf n k)) (chosen (j + 1) 0 (lt-ltb j 32 l) ∙ add-one j)) 0 t (at-most ring size)
 
 -- what a node hears of the speaker
-hears : (lost : Bool) (missed : ℕ) (t : Table) (i : ℕ) (said′ : Node) → said′ ≡ recordOf t (speaker t) → cond (has missed i) unheard (saidBy lost said′) ≡ heardBy lost missed t i
+hears : (lost : Bool) (missed : ℕ) (t : Table) (i : ℕ) (said′ : Node) → said′ ≡ recordOf t (speaker t) → cond (has missed i) unheard (spokenBy lost said′) ≡ heardBy lost missed t i
 unfolding heardBy spoken transmits
-hears lost missed t i v e = ap (λ (w : Node). cond (has missed i) unheard (saidBy lost w)) e ∙ go lost (has missed i)
+hears lost missed t i v e = ap (λ (w : Node). cond (has missed i) unheard (spokenBy lost w)) e ∙ go lost (has missed i)
   where
-    go : (l m : Bool) → cond m unheard (saidBy l (recordOf t (speaker t))) ≡ cond (l || m) unheard (spoken t)
+    go : (l m : Bool) → cond m unheard (spokenBy l (recordOf t (speaker t))) ≡ cond (l || m) unheard (spoken t)
     go true true = refl
     go true false = refl
     go false true = refl
@@ -176,59 +178,58 @@ module _ (lost : Bool) (missed : ℕ) (t : Table) (ok : tableSound t ≡ true) (
   turn = turnOf lost missed survey
 
   -- the speaker is one of the table's nodes
-  spoken-in : (recordOf t (speaker t) .n ≡ length t) × (recordOf t (speaker t) .k ≡ recordOf t 1 .k)
+  spoken-in : recordOf t (speaker t) .cable ≡ recordOf t 1 .cable
   unfolding speaker
   spoken-in =
       let three = ring-size (length t) (s .ring) .0 in
       let r = sender-range (length t) (omega (arith, three)) (slotsOf t + 1) in
-      let p = sound-placed t ok .at (sender (length t) (slotsOf t + 1)) (r .0) (r .1) in
-      (p .n-is, p .k-is)
+      sound-placed t ok .at (sender (length t) (slotsOf t + 1)) (r .0) (omega (arith, r .1, s .count)) .cable-is
 
-  speaker-n : survey .speaker .n ≡ length t
-  speaker-n = ap (λ (w : Node). w .n) (s .spoken) ∙ spoken-in .0
+  speaker-cable : survey .speaker .cable ≡ recordOf t 1 .cable
+  speaker-cable = ap (λ (w : Node). w .cable) (s .spoken) ∙ spoken-in
 
-  speaker-k : survey .speaker .k ≡ recordOf t 1 .k
-  speaker-k = ap (λ (w : Node). w .k) (s .spoken) ∙ spoken-in .1
-
-  step-is : (j : ℕ) (v : Node) (u : Table) → Placed (length t) (recordOf t 1 .k) (slotsOf t) (suc j) v u → stepAt turn v ≡ node.stepOf (heardBy lost missed t (suc j)) v .node
+  step-is : (j : ℕ) (v : Node) (u : Table) → Placed (recordOf t 1 .cable) (slotsOf t) (suc j) v u → stepAt turn v ≡ node.stepOf (heardBy lost missed t (suc j)) v .node
   unfolding speaker
   step-is j v u p =
-      after-taught (turn .sender) (turn .heard) (heardAt turn v) (survey .speaker) (numbered (turn .slot) v) (heard-told (has missed (v .own)) (turn .heard) (turn .heard) (λ _. refl))
-      (p .ring ∙ sym speaker-n) (p .sponsors ∙ sym speaker-k) (sound-own v (p .good)) (sound-marks v (p .good))
+      after-digest (turn .sender) (turn .heard) (heardAt turn v) (survey .speaker .cable) (survey .speaker .set) (numbered (turn .slot) v) (heard-told (has missed (v .own)) (turn .heard) (turn .heard) (λ _. refl))
+      (p .cable-of ∙ sym speaker-cable) (sound-own v (p .good)) (sound-marks v (p .good))
       ∙ ap₂ (λ (x : ℕ) (r : Reading). afterSlot x r (numbered (turn .slot) v)) sender-at heard-at
-      ∙ ap (λ (m : ℕ). afterSlot (sender (v .n) (v .slots + 1)) (heardBy lost missed t (suc j)) (numbered m v)) slot-at
+      ∙ ap (λ (m : ℕ). afterSlot (sender (v .cable .n) (v .slots + 1)) (heardBy lost missed t (suc j)) (numbered m v)) slot-at
       ∙ sym (ap (λ (d : Stepped). d .node) (step-done (heardBy lost missed t (suc j)) v (p .good) (omega (arith, below, p .slot))))
     where
       slot-at : survey .slots + 1 ≡ v .slots + 1
       slot-at = ap (λ (m : ℕ). m + 1) (s .slots ∙ sym (p .slot))
 
-      sender-at : survey .sender ≡ sender (v .n) (v .slots + 1)
-      sender-at = s .sender ∙ ap₂ (λ (m x : ℕ). sender m (x + 1)) (sym (p .ring)) (sym (p .slot))
+      n-at : length t ≡ v .cable .n
+      n-at = sym (ap (λ (c : Cable). c .n) (p .cable-of) ∙ s .count)
+
+      sender-at : survey .sender ≡ sender (v .cable .n) (v .slots + 1)
+      sender-at = s .sender ∙ ap₂ (λ (m x : ℕ). sender m (x + 1)) n-at (sym (p .slot))
 
       heard-at : heardAt turn v ≡ heardBy lost missed t (suc j)
       heard-at = ap (λ (i : ℕ). cond (has missed i) unheard (turn .heard)) (p .own) ∙ hears lost missed t (suc j) (survey .speaker) (s .spoken)
 
 pub slot-table : (lost : Bool) (missed : ℕ) (t : Table) → tableSound t ≡ true → slotsOf t < limit
-    → eachFrom (carried (order.Slot (turnOf lost missed (surveyOf t)))) 0 t ≡ bench.afterSlot lost missed t
-unfolding carried bench.afterSlot
+    → eachFrom (carried (order.Slot (turnOf lost missed (surveyOf t)))) 0 t ≡ bench.tableAfterSlot lost missed t
+unfolding carried bench.tableAfterSlot
 slot-table lost missed t ok below =
     let s = said t ok in
-    by-record (recordOf t 1 .k) (slotsOf t) (carried (order.Slot (turnOf lost missed (surveyOf t)))) (λ i v. node.stepOf (heardBy lost missed t i) v .node) t (s .rows)
+    by-record (recordOf t 1 .cable) (slotsOf t) (carried (order.Slot (turnOf lost missed (surveyOf t)))) (λ i v. node.stepOf (heardBy lost missed t i) v .node) t (s .rows)
     (λ j v u p is. step-is lost missed t ok s below j v u p)
 
 slot-called : (lost : Bool) (missed room : ℕ) (t : Table) → calledBy (orderFor (command.Slot lost missed) room t) t ≡ slotOf lost missed room t
 unfolding orderFor slotOf
 slot-called lost missed room t =
-    passes _ _ t _ (fine-table t) (λ ok.
+    passes 4 _ t _ (fine-table t) (λ ok.
     let s = said t ok in
-    passes _ _ t _ (ap (λ (m : ℕ). within m missed) (s .n)) (λ h.
-    passes _ _ t _ (ap (λ (m : ℕ). ltb m limit) (s .slots)) (λ l.
-    passes {b = leb 64 room} OutputShort (order.Slot (turnOf lost missed (surveyOf t))) t _ refl (λ r. ap done (slot-table lost missed t ok (ltb-true (slotsOf t) limit l))))))
+    passes 3 _ t _ (ap (λ (m : ℕ). within m missed) (s .n)) (λ h.
+    passes 5 _ t _ (ap (λ (m : ℕ). ltb m limit) (s .slots)) (λ l.
+    passes {b = leb 64 room} 9 (order.Slot (turnOf lost missed (surveyOf t))) t _ refl (λ r. ap done (slot-table lost missed t ok (ltb-true (slotsOf t) limit l))))))
 
 look-called : (lost : Bool) (room : ℕ) (t : Table) → calledBy (orderFor (command.Look lost) room t) t ≡ lookOf t
 unfolding orderFor lookOf
 look-called lost room t =
-    passes {b = fineTable (surveyOf t) (length t)} Unsound (order.Look (surveyOf t .slots) (surveyOf t .sender) (fateBy lost (surveyOf t .speaker))) t _ (fine-table t)
+    passes {b = fineTable (surveyOf t) (length t)} 4 (order.Look (surveyOf t .slots) (surveyOf t .sender) (fateBy lost (surveyOf t .speaker))) t _ (fine-table t)
     (λ ok. ap done (look-table (surveyOf t .slots) (surveyOf t .sender) (fateBy lost (surveyOf t .speaker)) t))
 
 -- the call that a command asks for

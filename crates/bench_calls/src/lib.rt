@@ -20,8 +20,8 @@ ghost use Rattle.bench_walks.specs.Orders.{carriedFrom, reachOf, outcomeBy, pai
 fn reach_of(notes: Notes) -> usize
     ensures { λ r. ⌜ r ≡ reachOf notes ⌝ }
 {
-    let sight = notes.sight;
-    if sight.same {
+    let lists = notes.lists;
+    if lists.same {
         return 0;
     }
     32
@@ -48,7 +48,7 @@ fn outcome_by(order: Order, list: Listed, apart: u32) -> Outcome
 fn pairs_by(order: Order, notes: Notes) -> u32
     ensures { λ r. ⌜ r ≡ pairsBy order notes ⌝ }
 {
-    let told = notes.told;
+    let told = notes.pairs;
     match order {
         Order::Refuse(_) => 0,
         Order::Start(_, _) => 0,
@@ -100,8 +100,8 @@ pub fn reply_of(order: Order, work: Work) -> Reply
 {
     let notes = work.notes;
     let members = work.members;
-    let sight = notes.sight;
-    let list = sight.list;
+    let lists = notes.lists;
+    let list = lists.list;
     let outcome = outcome_by(order, list, members.greatest);
     Reply {
         outcome,
@@ -123,13 +123,13 @@ pub fn carry(table: &mut [Node], order: Order) -> Work
 fn tell(pairs: &mut [u8], order: Order, notes: Notes, members: Members) -> Reply
     ensures { λ r. ⌜ (r ≡ replyBy order notes members) × (now (pairs .exit) ≡ writtenBy order notes (now (pairs .entry))) ⌝ }
 {
-    let told = notes.told;
+    let told = notes.pairs;
     let bytes = told.bytes;
     let count = pairs_by(order, notes);
     let end = bytes_told(count, pairs.len());
     put_bytes(bytes, end, pairs);
-    let sight = notes.sight;
-    let list = sight.list;
+    let lists = notes.lists;
+    let list = lists.list;
     let outcome = outcome_by(order, list, members.greatest);
     Reply {
         outcome,

@@ -1,4 +1,4 @@
--- Inner: what a call has each record of a table do, and what is noted as it is done: the pairs, and the list. The laws in bench_calls' proofs/ tie it
+-- Inner: what a call has each record of a table do, and what is withPair as it is done: the pairs, and the list. The laws in bench_calls' proofs/ tie it
 -- to bench's specs/Calls, specs/Pairs and specs/Outcomes.
 use Prim.Native.Nat.{ℕ, zero, suc, _+_, _*_}
 use mathlib.Core.Bool.{Bool, true, cond, _&&_}
@@ -8,7 +8,7 @@ use lib.ListN.{length, getD, set, replicate}
 use Rattle.refusal.specs.declared.Refusal.{Refusal}
 use Rattle.refusal.specs.declared.Refusal.the-variants.{RingSize, SponsorCount, NodeNumber, Unsound, SlotLimit, OutputShort, NotOut}
 use Rattle.nodeset.specs.Sets.{has, within}
-use Rattle.ring.specs.Ring.{ringSize, sponsorCount, nodeNumber}
+use Rattle.ring.specs.Ring.{cableOf, ringSize, sponsorCount, nodeNumber}
 use Rattle.message.specs.declared.Reading.{Reading}
 use Rattle.message.specs.declared.Reading.the-variants as reading
 use Rattle.node_record.specs.declared.Node.{Node}
@@ -16,18 +16,18 @@ use Rattle.node_record.specs.States.{isMember}
 use Rattle.node_record.specs.Soundness.{limit}
 use Rattle.node_record.specs.declared.Cause.the-variants.{SwitchedOff}
 use Rattle.node_changes.specs.Changes.{starting, outFor, fresh, numbered}
-use Rattle.node_steps.specs.Lessons.{lessonOf}
+use Rattle.node_steps.specs.Digests.{digestOf}
 use Rattle.node_sending.specs.Sending.{sends, bitsSent, returnSent}
 use Rattle.node.specs.declared.Answer.{Answer}
 use Rattle.node.specs.declared.Answer.the-variants as answer
-use Rattle.node.specs.Slot.{afterBy}
+use Rattle.node_slot.specs.Inner.{afterBy}
 use Rattle.bench.specs.declared.Command.{Command}
 use Rattle.bench.specs.declared.Command.the-variants as command
 use Rattle.bench_walks.specs.declared.Order.{Order}
 use Rattle.bench_walks.specs.declared.Order.the-variants as order
 use Rattle.bench_walks.specs.declared.Turn.{Turn}
-use Rattle.bench_walks.specs.declared.Told.{Told}
-use Rattle.bench_walks.specs.declared.Sight.{Sight}
+use Rattle.bench_walks.specs.declared.Pairs.{Pairs}
+use Rattle.bench_walks.specs.declared.Lists.{Lists}
 use Rattle.bench_walks.specs.declared.Notes.{Notes}
 use Rattle.bench_walks.specs.declared.Members.{Members}
 use Rattle.bench.specs.declared.Listed.{Listed}
@@ -50,18 +50,18 @@ abbrev pub ifGood : Bool → Refusal → Order → Order
 ifGood good cause o = cond good o (order.Refuse cause)
 
 abbrev pub setUpOrder : ℕ → ℕ → ℕ → Order
-setUpOrder n k size = ifGood (ringSize n) RingSize (ifGood (sponsorCount n k) SponsorCount (ifGood (eqb size n) Unsound (order.Start n k)))
+setUpOrder n k size = ifGood (ringSize n) RingSize (ifGood (sponsorCount (cableOf n k)) SponsorCount (ifGood (eqb size n) Unsound (order.Start n k)))
 
 abbrev pub offOrder : ℕ → Survey → ℕ → Order
-offOrder a s size = ifGood (fineTable s size) Unsound (ifGood (nodeNumber (s .n) a) NodeNumber (order.Off a))
+offOrder a s size = ifGood (fineTable s size) Unsound (ifGood (nodeNumber (s .cable .n) a) NodeNumber (order.Off a))
 
 abbrev pub restartOrder : ℕ → Survey → ℕ → Order
 restartOrder a s size =
-    ifGood (fineTable s size) Unsound (ifGood (nodeNumber (s .n) a) NodeNumber (ifGood (has (s .out) a) NotOut (order.Restart a)))
+    ifGood (fineTable s size) Unsound (ifGood (nodeNumber (s .cable .n) a) NodeNumber (ifGood (has (s .out) a) NotOut (order.Restart a)))
 
 -- What the speaker says, where it is heard.
-abbrev pub saidBy : Bool → Node → Reading
-saidBy lost v = cond lost unheard (cond (sends v) (reading.Heard (bitsSent v) (returnSent v)) unheard)
+abbrev pub spokenBy : Bool → Node → Reading
+spokenBy lost v = cond lost unheard (cond (sends v) (reading.Heard (bitsSent v) (returnSent v)) unheard)
 
 -- What comes of the speaker's message.
 abbrev pub fateBy : Bool → Node → Fate
@@ -73,15 +73,15 @@ turnOf lost missed s = record {
   slot = s .slots + 1;
   sender = s .sender;
   fate = fateBy lost (s .speaker);
-  heard = saidBy lost (s .speaker);
+  heard = spokenBy lost (s .speaker);
   missed = missed;
-  lesson = lessonOf (s .sender) (saidBy lost (s .speaker)) (s .speaker);
+  digest = digestOf (s .sender) (spokenBy lost (s .speaker)) (s .speaker .cable) (s .speaker .set);
 }
 
 abbrev pub slotOrder : Bool → ℕ → ℕ → Survey → ℕ → Order
 slotOrder lost missed room s size =
     ifGood (fineTable s size) Unsound
-    (ifGood (within (s .n) missed) NodeNumber
+    (ifGood (within (s .cable .n) missed) NodeNumber
     (ifGood (ltb (s .slots) limit) SlotLimit
     (ifGood (leb 64 room) OutputShort
     (order.Slot (turnOf lost missed s)))))
@@ -116,11 +116,11 @@ abbrev pub heardAt : Turn → Node → Reading
 heardAt turn v = cond (has (turn .missed) (v .own)) unheard (turn .heard)
 
 abbrev pub stepAt : Turn → Node → Node
-stepAt turn v = afterBy (turn .lesson) (turn .sender) (heardAt turn v) (numbered (turn .slot) v)
+stepAt turn v = afterBy (turn .digest) (turn .sender) (heardAt turn v) (numbered (turn .slot) v)
 
 unfoldable pub carried : Order → ℕ → Node → Node
 carried (order.Refuse cause) i v = v
-carried (order.Start n k) i v = starting n k (placeOf i)
+carried (order.Start n k) i v = starting (cableOf n k) (placeOf i)
 carried (order.Off a) i v = offAt a v
 carried (order.Restart a) i v = restartAt a v
 carried (order.Slot turn) i v = stepAt turn v
@@ -131,15 +131,15 @@ carriedFrom o i t = eachFrom (carried o) i t
 
 -- ---- the pairs, in rising order of nodes
 
-abbrev pub pushed : Told → ℕ → ℕ → Told
+abbrev pub pushed : Pairs → ℕ → ℕ → Pairs
 pushed p x kind = record { count = p .count + 1; bytes = set (set (p .bytes) (p .count * 2) x) (p .count * 2 + 1) kind }
 
-unfoldable pub noted : Told → Node → Node → Told
-noted p before after =
+unfoldable pub withPair : Pairs → Node → Node → Pairs
+withPair p before after =
     cond (sameState (before .state) (after .state)) p
     (cond (ltb (p .count) 32 && leb (before .own) 32) (pushed p (before .own) (kindFrom (before .state) (after .state))) p)
 
-unfoldable pub noPairs : Told
+unfoldable pub noPairs : Pairs
 noPairs = record { count = 0; bytes = replicate 64 0 }
 
 -- ---- the list, and whether all members hold it
@@ -152,19 +152,19 @@ abbrev pub sameWith : Listed → Node → Bool
 sameWith (listed.Set set) v = cond (isMember (v .state)) (eqb set (v .set)) true
 sameWith listed.Nobody v = true
 
-unfoldable pub sighted : Sight → Node → Sight
-sighted s v = record { list = listWith (s .list) v; same = s .same && sameWith (s .list) v }
+unfoldable pub listsWith : Lists → Node → Lists
+listsWith s v = record { list = listWith (s .list) v; same = s .same && sameWith (s .list) v }
 
-abbrev pub noSight : Sight
-noSight = record { list = listed.Nobody; same = true }
+abbrev pub noLists : Lists
+noLists = record { list = listed.Nobody; same = true }
 
 -- ---- notes
 
 unfoldable pub noticed : Notes → Node → Node → Notes
-noticed m before after = record { told = noted (m .told) before after; sight = sighted (m .sight) after }
+noticed m before after = record { pairs = withPair (m .pairs) before after; lists = listsWith (m .lists) after }
 
 unfoldable pub noNotes : Notes
-noNotes = record { told = noPairs; sight = noSight }
+noNotes = record { pairs = noPairs; lists = noLists }
 
 abbrev pub noticedFrom : Order → Notes → ℕ → Table → Notes
 noticedFrom o m i t = foldFrom (λ m i v. noticed m v (carried o i v)) m i t
@@ -184,7 +184,7 @@ answerTo (order.Look slots sender fate) = answer.Done
 
 -- How many records are to be looked through for the distance: none where all members hold one set.
 abbrev pub reachOf : Notes → ℕ
-reachOf m = cond (m .sight .same) 0 32
+reachOf m = cond (m .lists .same) 0 32
 
 -- What there is to print.
 abbrev pub outcomeBy : Order → Listed → ℕ → Outcome
@@ -201,11 +201,11 @@ pairsBy (order.Refuse cause) m = 0
 pairsBy (order.Start n k) m = 0
 pairsBy (order.Off a) m = 0
 pairsBy (order.Restart a) m = 0
-pairsBy (order.Slot turn) m = m .told .count
+pairsBy (order.Slot turn) m = m .pairs .count
 pairsBy (order.Look slots sender fate) m = 0
 
 abbrev pub replyBy : Order → Notes → Members → Reply
-replyBy o m ms = record { outcome = outcomeBy o (m .sight .list) (ms .greatest); pairs = pairsBy o m }
+replyBy o m ms = record { outcome = outcomeBy o (m .lists .list) (ms .greatest); pairs = pairsBy o m }
 
 -- The bytes of so many pairs, where they fit.
 abbrev pub bytesTold : ℕ → ℕ → ℕ
@@ -217,4 +217,4 @@ puts bytes zero out = out
 puts bytes (suc j) out = set (puts bytes j out) j (getD bytes j 0)
 
 abbrev pub writtenBy : Order → Notes → List ℕ → List ℕ
-writtenBy o m out = puts (m .told .bytes) (bytesTold (pairsBy o m) (length out)) out
+writtenBy o m out = puts (m .pairs .bytes) (bytesTold (pairsBy o m) (length out)) out

@@ -21,19 +21,18 @@ foldFrom f s i [] = s
 foldFrom f s i (v ∷ t) = foldFrom f (f s i v) (suc i) t
 
 -- The sender of the slot that follows those of a record, and 0 where its n is no ring's.
-abbrev pub numberOf : Speaker → ℕ
-numberOf (speaker.Node x) = x
-numberOf (speaker.Refused cause) = 0
+abbrev pub nodeIn : Speaker → ℕ
+nodeIn (speaker.Node x) = x
+nodeIn (speaker.Refused cause) = 0
 
 unfoldable pub senderAfter : Node → ℕ
-senderAfter v = numberOf (senderOf (v .n) (v .slots + 1))
+senderAfter v = nodeIn (senderOf (v .cable .n) (v .slots + 1))
 
--- Before any record is seen: n, k and slots are those of v.
+-- Before any record is seen: cable and slots are those of v.
 abbrev pub begun : Bool → Node → Survey
 begun fine v = record {
   fine = fine;
-  n = v .n;
-  k = v .k;
+  cable = v .cable;
   slots = v .slots;
   sender = senderAfter v;
   speaker = v;
@@ -47,16 +46,15 @@ outWith out v = cond (isOut (v .state)) (with out (v .own)) out
 -- With the record at index i.
 abbrev pub seen : Survey → ℕ → Node → Survey
 seen s i v = record {
-  fine = s .fine && inPlace (s .n) (s .k) (s .slots) (i + 1) v;
-  n = s .n;
-  k = s .k;
+  fine = s .fine && inPlace (s .cable) (s .slots) (i + 1) v;
+  cable = s .cable;
   slots = s .slots;
   sender = s .sender;
   speaker = cond (eqb (v .own) (s .sender)) v (s .speaker);
   out = outWith (s .out) v;
 }
 
--- The first record gives n, k and slots.
+-- The first record gives cable and slots.
 unfoldable pub surveyed : Survey → ℕ → Node → Survey
 surveyed s i v = seen (cond (eqb i 0) (begun true v) s) i v
 
@@ -72,7 +70,7 @@ surveyOf t = surveyFrom unseen 0 t
 
 -- A table is sound by its survey and its length.
 abbrev pub fineTable : Survey → ℕ → Bool
-fineTable s size = s .fine && eqb (s .n) size
+fineTable s size = s .fine && eqb (s .cable .n) size
 
 -- ---- the sets of the members, and the greatest distance of two of them
 
@@ -91,7 +89,7 @@ memberSeen n m y = record {
 unfoldable pub gathered : Members → ℕ → Node → Members
 gathered m i v =
     cond (isMember (v .state) && ltb (m .count) 32)
-    (memberSeen (v .n) m (v .set))
+    (memberSeen (v .cable .n) m (v .set))
     m
 
 abbrev pub gatheredFrom : Members → ℕ → Table → Members

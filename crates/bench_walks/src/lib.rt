@@ -1,43 +1,43 @@
 // Inner: the walks over the bench's table (document 01, "The bench"): one looks it over, one has each
 // record do what is ordered, one gathers the members' sets. They have no branches; what they decide, do
 // to a record and note of it stands in the functions by value.
+mod kinds;
 pub mod orders;
-mod pairs;
 mod records;
 pub mod surveys;
 
 use bench::Command;
 use bench::Fate;
 use bench::Listed;
+use kinds::kind_from;
+use kinds::same_state;
 use message::Reading;
 use node_record::Node;
-use node_steps::Lesson;
+use node_steps::Digest;
 use orders::look_order;
 use orders::off_order;
 use orders::restart_order;
 use orders::set_up_order;
 use orders::slot_order;
-use pairs::kind_from;
-use pairs::same_state;
 use records::off_at;
 use records::place_of;
 use records::restart_at;
 use records::step_at;
 use refusal::Refusal;
+use ring::Cable;
 use surveys::begun;
 use surveys::seen;
 ghost use mathlib.Core.Path.{_≡_};
 ghost use Prim.Native.Nat.{_<_, _≤_, max, min};
 ghost use lib.ListN.{take};
 ghost use Rattle.bench_walks.specs.Survey.{surveyed, unseen, surveyOf, fineTable, farFrom, memberSeen, gathered, noMembers, membersOf};
-ghost use Rattle.bench_walks.specs.Orders.{orderOf, carried, carriedFrom, pushed, noted, noPairs, listWith, sameWith, sighted, noticed, noNotes, notesOf};
+ghost use Rattle.bench_walks.specs.Orders.{orderOf, carried, carriedFrom, pushed, withPair, noPairs, listWith, sameWith, listsWith, noticed, noNotes, notesOf};
 
-// What a look over a table finds: whether each record stands in its place; n, k and slots of the
-// first; the next sender's number and record; the nodes that are out.
+// What a look over a table finds: whether each record stands in its place; the cable and slots of
+// the first; the next sender's number and record; the nodes that are out.
 pub struct Survey {
     pub fine: bool,
-    pub n: u32,
-    pub k: u32,
+    pub cable: Cable,
     pub slots: u64,
     pub sender: u32,
     pub speaker: Node,
@@ -52,14 +52,14 @@ pub struct Members {
 }
 
 // A slot that is to run: its number and sender, what comes of the message, what is read of it, which
-// nodes miss it, and what it tells those who hold the sender's set.
+// nodes miss it, and what it means to those who hold the sender's set.
 pub struct Turn {
     pub slot: u64,
     pub sender: u32,
     pub fate: Fate,
     pub heard: Reading,
     pub missed: u32,
-    pub lesson: Lesson,
+    pub digest: Digest,
 }
 
 // What each record is to do. A look, which has it do nothing, holds what is told of the next slot: the
@@ -74,21 +74,21 @@ pub enum Order {
 }
 
 // Pairs of a node and a kind.
-pub struct Told {
+pub struct Pairs {
     pub count: u32,
     pub bytes: [u8; 64],
 }
 
 // The list of the records seen so far, and whether all members among them hold it.
-pub struct Sight {
+pub struct Lists {
     pub list: Listed,
     pub same: bool,
 }
 
 // What is noted while an order is carried out: whose state changed, and the list afterwards.
 pub struct Notes {
-    pub told: Told,
-    pub sight: Sight,
+    pub pairs: Pairs,
+    pub lists: Lists,
 }
 
 // A survey of nothing.
@@ -99,7 +99,7 @@ fn unseen() -> Survey
     begun(false, v)
 }
 
-// The survey with the record at index i, the first of which gives n, k and slots.
+// The survey with the record at index i, the first of which gives cable and slots.
 fn surveyed(s: Survey, i: usize, v: Node) -> Survey
     ensures { λ r. ⌜ r ≡ surveyed s i v ⌝ }
 {
@@ -111,7 +111,7 @@ fn surveyed(s: Survey, i: usize, v: Node) -> Survey
 pub fn is_fine(s: Survey, size: usize) -> bool
     ensures { λ r. ⌜ r ≡ fineTable s size ⌝ }
 {
-    s.fine & (s.n as usize == size)
+    s.fine & (s.cable.n as usize == size)
 }
 
 // What a command has a table of so many records do, where so many bytes are lent for the pairs.
@@ -133,7 +133,7 @@ fn carried(order: Order, i: usize, v: Node) -> Node
 {
     match order {
         Order::Refuse(_) => v,
-        Order::Start(n, k) => node_changes::starting(n, k, place_of(i)),
+        Order::Start(n, k) => node_changes::starting(Cable { n, k }, place_of(i)),
         Order::Off(a) => off_at(a, v),
         Order::Restart(a) => restart_at(a, v),
         Order::Slot(turn) => step_at(turn, v),
@@ -142,7 +142,7 @@ fn carried(order: Order, i: usize, v: Node) -> Node
 }
 
 // The pairs with one more. Requires room for it.
-fn pushed(p: Told, x: u8, kind: u8) -> Told
+fn pushed(p: Pairs, x: u8, kind: u8) -> Pairs
     requires { ⌜ p .count < 32 ⌝ }
     ensures { λ r. ⌜ r ≡ pushed p x kind ⌝ }
 {
@@ -155,8 +155,8 @@ fn pushed(p: Told, x: u8, kind: u8) -> Told
 }
 
 // The pairs with that of a record, if its state changed.
-fn noted(p: Told, before: Node, after: Node) -> Told
-    ensures { λ r. ⌜ r ≡ noted p before after ⌝ }
+fn with_pair(p: Pairs, before: Node, after: Node) -> Pairs
+    ensures { λ r. ⌜ r ≡ withPair p before after ⌝ }
 {
     let a = before.state;
     let b = after.state;
@@ -169,10 +169,10 @@ fn noted(p: Told, before: Node, after: Node) -> Told
     p
 }
 
-fn no_pairs() -> Told
+fn no_pairs() -> Pairs
     ensures { λ r. ⌜ r ≡ noPairs ⌝ }
 {
-    Told {
+    Pairs {
         count: 0,
         bytes: [0; 64],
     }
@@ -210,15 +210,15 @@ fn same_with(list: Listed, v: Node) -> bool
 }
 
 // The list, and whether all members hold it, with one record more.
-fn sighted(sight: Sight, v: Node) -> Sight
-    ensures { λ r. ⌜ r ≡ sighted sight v ⌝ }
+fn lists_with(lists: Lists, v: Node) -> Lists
+    ensures { λ r. ⌜ r ≡ listsWith lists v ⌝ }
 {
-    let before = sight.list;
+    let before = lists.list;
     let same = same_with(before, v);
     let list = list_with(before, v);
-    Sight {
+    Lists {
         list,
-        same: sight.same & same,
+        same: lists.same & same,
     }
 }
 
@@ -226,22 +226,22 @@ fn sighted(sight: Sight, v: Node) -> Sight
 fn noticed(notes: Notes, before: Node, after: Node) -> Notes
     ensures { λ r. ⌜ r ≡ noticed notes before after ⌝ }
 {
-    let pairs = notes.told;
-    let seen = notes.sight;
-    let told = noted(pairs, before, after);
-    let sight = sighted(seen, after);
-    Notes { told, sight }
+    let told = notes.pairs;
+    let seen = notes.lists;
+    let pairs = with_pair(told, before, after);
+    let lists = lists_with(seen, after);
+    Notes { pairs, lists }
 }
 
 fn no_notes() -> Notes
     ensures { λ r. ⌜ r ≡ noNotes ⌝ }
 {
-    let told = no_pairs();
-    let sight = Sight {
+    let pairs = no_pairs();
+    let lists = Lists {
         list: Listed::Nobody,
         same: true,
     };
-    Notes { told, sight }
+    Notes { pairs, lists }
 }
 
 // The greater number.
@@ -287,7 +287,7 @@ fn gathered(m: Members, i: usize, v: Node) -> Members
 {
     let state = v.state;
     if node_record::is_member(state) & (m.count < 32) {
-        return member_seen(v.n, m, v.set);
+        return member_seen(v.cable.n, m, v.set);
     }
     m
 }

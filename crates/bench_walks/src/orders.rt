@@ -7,9 +7,10 @@ use bench::Fate;
 use message::Reading;
 use node_record::Node;
 use refusal::Refusal;
+use ring::Cable;
 ghost use mathlib.Core.Path.{_≡_};
 ghost use Prim.Native.Nat.{_<_, _^_, _-_};
-ghost use Rattle.bench_walks.specs.Orders.{setUpOrder, offOrder, restartOrder, saidBy, fateBy, turnOf, slotOrder, lookOrder};
+ghost use Rattle.bench_walks.specs.Orders.{setUpOrder, offOrder, restartOrder, spokenBy, fateBy, turnOf, slotOrder, lookOrder};
 
 pub fn set_up_order(n: u32, k: u32, size: usize) -> Order
     ensures { λ r. ⌜ r ≡ setUpOrder n k size ⌝ }
@@ -17,7 +18,7 @@ pub fn set_up_order(n: u32, k: u32, size: usize) -> Order
     if !ring::is_ring_size(n) {
         return Order::Refuse(Refusal::RingSize);
     }
-    if !ring::is_sponsor_count(n, k) {
+    if !ring::is_sponsor_count(Cable { n, k }) {
         return Order::Refuse(Refusal::SponsorCount);
     }
     if size != n as usize {
@@ -32,7 +33,7 @@ pub fn off_order(a: u32, s: Survey, size: usize) -> Order
     if !is_fine(s, size) {
         return Order::Refuse(Refusal::Unsound);
     }
-    if !ring::is_node_number(s.n, a) {
+    if !ring::is_node_number(s.cable.n, a) {
         return Order::Refuse(Refusal::NodeNumber);
     }
     Order::Off(a)
@@ -44,7 +45,7 @@ pub fn restart_order(a: u32, s: Survey, size: usize) -> Order
     if !is_fine(s, size) {
         return Order::Refuse(Refusal::Unsound);
     }
-    if !ring::is_node_number(s.n, a) {
+    if !ring::is_node_number(s.cable.n, a) {
         return Order::Refuse(Refusal::NodeNumber);
     }
     if !nodeset::has(s.out, a) {
@@ -54,8 +55,8 @@ pub fn restart_order(a: u32, s: Survey, size: usize) -> Order
 }
 
 // What is read of the speaker's message.
-pub fn said_by(lost: bool, v: Node) -> Reading
-    ensures { λ r. ⌜ r ≡ saidBy lost v ⌝ }
+pub fn spoken_by(lost: bool, v: Node) -> Reading
+    ensures { λ r. ⌜ r ≡ spokenBy lost v ⌝ }
 {
     if lost {
         return Reading::Refused(Refusal::MessageLength);
@@ -93,15 +94,16 @@ fn turn_of(lost: bool, missed: u32, s: Survey) -> Turn
 {
     let speaker = s.speaker;
     let fate = fate_of(lost, speaker);
-    let heard = said_by(lost, speaker);
-    let lesson = node_steps::lesson_of(s.sender, heard, speaker);
+    let heard = spoken_by(lost, speaker);
+    let cable = speaker.cable;
+    let digest = node_steps::digest_of(s.sender, heard, cable, speaker.set);
     Turn {
         slot: s.slots + 1,
         sender: s.sender,
         fate,
         heard,
         missed,
-        lesson,
+        digest,
     }
 }
 
@@ -111,7 +113,7 @@ pub fn slot_order(lost: bool, missed: u32, room: usize, s: Survey, size: usize) 
     if !is_fine(s, size) {
         return Order::Refuse(Refusal::Unsound);
     }
-    if !nodeset::is_within(s.n, missed) {
+    if !nodeset::is_within(s.cable.n, missed) {
         return Order::Refuse(Refusal::NodeNumber);
     }
     if node_record::LIMIT <= s.slots {

@@ -61,6 +61,6 @@ pub fn step_at(turn: Turn, v: Node) -> Node
     ensures { λ r. ⌜ r ≡ stepAt turn v ⌝ }
 {
     let heard = heard_at(turn, v);
-    let lesson = turn.lesson;
-    node::after_slot(turn.sender, heard, lesson, numbered(turn.slot, v))
+    let digest = turn.digest;
+    node_slot::after_slot(turn.sender, heard, digest, numbered(turn.slot, v))
 }

@@ -12,22 +12,22 @@ ghost use Rattle.bench_walks.specs.Survey.{senderAfter, begun, outWith, 
 pub fn sender_after(v: Node) -> u32
     ensures { λ r. ⌜ r ≡ senderAfter v ⌝ }
 {
-    let speaker = ring::sender(v.n, v.slots);
+    let speaker = ring::sender(v.cable.n, v.slots);
     match speaker {
         Speaker::Node(s) => s,
         Speaker::Refused(_) => 0,
     }
 }
 
-// A survey that has n, k and slots of the record, and no record yet.
+// A survey that has cable and slots of the record, and no record yet.
 pub fn begun(fine: bool, v: Node) -> Survey
     ensures { λ r. ⌜ r ≡ begun fine v ⌝ }
 {
     let sender = sender_after(v);
+    let cable = v.cable;
     Survey {
         fine,
-        n: v.n,
-        k: v.k,
+        cable,
         slots: v.slots,
         sender,
         speaker: v,
@@ -47,10 +47,12 @@ pub fn is_place(own: u32, i: usize) -> bool
 
 // Whether the record is sound and stands at index i of the table surveyed.
 pub fn stands(s: Survey, i: usize, v: Node) -> bool
-    ensures { λ r. ⌜ r ≡ inPlace (s .n) (s .k) (s .slots) (i + 1) v ⌝ }
+    ensures { λ r. ⌜ r ≡ inPlace (s .cable) (s .slots) (i + 1) v ⌝ }
 {
+    let cable = v.cable;
+    let first = s.cable;
     node_record::is_sound(v)
-        & ((v.n == s.n) & ((v.k == s.k) & ((v.slots == s.slots) & is_place(v.own, i))))
+        & (ring::is_same_cable(cable, first) & ((v.slots == s.slots) & is_place(v.own, i)))
 }
 
 // The nodes that are out, with one record more.

@@ -1,25 +1,24 @@
 -- Demand 1 holds: each definition is a chain of tests, and each test that fails gives a number of the call's list and leaves what was lent. Assumes nothing.
-use Prim.Native.Nat.{ℕ, zero, suc, _+_, _*_, _-_, _^_}
+use Prim.Native.Nat.{ℕ, _+_, _*_, _^_}
 use mathlib.Core.Path.{_≡_, refl, ap}
 use mathlib.Core.Bool.{Bool, true, false, cond}
 use mathlib.Core.List.{List, [], _∷_}
 use lib.Dec.{eqb, ltb, leb}
 use lib.ListN.{length}
 use borrow.Author.Tests.{leb-false}
-use Rattle.refusal.specs.declared.Refusal.{Refusal}
-use Rattle.refusal.specs.declared.Refusal.the-variants.{RingSize, SponsorCount, NodeNumber, Unsound, SlotLimit, MessageLength, SectionCount, SpareBit, OutputShort, NotOut}
-use Rattle.nodeset.specs.Sums.{num}
-use Rattle.nodeset.specs.Sets.{has, size, within}
+use Rattle.refusal.specs.Causes.{cause}
+use Rattle.nodeset.specs.Sets.{within}
 use Rattle.nodeset.proofs.Tests.{by-cases}
+use Rattle.ring.specs.declared.Cable.{Cable}
 use Rattle.ring.specs.declared.Speaker.{Speaker}
 use Rattle.ring.specs.declared.Found.{Found}
-use Rattle.ring.specs.declared.Found.the-variants as found
-use Rattle.ring.specs.Answers.{onRing, onSponsoredRing, sponsoredOf, decidedOf}
-use Rattle.ring.specs.Ring.{ringSize, nodeNumber, sponsorCount, previous, memberBefore, sponsored, decided, walk, ks}
+use Rattle.ring.specs.declared.Lookup.{Lookup}
+use Rattle.ring.specs.Answers.{beforeOf, onCable}
+use Rattle.ring.specs.Ring.{cableOf, ringSize, nodeNumber, sponsorCount, sponsored, decided}
 use Rattle.message.specs.declared.Reading.{Reading}
 use Rattle.message.specs.declared.Reading.the-variants as reading
 use Rattle.message.specs.declared.Written.the-variants as written
-use Rattle.message.specs.Message.{Outcome, ifRead, ifWritten, inRange, lengthOf, partOne, partTwo, readOf, saidBy, sectionIn, writeOf}
+use Rattle.message.specs.Message.{Outcome, unread, ifRead, unwritten, ifWritten, inRange, lengthOf, partOne, partTwo, readOf, saidBy, sectionIn, writeOf}
 use Rattle.node_record.specs.Soundness.{sound, limit}
 use Rattle.node_record.specs.States.{isOut}
 use Rattle.node_record.specs.declared.Node.{Node}
@@ -29,7 +28,7 @@ use Rattle.node.specs.Calls.{itsTurn, setUpOf, stepOf, sendOf, offOf, restartOf
 use Rattle.node.proofs.Sent.{sent-or-short}
 use Rattle.bench.specs.declared.Command.{Command}
 use Rattle.bench.specs.declared.Command.the-variants as command
-use Rattle.bench.specs.Table.{Table, tableSound, ringOf, slotsOf, recordOf}
+use Rattle.bench.specs.Table.{Table, tableSound, nodeCount, slotsOf, recordOf}
 use Rattle.bench.specs.Calls as bench
 use Rattle.bench.specs.Pairs.{SlotBytes}
 use Rattle.bench.specs.Outcomes.{calledOf, endedOf, outcomeOf, BytesAfter}
@@ -37,7 +36,7 @@ use Rattle.plan_text.specs.Text.{writtenOf}
 use Rattle.plan_text.specs.declared.Written as text
 use Rattle.plan_program.specs.declared.Plan.{Plan}
 use Rattle.plan_program.specs.Calls.{fedOf, finishedOf, hasRoom, planSound, printedIn}
-use Rattle.demands.specs.Demand1.{Demand1, EndsBy, FeedsBy, PrintsBy, RunsBy, StepsBy, WritesBy, numbersFor, ofFound, ofReading, ofSpeaker, ofAnswer}
+use Rattle.demands.specs.Demand1.{Demand1, EndsBy, FeedsBy, PrintsBy, RunsBy, StepsBy, WritesBy, numbersFor, ofLookup, ofReading, ofSpeaker, ofAnswer}
 
 -- ---- a test, in each of the forms that the definitions use: P holds either way
 
@@ -45,54 +44,31 @@ either : {A : Type 0} (P : A → Type 0) (b : Bool) {x y : A} → P x → P y �
 either P true p q = p
 either P false p q = q
 
-either-read : (P : Reading → Type 0) (b : Bool) (cause : Refusal) {r : Reading} → P r → P (reading.Refused cause) → P (ifRead b cause r)
-either-read P true cause p q = p
-either-read P false cause p q = q
+either-read : (P : Reading → Type 0) (b : Bool) (number : ℕ) {r : Reading} → P r → P (unread number) → P (ifRead b number r)
+either-read P true number p q = p
+either-read P false number p q = q
 
-either-written : (P : Outcome → Type 0) (b : Bool) (cause : Refusal) {out : List ℕ} {o : Outcome} → P o → P (written.Refused cause, out) → P (ifWritten b cause out o)
-either-written P true cause p q = p
-either-written P false cause p q = q
+either-written : (P : Outcome → Type 0) (b : Bool) (number : ℕ) {out : List ℕ} {o : Outcome} → P o → P (unwritten number, out) → P (ifWritten b number out o)
+either-written P true number p q = p
+either-written P false number p q = q
 
-either-passed : (P : bench.Called → Type 0) (b : Bool) (cause : Refusal) {t : Table} {c : bench.Called}
-    → P c → P (record { table = t; answer = answer.Refused cause }) → P (bench.ifPassed b cause t c)
-either-passed P true cause p q = p
-either-passed P false cause p q = q
+either-passed : (P : bench.Called → Type 0) (b : Bool) (number : ℕ) {t : Table} {c : bench.Called}
+    → P c → P (record { table = t; answer = answer.Refused (cause number) }) → P (bench.ifPassed b number t c)
+either-passed P true number p q = p
+either-passed P false number p q = q
 
 -- ---- the ring
 
-module _ (numbers : List ℕ) where
-  abbrev Ends : Found → Type 0
-  Ends f = EndsBy numbers (ofFound f)
+abbrev Ends : List ℕ → Lookup → Type 0
+Ends numbers a = EndsBy numbers (ofLookup a)
 
-  walked : (left n set x j : ℕ) → Ends (walk left n set x j)
-  unfolding walk
-  walked zero n set x j = tt
-  walked (suc left) n set x j =
-      let p = previous n x in
-      let more = j - num (has set p) in
-      either Ends (eqb more 0) tt (walked left n set p more)
+finds-before : (n set x j : ℕ) → Ends (1 ∷ 3 ∷ []) (beforeOf n set x j)
+finds-before n set x j = let P = Ends (1 ∷ 3 ∷ []) in either P (ringSize n) (either P (nodeNumber n x) tt refl) refl
 
-  member-before : (n set x j : ℕ) → Ends (memberBefore n set x j)
-  unfolding memberBefore
-  member-before n set x j = either Ends (eqb j 0) tt (walked (n - 1) n set x j)
-
-on-ring : (n x : ℕ) (f : Found) → Ends (1 ∷ 3 ∷ []) f → Ends (1 ∷ 3 ∷ []) (onRing n x f)
-on-ring n x f e = let P = Ends (1 ∷ 3 ∷ []) in either P (ringSize n) (either P (nodeNumber n x) e refl) refl
-
-on-sponsored-ring : (n k x : ℕ) (f : Found) → Ends (1 ∷ 2 ∷ 3 ∷ []) f → Ends (1 ∷ 2 ∷ 3 ∷ []) (onSponsoredRing n k x f)
-on-sponsored-ring n k x f e =
+finds-on : (cable : Cable) (x : ℕ) (f : Found) → Ends (1 ∷ 2 ∷ 3 ∷ []) (onCable cable x f)
+finds-on cable x f =
     let P = Ends (1 ∷ 2 ∷ 3 ∷ []) in
-    either P (ringSize n) (either P (sponsorCount n k) (either P (nodeNumber n x) e refl) refl) refl
-
-sponsors : (n k set x j : ℕ) → Ends (1 ∷ 2 ∷ 3 ∷ []) (sponsoredOf n k set x j)
-unfolding sponsored
-sponsors n k set x j =
-    let numbers : List ℕ = 1 ∷ 2 ∷ 3 ∷ [] in
-    on-sponsored-ring n k x (sponsored n k set x j) (either (Ends numbers) (leb j (ks k (size n set))) (member-before numbers n set x j) tt)
-
-decides : (n k set x : ℕ) → Ends (1 ∷ 2 ∷ 3 ∷ []) (decidedOf n k set x)
-unfolding decided
-decides n k set x = on-sponsored-ring n k x (decided n k set x) (member-before (1 ∷ 2 ∷ 3 ∷ []) n set x (ks k (size n set)))
+    either P (ringSize (cable .n)) (either P (sponsorCount cable) (either P (nodeNumber (cable .n) x) tt refl) refl) refl
 
 -- ---- the message
 
@@ -102,28 +78,28 @@ reads k bytes =
     let P : Reading → Type 0 = λ r. EndsBy (2 ∷ 6 ∷ 7 ∷ 8 ∷ []) (ofReading r) in
     let one = sectionIn k (partOne k bytes) in
     let two = sectionIn 1 (partTwo k bytes) in
-    either-read P (inRange k) SponsorCount
-    (either-read P (eqb (length bytes) (lengthOf k)) MessageLength
-    (either-read P (one .counted) SectionCount
-    (either-read P (two .counted) SectionCount
-    (either-read P (one .clear) SpareBit
-    (either-read P (two .clear) SpareBit tt refl) refl) refl) refl) refl) refl
+    either-read P (inRange k) 2
+    (either-read P (eqb (length bytes) (lengthOf k)) 6
+    (either-read P (one .counted) 7
+    (either-read P (two .counted) 7
+    (either-read P (one .clear) 8
+    (either-read P (two .clear) 8 tt refl) refl) refl) refl) refl) refl
 
 writes : (k a : ℕ) (b : Bool) (out : List ℕ) → WritesBy (2 ∷ 8 ∷ 9 ∷ []) out (writeOf k a b out)
 unfolding writeOf
 writes k a b out =
     let P = WritesBy (2 ∷ 8 ∷ 9 ∷ []) out in
-    either-written P (inRange k) SponsorCount
-    (either-written P (ltb a (2 ^ k)) SpareBit
-    (either-written P (leb (lengthOf k) (length out)) OutputShort (tt, tt) (refl, refl)) (refl, refl)) (refl, refl)
+    either-written P (inRange k) 2
+    (either-written P (ltb a (2 ^ k)) 8
+    (either-written P (leb (lengthOf k) (length out)) 9 (tt, tt) (refl, refl)) (refl, refl)) (refl, refl)
 
 -- ---- the node record
 
-sets-up : (n k own : ℕ) → EndsBy (1 ∷ 2 ∷ 3 ∷ []) (ofAnswer (setUpOf n k own .answer))
+sets-up : (cable : Cable) (own : ℕ) → EndsBy (1 ∷ 2 ∷ 3 ∷ []) (ofAnswer (setUpOf cable own .answer))
 unfolding setUpOf
-sets-up n k own =
+sets-up cable own =
     let P : Stepped → Type 0 = λ s. EndsBy (1 ∷ 2 ∷ 3 ∷ []) (ofAnswer (s .answer)) in
-    either P (ringSize n) (either P (sponsorCount n k) (either P (nodeNumber n own) tt refl) refl) refl
+    either P (ringSize (cable .n)) (either P (sponsorCount cable) (either P (nodeNumber (cable .n) own) tt refl) refl) refl
 
 steps : (heard : Reading) (v : Node) → StepsBy (4 ∷ 5 ∷ []) v (stepOf heard v)
 unfolding stepOf
@@ -150,7 +126,7 @@ sends v out =
     (λ s. by-cases (leb limit (v .slots))
     (λ l. rw (s, l) (refl, refl))
     (λ l. by-cases (itsTurn v)
-    (λ i. rw (sent-or-short v out s (leb-false limit (v .slots) l) i) (either-written P (leb (lengthOf (v .k)) (length out)) OutputShort (tt, tt) (refl, refl)))
+    (λ i. rw (sent-or-short v out s (leb-false limit (v .slots) l) i) (either-written P (leb (lengthOf (v .cable .k)) (length out)) 9 (tt, tt) (refl, refl)))
     (λ i. rw (s, l, i) (refl, refl))))
     (λ s. rw s (refl, refl))
 
@@ -168,29 +144,29 @@ unfolding bench.setUpOf bench.slotOf bench.offOf bench.restartOf bench.lookOf
 runs (command.SetUp n k) t out after same =
     let P = Runs (command.SetUp n k) t out after in
     let kept = untouched t out after same in
-    either-passed P (ringSize n) RingSize
-    (either-passed P (sponsorCount n k) SponsorCount
-    (either-passed P (eqb (length t) n) Unsound (tt, tt) (refl, kept)) (refl, kept)) (refl, kept)
+    either-passed P (ringSize n) 1
+    (either-passed P (sponsorCount (cableOf n k)) 2
+    (either-passed P (eqb (length t) n) 4 (tt, tt) (refl, kept)) (refl, kept)) (refl, kept)
 runs (command.Slot lost missed) t out after told =
     let P : bench.Called → Type 0 = λ c. SlotBytes t c out after → Runs (command.Slot lost missed) t out after c in
     let kept = untouched t out after in
-    either-passed P (tableSound t) Unsound
-    (either-passed P (within (ringOf t) missed) NodeNumber
-    (either-passed P (ltb (slotsOf t) limit) SlotLimit
-    (either-passed P (leb 64 (length out)) OutputShort
+    either-passed P (tableSound t) 4
+    (either-passed P (within (nodeCount t) missed) 3
+    (either-passed P (ltb (slotsOf t) limit) 5
+    (either-passed P (leb 64 (length out)) 9
     (λ _. (tt, tt)) (λ same. (refl, kept same))) (λ same. (refl, kept same))) (λ same. (refl, kept same))) (λ same. (refl, kept same)) told
 runs (command.Off a) t out after same =
     let P = Runs (command.Off a) t out after in
     let kept = untouched t out after same in
-    either-passed P (tableSound t) Unsound (either-passed P (nodeNumber (ringOf t) a) NodeNumber (tt, tt) (refl, kept)) (refl, kept)
+    either-passed P (tableSound t) 4 (either-passed P (nodeNumber (nodeCount t) a) 3 (tt, tt) (refl, kept)) (refl, kept)
 runs (command.Restart a) t out after same =
     let P = Runs (command.Restart a) t out after in
     let kept = untouched t out after same in
-    either-passed P (tableSound t) Unsound
-    (either-passed P (nodeNumber (ringOf t) a) NodeNumber
-    (either-passed P (isOut (recordOf t a .state)) NotOut (tt, tt) (refl, kept)) (refl, kept)) (refl, kept)
+    either-passed P (tableSound t) 4
+    (either-passed P (nodeNumber (nodeCount t) a) 3
+    (either-passed P (isOut (recordOf t a .state)) 11 (tt, tt) (refl, kept)) (refl, kept)) (refl, kept)
 runs (command.Look lost) t out after same =
-    either-passed (Runs (command.Look lost) t out after) (tableSound t) Unsound (tt, tt) (refl, untouched t out after same)
+    either-passed (Runs (command.Look lost) t out after) (tableSound t) 4 (tt, tt) (refl, untouched t out after same)
 
 -- ---- plan texts
 
@@ -217,13 +193,13 @@ pub demand1 : Demand1
 unfolding endedOf
 demand1 = record {
   sender = λ n s. either (λ (a : Speaker). EndsBy (1 ∷ []) (ofSpeaker a)) (ringSize n) tt refl;
-  before = λ n set x j. on-ring n x (memberBefore n set x j) (member-before (1 ∷ 3 ∷ []) n set x j);
-  sponsored = sponsors;
-  decided = decides;
+  before = finds-before;
+  sponsored = λ cable set x j. finds-on cable x (sponsored cable set x j);
+  decided = λ cable set x. finds-on cable x (decided cable set x);
   read = reads;
   write = writes;
   set-up = sets-up;
-  slot = λ bytes v. steps (readOf (v .k) bytes) v;
+  slot = λ bytes v. steps (readOf (v .cable .k) bytes) v;
   step = steps;
   send = sends;
   off = switches-off;

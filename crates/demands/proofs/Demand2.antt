@@ -7,8 +7,6 @@ use native.Mathlib.Omega.{arith}
 use lib.Dec.{eqb, ltb, leb}
 use lib.ListN.{take}
 use borrow.Author.Tests.{lt-leb, ltb-true}
-use Rattle.refusal.specs.declared.Refusal.{Refusal}
-use Rattle.refusal.specs.declared.Refusal.the-variants.{NodeNumber, Unsound, SlotLimit, OutputShort}
 use Rattle.nodeset.specs.Sets.{within}
 use Rattle.nodeset.proofs.Tests.{both}
 use Rattle.message.specs.declared.Reading.{Reading}
@@ -19,51 +17,52 @@ use Rattle.node_record.specs.declared.Node.{Node}
 use Rattle.node_record.specs.Soundness.{sound, limit}
 use Rattle.node_changes.specs.Changes.{counted}
 use Rattle.node_sending.specs.Sending.{sends}
+use Rattle.node_slot.specs.Slot.{slotIn, afterSlot}
 use Rattle.node.specs.declared.Answer.the-variants.{Done}
 use Rattle.node.specs.declared.Stepped.{Stepped}
-use Rattle.node.specs.Slot.{heardFrom, slotIn, afterSlot}
 use Rattle.node.specs.Calls.{done, sendOf, stepOf}
 use Rattle.node.proofs.Sent.{sent-by, sent-read}
 use Rattle.bench.specs.declared.Command.the-variants.{Slot}
-use Rattle.bench.specs.Table.{Table, recordOf, ringOf, slotsOf, speaker, tableSound}
+use Rattle.bench.specs.Table.{Table, recordOf, nodeCount, slotsOf, speaker, tableSound}
 use Rattle.bench.specs.Calls as bench
 use Rattle.bench.specs.Outcomes.{endedOf}
-use Rattle.bench.proofs.agreement.Places.{sound-placed}
-use Rattle.bench.proofs.agreement.Runs.{after-slot-record}
+use Rattle.bench.proofs.Places.{sound-placed}
+use Rattle.bench.proofs.Runs.{after-slot-record}
 use Rattle.demands.specs.Demand2.{Demand2, nextSender}
 
 -- ---- a record
 
 steps-exactly : (heard : Reading) (v : Node) → sound v ≡ true → v .slots < limit
-    → stepOf heard v ≡ done (slotIn (v .state) (nextSender v) (heardFrom (nextSender v) heard v) (counted v))
+    → stepOf heard v ≡ done (slotIn (v .state) (nextSender v) heard (counted v))
 unfolding stepOf afterSlot
 steps-exactly heard v e l = simp (e, lt-leb limit (v .slots) l)
 
 -- ---- the bench
 
 -- what passes a test of the bench
-passed : (b : Bool) (cause : Refusal) (t : Table) (c : bench.Called) → bench.ifPassed b cause t c .answer ≡ Done → (b ≡ true) × (c .answer ≡ Done)
-passed true cause t c e = (refl, e)
-passed false cause t c e = let z : _≡_ {A = ℕ} 0 1 = cc in absurd (omega arith)
+passed : (b : Bool) (number : ℕ) (t : Table) (c : bench.Called) → bench.ifPassed b number t c .answer ≡ Done → (b ≡ true) × (c .answer ≡ Done)
+passed true number t c e = (refl, e)
+passed false number t c e = let z : _≡_ {A = ℕ} 0 1 = cc in absurd (omega arith)
 
 each-steps : (lost : Bool) (missed room : ℕ) (t : Table) → bench.slotOf lost missed room t .answer ≡ Done
-    → (i : ℕ) → 1 ≤ i → i ≤ ringOf t
+    → (i : ℕ) → 1 ≤ i → i ≤ nodeCount t
     → stepOf (bench.heardBy lost missed t i) (recordOf t i) ≡ done (recordOf (endedOf (Slot lost missed) room t .table) i)
 unfolding bench.slotOf endedOf
 each-steps lost missed room t e i low high =
-    let p₁ = passed (tableSound t) Unsound t _ e in
-    let p₂ = passed (within (ringOf t) missed) NodeNumber t _ (p₁ .1) in
-    let p₃ = passed (ltb (slotsOf t) limit) SlotLimit t _ (p₂ .1) in
-    let p₄ = passed (leb 64 room) OutputShort t _ (p₃ .1) in
-    let left : bench.slotOf lost missed room t .table ≡ bench.afterSlot lost missed t = simp (p₁ .0, p₂ .0, p₃ .0, p₄ .0) in
-    let place = sound-placed t (p₁ .0) .at i low high in
+    let p₁ = passed (tableSound t) 4 t _ e in
+    let p₂ = passed (within (nodeCount t) missed) 3 t _ (p₁ .1) in
+    let p₃ = passed (ltb (slotsOf t) limit) 5 t _ (p₂ .1) in
+    let p₄ = passed (leb 64 room) 9 t _ (p₃ .1) in
+    let left : bench.slotOf lost missed room t .table ≡ bench.tableAfterSlot lost missed t = simp (p₁ .0, p₂ .0, p₃ .0, p₄ .0) in
+    let placed = sound-placed t (p₁ .0) in
+    let place = placed .at i low (omega (arith, placed .length-is)) in
     let below : recordOf t i .slots < limit = omega (arith, place .slots-is, ltb-true (slotsOf t) limit (p₃ .0)) in
     let stepped = steps-exactly (bench.heardBy lost missed t i) (recordOf t i) (place .is-sound) below in
     let is = ap (λ (x : Table). recordOf x i) left ∙ after-slot-record lost missed t i low high in
     stepped ∙ ap done (sym (is ∙ ap (λ (s : Stepped). s .node) stepped))
 
 sent-is-spoken : (t : Table) (out : List ℕ) (count : ℕ) (after : List ℕ) → sendOf (recordOf t (speaker t)) out ≡ (Bytes count, after)
-    → readOf (recordOf t (speaker t) .k) (take count after) ≡ bench.spoken t
+    → readOf (recordOf t (speaker t) .cable .k) (take count after) ≡ bench.spoken t
 unfolding bench.spoken bench.transmits
 sent-is-spoken t out count after e =
     let v = recordOf t (speaker t) in

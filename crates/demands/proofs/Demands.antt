@@ -1,5 +1,5 @@
 -- The three demands hold. Assumes nothing.
-use Rattle.bench.proofs.agreement.Demanded.{demand3}
+use Rattle.agreement.proofs.Demanded.{demand3}
 use Rattle.demands.specs.Demands.{Demands}
 use Rattle.demands.proofs.Demand1.{demand1}
 use Rattle.demands.proofs.Demand2.{demand2}

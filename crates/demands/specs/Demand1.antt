@@ -9,10 +9,11 @@ use lib.Dec.{eqb}
 use lib.ListN.{length}
 use Rattle.refusal.specs.declared.Refusal.{Refusal}
 use Rattle.refusal.specs.Causes.{numberOf}
+use Rattle.ring.specs.declared.Cable.{Cable}
 use Rattle.ring.specs.declared.Speaker.{Speaker}
 use Rattle.ring.specs.declared.Speaker.the-variants as speaker
-use Rattle.ring.specs.declared.Found.{Found}
-use Rattle.ring.specs.declared.Found.the-variants as found
+use Rattle.ring.specs.declared.Lookup.{Lookup}
+use Rattle.ring.specs.declared.Lookup.the-variants as lookup
 use Rattle.ring.specs.Answers.{senderOf, beforeOf, sponsoredOf, decidedOf}
 use Rattle.message.specs.declared.Reading.{Reading}
 use Rattle.message.specs.declared.Reading.the-variants as reading
@@ -46,10 +47,9 @@ abbrev pub ofSpeaker : Speaker → Ending
 ofSpeaker (speaker.Node x) = result
 ofSpeaker (speaker.Refused cause) = refusal cause
 
-abbrev pub ofFound : Found → Ending
-ofFound (found.Member x) = result
-ofFound found.Nobody = result
-ofFound (found.Refused cause) = refusal cause
+abbrev pub ofLookup : Lookup → Ending
+ofLookup (lookup.Found found) = result
+ofLookup (lookup.Refused cause) = refusal cause
 
 abbrev pub ofReading : Reading → Ending
 ofReading (reading.Heard bits returnBit) = result
@@ -117,17 +117,17 @@ numbersFor (command.Look lost) = 4 ∷ []
 -- ---- the demand, call by call: by which numbers it may be refused, in the order of its tests
 
 pub record Demand1 : Type 0 where
-  -- the ring (`before_found` answers as `before` does, or hands on the refusal that it is given)
+  -- the ring
   pub sender : (n s : ℕ) → EndsBy (1 ∷ []) (ofSpeaker (senderOf n s))
-  pub before : (n set x j : ℕ) → EndsBy (1 ∷ 3 ∷ []) (ofFound (beforeOf n set x j))
-  pub sponsored : (n k set x j : ℕ) → EndsBy (1 ∷ 2 ∷ 3 ∷ []) (ofFound (sponsoredOf n k set x j))
-  pub decided : (n k set x : ℕ) → EndsBy (1 ∷ 2 ∷ 3 ∷ []) (ofFound (decidedOf n k set x))
+  pub before : (n set x j : ℕ) → EndsBy (1 ∷ 3 ∷ []) (ofLookup (beforeOf n set x j))
+  pub sponsored : (cable : Cable) (set x j : ℕ) → EndsBy (1 ∷ 2 ∷ 3 ∷ []) (ofLookup (sponsoredOf cable set x j))
+  pub decided : (cable : Cable) (set x : ℕ) → EndsBy (1 ∷ 2 ∷ 3 ∷ []) (ofLookup (decidedOf cable set x))
   -- the message; the reader writes to no byte
   pub read : (k : ℕ) (bytes : List ℕ) → EndsBy (2 ∷ 6 ∷ 7 ∷ 8 ∷ []) (ofReading (readOf k bytes))
   pub write : (k acknowledgements : ℕ) (returnBit : Bool) (out : List ℕ)
       → WritesBy (2 ∷ 8 ∷ 9 ∷ []) out (writeOf k acknowledgements returnBit out)
   -- the node record; set-up is given none, and sending returns none
-  pub set-up : (n k own : ℕ) → EndsBy (1 ∷ 2 ∷ 3 ∷ []) (ofAnswer (setUpOf n k own .answer))
+  pub set-up : (cable : Cable) (own : ℕ) → EndsBy (1 ∷ 2 ∷ 3 ∷ []) (ofAnswer (setUpOf cable own .answer))
   pub slot : (bytes : List ℕ) (v : Node) → StepsBy (4 ∷ 5 ∷ []) v (slotOf bytes v)
   pub step : (heard : Reading) (v : Node) → StepsBy (4 ∷ 5 ∷ []) v (stepOf heard v)
   pub send : (v : Node) (out : List ℕ) → WritesBy (4 ∷ 5 ∷ 10 ∷ 9 ∷ []) out (sendOf v out)

@@ -13,11 +13,11 @@ use Rattle.message.specs.Message.{readOf, writeOf}
 use Rattle.node_record.specs.declared.Node.{Node}
 use Rattle.node_record.specs.Soundness.{sound, limit}
 use Rattle.node_changes.specs.Changes.{counted}
+use Rattle.node_slot.specs.Slot.{slotIn}
 use Rattle.node.specs.declared.Answer.the-variants.{Done}
-use Rattle.node.specs.Slot.{heardFrom, slotIn}
 use Rattle.node.specs.Calls.{done, stepOf, slotOf, sendOf}
 use Rattle.bench.specs.declared.Command.the-variants.{Slot}
-use Rattle.bench.specs.Table.{Table, recordOf, ringOf, speaker}
+use Rattle.bench.specs.Table.{Table, recordOf, nodeCount, speaker}
 use Rattle.bench.specs.Calls as bench
 use Rattle.bench.specs.Outcomes.{endedOf}
 
@@ -27,22 +27,23 @@ AreBytes bytes = (i : ℕ) → i < length bytes → getD bytes i 0 < 256
 
 -- The sender of a record's next slot.
 abbrev pub nextSender : Node → ℕ
-nextSender v = sender (v .n) (v .slots + 1)
+nextSender v = sender (v .cable .n) (v .slots + 1)
 
 pub record Demand2 : Type 0 where
-  -- "every slot changes a node's record exactly as document 01 says": a sound record below the limit counts the slot and follows the rules of its state
-  -- (`slotIn`: "One slot, for a member, following or knocking node" is node_steps' specs/Steps, "Listening" is node_hearing's specs/Hearing); any other is refused
+  -- "every slot changes a node's record exactly as document 01 says": a sound record below the limit counts the slot and follows the rules of its state, which
+  -- take the reading as it was handed over (`slotIn`: "One slot, for a member, following or knocking node" is node_steps' specs/Steps, "Listening" is
+  -- node_hearing's specs/Hearing); any other is refused
   pub slot : (heard : Reading) (v : Node) → sound v ≡ true → v .slots < limit
-      → stepOf heard v ≡ done (slotIn (v .state) (nextSender v) (heardFrom (nextSender v) heard v) (counted v))
+      → stepOf heard v ≡ done (slotIn (v .state) (nextSender v) heard (counted v))
   -- what is heard is what the reader finds in the bytes that are handed over
-  pub by-bytes : (bytes : List ℕ) (v : Node) → slotOf bytes v ≡ stepOf (readOf (v .k) bytes) v
+  pub by-bytes : (bytes : List ℕ) (v : Node) → slotOf bytes v ≡ stepOf (readOf (v .cable .k) bytes) v
   -- a slot that runs on the bench is this slot of each record, and none is refused
   pub on-bench : (lost : Bool) (missed room : ℕ) (t : Table) → bench.slotOf lost missed room t .answer ≡ Done
-      → (i : ℕ) → 1 ≤ i → i ≤ ringOf t
+      → (i : ℕ) → 1 ≤ i → i ≤ nodeCount t
       → stepOf (bench.heardBy lost missed t i) (recordOf t i) ≡ done (recordOf (endedOf (Slot lost missed) room t .table) i)
   -- and what its message is heard as there is what the reader finds in the bytes that the sender sends
   pub heard-on-bench : (t : Table) (out : List ℕ) (count : ℕ) (after : List ℕ) → sendOf (recordOf t (speaker t)) out ≡ (Bytes count, after)
-      → readOf (recordOf t (speaker t) .k) (take count after) ≡ bench.spoken t
+      → readOf (recordOf t (speaker t) .cable .k) (take count after) ≡ bench.spoken t
   -- "a message written is read back as the same"
   pub read-back : (k acknowledgements : ℕ) (returnBit : Bool) (out : List ℕ) (count : ℕ) (after : List ℕ)
       → writeOf k acknowledgements returnBit out ≡ (Bytes count, after)

@@ -4,3 +4,4 @@ pub mod Tests
 pub mod Parts
 pub mod RoundTrip
 pub mod Places
+pub mod From

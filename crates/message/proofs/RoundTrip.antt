@@ -11,8 +11,6 @@ use lib.Seq.{length-take-le, take-all, take-at, drop-at, getD-take}
 use lib.Dec.{eqb, ltb, leb}
 use lib.Pow.{pow-mono}
 use borrow.Author.Tests.{eq-eqb, lt-ltb, ltb-true, le-leb, eqb-true, eqb-false}
-use Rattle.refusal.specs.declared.Refusal.{Refusal}
-use Rattle.refusal.specs.declared.Refusal.the-variants.{SponsorCount, SpareBit, OutputShort}
 use Rattle.message.specs.declared.Reading.{Reading}
 use Rattle.message.specs.declared.Reading.the-variants.{Heard}
 use Rattle.message.specs.declared.Section.{Section}
@@ -77,9 +75,9 @@ read-written k a b low high h =
     (ap (λ (s : Section). saidBy s (sectionIn 1 (partTwo k bytes))) one ∙ ap (saidBy (right a)) two ∙ said-right a b)
 
 -- what passes a test of the reader
-passed : (t : Bool) (cause : Refusal) (answer : Reading) (a : ℕ) (b : Bool) → ifRead t cause answer ≡ Heard a b → (t ≡ true) × (answer ≡ Heard a b)
-passed true cause answer a b e = (refl, e)
-passed false cause answer a b e = let z : _≡_ {A = ℕ} 0 1 = cc in absurd (omega arith)
+passed : (t : Bool) (number : ℕ) (answer : Reading) (a : ℕ) (b : Bool) → ifRead t number answer ≡ Heard a b → (t ≡ true) × (answer ≡ Heard a b)
+passed true number answer a b e = (refl, e)
+passed false number answer a b e = let z : _≡_ {A = ℕ} 0 1 = cc in absurd (omega arith)
 
 -- the tests that a readable message passes
 pub record Passed (k : ℕ) (bytes : List ℕ) (a : ℕ) (b : Bool) : Type 0 where
@@ -159,10 +157,10 @@ message-read k a b bytes h e =
 -- ---- what the writer does
 
 -- what passes a test of the writer
-put : (t : Bool) (cause : Refusal) (out : List ℕ) (outcome : Outcome) (n : ℕ) (after : List ℕ)
-    → ifWritten t cause out outcome ≡ (Written n, after) → (t ≡ true) × (outcome ≡ (Written n, after))
-put true cause out outcome n after e = (refl, e)
-put false cause out outcome n after e =
+put : (t : Bool) (number : ℕ) (out : List ℕ) (outcome : Outcome) (n : ℕ) (after : List ℕ)
+    → ifWritten t number out outcome ≡ (Written n, after) → (t ≡ true) × (outcome ≡ (Written n, after))
+put true number out outcome n after e = (refl, e)
+put false number out outcome n after e =
     let answers = ap (λ (o : Outcome). o .0) e in
     let z : _≡_ {A = ℕ} 0 1 = cc in
     absurd (omega arith)
@@ -178,9 +176,9 @@ pub record Put (k a : ℕ) (b : Bool) (out : List ℕ) (n : ℕ) (after : List �
 pub put-all : (k a : ℕ) (b : Bool) (out : List ℕ) (n : ℕ) (after : List ℕ) → writeOf k a b out ≡ (Written n, after) → Put k a b out n after
 unfolding writeOf
 put-all k a b out n after e =
-    let p1 = put (inRange k) SponsorCount out _ n after e in
-    let p2 = put (ltb a (2 ^ k)) SpareBit out _ n after (p1 .1) in
-    let p3 = put (leb (lengthOf k) (length out)) OutputShort out _ n after (p2 .1) in
+    let p1 = put (inRange k) 2 out _ n after e in
+    let p2 = put (ltb a (2 ^ k)) 8 out _ n after (p1 .1) in
+    let p3 = put (leb (lengthOf k) (length out)) 9 out _ n after (p2 .1) in
     let r = in-range k (p1 .0) in
     let answer : Written (lengthOf k) ≡ Written n = ap (λ (o : Outcome). o .0) (p3 .1) in
     record {

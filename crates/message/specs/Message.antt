@@ -5,7 +5,6 @@ use mathlib.Core.List.{List, [], _∷_, _++_}
 use mathlib.Core.Bool.{Bool, true, false, cond, _&&_}
 use lib.ListN.{length, getD, take, drop}
 use lib.Dec.{eqb, ltb, leb}
-use Rattle.refusal.specs.declared.Refusal.{Refusal}
 use Rattle.refusal.specs.Causes.{cause}
 use Rattle.message.specs.declared.Reading.{Reading}
 use Rattle.message.specs.declared.Reading.the-variants as reading
@@ -75,25 +74,32 @@ sectionIn count part =
 abbrev pub inRange : ℕ → Bool
 inRange k = leb 2 k && leb k 31
 
+-- the answers: what is heard, or the refusal with this number
+abbrev pub heard : ℕ → Bool → Reading
+heard acknowledgements returnBit = reading.Heard acknowledgements returnBit
+
+abbrev pub unread : ℕ → Reading
+unread number = reading.Refused (cause number)
+
 -- the answer where a test holds, and the refusal where it does not
-abbrev pub ifRead : Bool → Refusal → Reading → Reading
-ifRead true cause answer = answer
-ifRead false cause answer = reading.Refused cause
+abbrev pub ifRead : Bool → ℕ → Reading → Reading
+ifRead true number answer = answer
+ifRead false number answer = unread number
 
 -- what the sections say: 7 is tested for each of them, then 8 for each of them
 unfoldable pub saidBy : Section → Section → Reading
 saidBy one two =
-    ifRead (one .counted) (cause 7)
-    (ifRead (two .counted) (cause 7)
-    (ifRead (one .clear) (cause 8)
-    (ifRead (two .clear) (cause 8)
-    (reading.Heard (one .bits) (eqb (two .bits % 2) 1)))))
+    ifRead (one .counted) 7
+    (ifRead (two .counted) 7
+    (ifRead (one .clear) 8
+    (ifRead (two .clear) 8
+    (heard (one .bits) (eqb (two .bits % 2) 1)))))
 
 -- what is read in bytes. The causes are tested in the order of the table: 2, 6, 7, 8.
 unfoldable pub readOf : ℕ → List ℕ → Reading
 readOf k bytes =
-    ifRead (inRange k) (cause 2)
-    (ifRead (eqb (length bytes) (lengthOf k)) (cause 6)
+    ifRead (inRange k) 2
+    (ifRead (eqb (length bytes) (lengthOf k)) 6
     (saidBy (sectionIn k (partOne k bytes)) (sectionIn 1 (partTwo k bytes))))
 
 -- ---- writing
@@ -102,16 +108,23 @@ readOf k bytes =
 abbrev pub Outcome : Type 0
 Outcome = Written × List ℕ
 
+-- the answers: so many bytes, or the refusal with this number
+abbrev pub wrote : ℕ → Written
+wrote count = written.Bytes count
+
+abbrev pub unwritten : ℕ → Written
+unwritten number = written.Refused (cause number)
+
 -- the outcome where a test holds, and where it does not the refusal, which leaves every lent byte as it was
-abbrev pub ifWritten : Bool → Refusal → List ℕ → Outcome → Outcome
-ifWritten true cause out outcome = outcome
-ifWritten false cause out outcome = (written.Refused cause, out)
+abbrev pub ifWritten : Bool → ℕ → List ℕ → Outcome → Outcome
+ifWritten true number out outcome = outcome
+ifWritten false number out outcome = (unwritten number, out)
 
 -- the message, its length told, and "The writer leaves lent bytes after its message untouched."
 -- The causes are tested in the order of the table: 2, 8, 9.
 unfoldable pub writeOf : ℕ → ℕ → Bool → List ℕ → Outcome
 writeOf k acknowledgements returnBit out =
-    ifWritten (inRange k) (cause 2) out
-    (ifWritten (ltb acknowledgements (2 ^ k)) (cause 8) out
-    (ifWritten (leb (lengthOf k) (length out)) (cause 9) out
-    (written.Bytes (lengthOf k), messageOf k acknowledgements returnBit ++ drop (lengthOf k) out)))
+    ifWritten (inRange k) 2 out
+    (ifWritten (ltb acknowledgements (2 ^ k)) 8 out
+    (ifWritten (leb (lengthOf k) (length out)) 9 out
+    (wrote (lengthOf k), messageOf k acknowledgements returnBit ++ drop (lengthOf k) out)))

@@ -8,7 +8,7 @@ use lib.Dec.{leb}
 use lib.ListN.{length, take, drop}
 use borrow.Author.Tests.{le-leb, lt-leb, lt-ltb}
 use Rattle.refusal.specs.declared.Refusal.{Refusal}
-use Rattle.refusal.specs.declared.Refusal.the-variants.{Unsound, SlotLimit, OutputShort, NotItsSlot}
+use Rattle.refusal.specs.declared.Refusal.the-variants.{Unsound, SlotLimit, NotItsSlot}
 use Rattle.nodeset.proofs.Tests.{all}
 use Rattle.ring.proofs.Ranges.{ring-size, sponsor-count}
 use Rattle.message.specs.declared.Reading.the-variants.{Heard}
@@ -31,28 +31,28 @@ refused-no-bytes r n out after e =
 
 -- where bytes are sent, it was the node's turn, and the writer wrote them
 pub sent-by : (v : Node) (out : List ℕ) (n : ℕ) (after : List ℕ) → sendOf v out ≡ (Bytes n, after)
-    → (itsTurn v ≡ true) × (writeOf (v .k) (bitsSent v) (returnSent v) out ≡ (Bytes n, after))
+    → (itsTurn v ≡ true) × (writeOf (v .cable .k) (bitsSent v) (returnSent v) out ≡ (Bytes n, after))
 unfolding sendOf
 sent-by v out n after e = go (sound v) (leb limit (v .slots)) (itsTurn v) e
   where
     go : (a b c : Bool)
-        → cond a (cond b (Refused SlotLimit, out) (cond c (writeOf (v .k) (bitsSent v) (returnSent v) out) (Refused NotItsSlot, out))) (Refused Unsound, out) ≡ (Bytes n, after)
-        → (c ≡ true) × (writeOf (v .k) (bitsSent v) (returnSent v) out ≡ (Bytes n, after))
+        → cond a (cond b (Refused SlotLimit, out) (cond c (writeOf (v .cable .k) (bitsSent v) (returnSent v) out) (Refused NotItsSlot, out))) (Refused Unsound, out) ≡ (Bytes n, after)
+        → (c ≡ true) × (writeOf (v .cable .k) (bitsSent v) (returnSent v) out ≡ (Bytes n, after))
     go true true c e = absurd (refused-no-bytes SlotLimit n out after e)
     go true false true e = (refl, e)
     go true false false e = absurd (refused-no-bytes NotItsSlot n out after e)
     go false b c e = absurd (refused-no-bytes Unsound n out after e)
 
-pub sent-read : (v : Node) (out : List ℕ) (n : ℕ) (after : List ℕ) → sendOf v out ≡ (Bytes n, after) → readOf (v .k) (take n after) ≡ Heard (bitsSent v) (returnSent v)
-sent-read v out n after e = read-back (v .k) (bitsSent v) (returnSent v) out n after (sent-by v out n after e .1)
+pub sent-read : (v : Node) (out : List ℕ) (n : ℕ) (after : List ℕ) → sendOf v out ≡ (Bytes n, after) → readOf (v .cable .k) (take n after) ≡ Heard (bitsSent v) (returnSent v)
+sent-read v out n after e = read-back (v .cable .k) (bitsSent v) (returnSent v) out n after (sent-by v out n after e .1)
 
 -- a node whose turn it is, below the limit, sends, or is lent too few bytes
 pub sent-or-short : (v : Node) (out : List ℕ) → sound v ≡ true → v .slots < limit → itsTurn v ≡ true
-    → sendOf v out ≡ ifWritten (leb (lengthOf (v .k)) (length out)) OutputShort out (Bytes (lengthOf (v .k)), messageOf (v .k) (bitsSent v) (returnSent v) ++ drop (lengthOf (v .k)) out)
+    → sendOf v out ≡ ifWritten (leb (lengthOf (v .cable .k)) (length out)) 9 out (Bytes (lengthOf (v .cable .k)), messageOf (v .cable .k) (bitsSent v) (returnSent v) ++ drop (lengthOf (v .cable .k)) out)
 unfolding sendOf writeOf
 sent-or-short v out e l t =
     let c = clauses v e in
-    let k = sponsor-count (v .n) (v .k) (c .sponsors) in
-    let n = ring-size (v .n) (c .ring) in
-    let range : inRange (v .k) ≡ true = all (le-leb 2 (v .k) (k .0)) (le-leb (v .k) 31 (omega arith)) in
-    simp (e, lt-leb limit (v .slots) l, t, range, lt-ltb (bitsSent v) (2 ^ v .k) (bitsSent-lt v))
+    let k = sponsor-count (v .cable) (c .sponsors) in
+    let n = ring-size (v .cable .n) (c .ring) in
+    let range : inRange (v .cable .k) ≡ true = all (le-leb 2 (v .cable .k) (k .0)) (le-leb (v .cable .k) 31 (omega arith)) in
+    simp (e, lt-leb limit (v .slots) l, t, range, lt-ltb (bitsSent v) (2 ^ v .cable .k) (bitsSent-lt v))

@@ -1,37 +1,31 @@
 -- Sound records stay sound: set-up's record is sound, and a slot, off and restart keep it (specs/Calls). A refused call returns the record that
 -- came. Assumes nothing.
 use Prim.Native.Nat.{ℕ, _+_, _≤_, _<_}
-use mathlib.Core.Path.{_≡_, refl, ap}
-use mathlib.Core.Logic.{_≢_}
+use mathlib.Core.Path.{_≡_, refl}
 use mathlib.Core.Bool.{Bool, true, false, cond}
 use mathlib.Core.List.{List}
 use native.Mathlib.Omega.{arith}
-use lib.Dec.{eqb, leb}
-use borrow.Author.Tests.{le-leb, leb-false, eqb-false}
+use lib.Dec.{leb}
+use borrow.Author.Tests.{le-leb, leb-false}
 use Rattle.refusal.specs.declared.Refusal.{Refusal}
 use Rattle.refusal.specs.declared.Refusal.the-variants.{RingSize, SponsorCount, NodeNumber}
 use Rattle.nodeset.proofs.Tests.{by-cases}
+use Rattle.ring.specs.declared.Cable.{Cable}
 use Rattle.ring.specs.Ring.{ringSize, sponsorCount, nodeNumber, sender}
 use Rattle.ring.proofs.Ranges.{ring-size}
 use Rattle.ring.proofs.Senders.{sender-range}
 use Rattle.message.specs.declared.Reading.{Reading}
-use Rattle.message.specs.declared.Reading.the-variants as reading
 use Rattle.message.specs.Message.{readOf}
 use Rattle.node_record.specs.declared.Node.{Node}
-use Rattle.node_record.specs.declared.State.{State}
-use Rattle.node_record.specs.declared.State.the-variants.{Member, Listening, Following, Knocking, Out}
 use Rattle.node_record.specs.declared.Cause.the-variants.{SwitchedOff}
-use Rattle.node_record.specs.States.{isListening, isOut}
+use Rattle.node_record.specs.States.{isOut}
 use Rattle.node_record.specs.Soundness.{limit, sound}
 use Rattle.node_record.proofs.Facts.{clauses, sound-by}
-use Rattle.node_record.proofs.Tracking.{tracks, sound-tracking}
 use Rattle.node_changes.specs.Changes.{counted, starting}
 use Rattle.node_changes.proofs.Sound.{in-range, out-sound, fresh-sound, starting-sound}
-use Rattle.node_steps.specs.Steps.{trackingSlot}
-use Rattle.node_steps.proofs.Sound.{tracking-slot-sound}
-use Rattle.node_hearing.proofs.Sound.{FromOther, listening-slot-sound}
+use Rattle.node_slot.specs.Slot.{afterSlot}
+use Rattle.node_slot.proofs.Sound.{after-slot-sound}
 use Rattle.node.specs.declared.Answer.the-variants.{Done, Refused}
-use Rattle.node.specs.Slot.{heardFrom, slotIn, afterSlot}
 use Rattle.node.specs.Calls.{done, refused, noNode, setUpOf, stepOf, slotOf, offOf, restartOf}
 
 -- ---- one slot
@@ -55,31 +49,6 @@ counted-sound v e h =
       enough = c .enough;
     })
 
--- in the own slot nothing is heard
-from-other : (s : ℕ) (heard : Reading) (v : Node) → FromOther s (heardFrom s heard v) (v .own)
-from-other s heard v = by-cases (eqb s (v .own)) (λ e. rw e tt) (λ e. rw e (go heard (eqb-false s (v .own) e)))
-  where
-    go : (heard : Reading) → s ≢ v .own → FromOther s heard (v .own)
-    go (reading.Heard bits returnBit) d = d
-    go (reading.Refused r) d = tt
-
-pub after-slot-sound : (s : ℕ) (heard : Reading) (v : Node) → 1 ≤ s → s ≤ v .n → sound v ≡ true → sound (afterSlot s heard v) ≡ true
-unfolding afterSlot
-after-slot-sound s heard v a b e = go (v .state) refl
-  where
-    told : Reading
-    told = heardFrom s heard v
-
-    track : tracks (v .state) ≡ true → sound (trackingSlot s told v) ≡ true
-    track t = tracking-slot-sound s told v b (sound-tracking v e t)
-
-    go : (t : State) → v .state ≡ t → sound (slotIn t s told v) ≡ true
-    go Member q = track (ap tracks q)
-    go Listening q = listening-slot-sound s told v a b (from-other s heard v) e (ap isListening q)
-    go Following q = track (ap tracks q)
-    go Knocking q = track (ap tracks q)
-    go (Out cause) q = e
-
 pub step-sound : (heard : Reading) (v : Node) → sound v ≡ true → sound (stepOf heard v .node) ≡ true
 unfolding stepOf
 step-sound heard v e =
@@ -87,14 +56,14 @@ step-sound heard v e =
     (λ t. rw t e)
     (λ t. rw t (done-slot (leb-false limit (v .slots) t))))
   where
-    done-slot : v .slots < limit → sound (afterSlot (sender (v .n) (v .slots + 1)) heard (counted v)) ≡ true
+    done-slot : v .slots < limit → sound (afterSlot (sender (v .cable .n) (v .slots + 1)) heard (counted v)) ≡ true
     done-slot l =
-        let three : 3 ≤ v .n = ring-size (v .n) (clauses v e .ring) .0 in
-        let r = sender-range (v .n) (omega arith) (v .slots + 1) in
-        after-slot-sound (sender (v .n) (v .slots + 1)) heard (counted v) (r .0) (r .1) (counted-sound v e l)
+        let three : 3 ≤ v .cable .n = ring-size (v .cable .n) (clauses v e .ring) .0 in
+        let r = sender-range (v .cable .n) (omega arith) (v .slots + 1) in
+        after-slot-sound (sender (v .cable .n) (v .slots + 1)) heard (counted v) (r .0) (r .1) (counted-sound v e l)
 
 pub slot-sound : (bytes : List ℕ) (v : Node) → sound v ≡ true → sound (slotOf bytes v .node) ≡ true
-slot-sound bytes v e = step-sound (readOf (v .k) bytes) v e
+slot-sound bytes v e = step-sound (readOf (v .cable .k) bytes) v e
 
 -- ---- off, restart and set-up
 
@@ -109,14 +78,14 @@ restart-sound v e = rw e (by-cases (isOut (v .state)) (λ t. rw t (fresh-sound v
 refused-not-done : (r : Refusal) → Refused r ≡ Done → ⊥
 refused-not-done r e = let z : _≡_ {A = ℕ} 0 1 = cc in omega arith
 
-pub set-up-sound : (n k own : ℕ) → setUpOf n k own .answer ≡ Done → sound (setUpOf n k own .node) ≡ true
+pub set-up-sound : (cable : Cable) (own : ℕ) → setUpOf cable own .answer ≡ Done → sound (setUpOf cable own .node) ≡ true
 unfolding setUpOf
-set-up-sound n k own e = go (ringSize n) (sponsorCount n k) (nodeNumber n own) refl refl refl e
+set-up-sound cable own e = go (ringSize (cable .n)) (sponsorCount cable) (nodeNumber (cable .n) own) refl refl refl e
   where
-    go : (a b c : Bool) → ringSize n ≡ a → sponsorCount n k ≡ b → nodeNumber n own ≡ c
-        → cond a (cond b (cond c (done (starting n k own)) (refused NodeNumber noNode)) (refused SponsorCount noNode)) (refused RingSize noNode) .answer ≡ Done
-        → sound (cond a (cond b (cond c (done (starting n k own)) (refused NodeNumber noNode)) (refused SponsorCount noNode)) (refused RingSize noNode) .node) ≡ true
-    go true true true p q r e = starting-sound n k own p q r
+    go : (a b c : Bool) → ringSize (cable .n) ≡ a → sponsorCount cable ≡ b → nodeNumber (cable .n) own ≡ c
+        → cond a (cond b (cond c (done (starting cable own)) (refused 3 noNode)) (refused 2 noNode)) (refused 1 noNode) .answer ≡ Done
+        → sound (cond a (cond b (cond c (done (starting cable own)) (refused 3 noNode)) (refused 2 noNode)) (refused 1 noNode) .node) ≡ true
+    go true true true p q r e = starting-sound cable own p q r
     go true true false p q r e = absurd (refused-not-done NodeNumber e)
     go true false c p q r e = absurd (refused-not-done SponsorCount e)
     go false b c p q r e = absurd (refused-not-done RingSize e)

@@ -5,9 +5,9 @@ use Prim.Native.Nat.{ℕ, _+_}
 use mathlib.Core.List.{List}
 use mathlib.Core.Bool.{Bool, false, cond, _&&_}
 use lib.Dec.{eqb, leb}
-use Rattle.refusal.specs.declared.Refusal.{Refusal}
 use Rattle.refusal.specs.Causes.{cause}
-use Rattle.ring.specs.Ring.{ringSize, sponsorCount, nodeNumber, sender}
+use Rattle.ring.specs.declared.Cable.{Cable}
+use Rattle.ring.specs.Ring.{cableOf, ringSize, sponsorCount, nodeNumber, sender}
 use Rattle.message.specs.declared.Reading.{Reading}
 use Rattle.message.specs.declared.Written.{Written}
 use Rattle.message.specs.declared.Written.the-variants as written
@@ -20,28 +20,35 @@ use Rattle.node.specs.declared.Stepped.{Stepped}
 use Rattle.node.specs.declared.Answer.the-variants.{Done, Refused}
 use Rattle.node_changes.specs.Changes.{noWindow, starting, outFor, fresh, counted}
 use Rattle.node_sending.specs.Sending.{sends, bitsSent, returnSent}
-use Rattle.node.specs.Slot.{afterSlot}
+use Rattle.node_slot.specs.Slot.{afterSlot}
 
--- A call that was made, and one that was refused.
+-- ---- the answers
+
+-- A call that was made.
 abbrev pub done : Node → Stepped
 done v = record { node = v; answer = Done }
 
-abbrev pub refused : Refusal → Node → Stepped
-refused cause v = record { node = v; answer = Refused cause }
+-- One that is refused by this number.
+abbrev pub refused : ℕ → Node → Stepped
+refused number v = record { node = v; answer = Refused (cause number) }
+
+-- Nothing is sent, by this number.
+abbrev pub unsent : ℕ → List ℕ → Written × List ℕ
+unsent number out = (written.Refused (cause number), out)
 
 -- ---- set-up
 
 -- The record that comes with a refused set-up.
 abbrev pub noNode : Node
-noNode = record { n = 0; k = 0; own = 0; slots = 0; state = Out (leavingCause 4); set = 0; present = 0; returning = 0; «return_heard» = false; listening = noWindow }
+noNode = record { cable = cableOf 0 0; own = 0; slots = 0; state = Out (leavingCause 4); set = 0; present = 0; returning = 0; «return_heard» = false; listening = noWindow }
 
-unfoldable pub setUpOf : ℕ → ℕ → ℕ → Stepped
-setUpOf n k own =
-    cond (ringSize n)
-    (cond (sponsorCount n k)
-    (cond (nodeNumber n own) (done (starting n k own)) (refused (cause 3) noNode))
-    (refused (cause 2) noNode))
-    (refused (cause 1) noNode)
+unfoldable pub setUpOf : Cable → ℕ → Stepped
+setUpOf cable own =
+    cond (ringSize (cable .n))
+    (cond (sponsorCount cable)
+    (cond (nodeNumber (cable .n) own) (done (starting cable own)) (refused 3 noNode))
+    (refused 2 noNode))
+    (refused 1 noNode)
 
 -- ---- one slot
 
@@ -49,33 +56,33 @@ setUpOf n k own =
 unfoldable pub stepOf : Reading → Node → Stepped
 stepOf heard v =
     cond (sound v)
-    (cond (leb limit (v .slots)) (refused (cause 5) v) (done (afterSlot (sender (v .n) (v .slots + 1)) heard (counted v))))
-    (refused (cause 4) v)
+    (cond (leb limit (v .slots)) (refused 5 v) (done (afterSlot (sender (v .cable .n) (v .slots + 1)) heard (counted v))))
+    (refused 4 v)
 
 -- The slot in which these bytes are heard; no bytes where nothing is.
 abbrev pub slotOf : List ℕ → Node → Stepped
-slotOf bytes v = stepOf (readOf (v .k) bytes) v
+slotOf bytes v = stepOf (readOf (v .cable .k) bytes) v
 
 -- ---- sending
 
 -- "the next slot is not this node's, or it neither is a member nor follows with returning 0"
 abbrev pub itsTurn : Node → Bool
-itsTurn v = eqb (sender (v .n) (v .slots + 1)) (v .own) && sends v
+itsTurn v = eqb (sender (v .cable .n) (v .slots + 1)) (v .own) && sends v
 
 -- What is answered, and the lent bytes afterwards.
 unfoldable pub sendOf : Node → List ℕ → Written × List ℕ
 sendOf v out =
     cond (sound v)
-    (cond (leb limit (v .slots)) (written.Refused (cause 5), out)
-    (cond (itsTurn v) (writeOf (v .k) (bitsSent v) (returnSent v) out) (written.Refused (cause 10), out)))
-    (written.Refused (cause 4), out)
+    (cond (leb limit (v .slots)) (unsent 5 out)
+    (cond (itsTurn v) (writeOf (v .cable .k) (bitsSent v) (returnSent v) out) (unsent 10 out)))
+    (unsent 4 out)
 
 -- ---- off and restart
 
 -- "`off` works in every state, giving cause 4."
 unfoldable pub offOf : Node → Stepped
-offOf v = cond (sound v) (done (outFor (leavingCause 4) v)) (refused (cause 4) v)
+offOf v = cond (sound v) (done (outFor (leavingCause 4) v)) (refused 4 v)
 
 -- "Restart takes a node from out to listening."
 unfoldable pub restartOf : Node → Stepped
-restartOf v = cond (sound v) (cond (isOut (v .state)) (done (fresh v)) (refused (cause 11) v)) (refused (cause 4) v)
+restartOf v = cond (sound v) (cond (isOut (v .state)) (done (fresh v)) (refused 11 v)) (refused 4 v)

@@ -7,13 +7,12 @@ use node_record::Cause;
 use node_record::Node;
 use node_record::State;
 use node_record::Window;
-use node_steps::Lesson;
 use refusal::Refusal;
+use ring::Cable;
 use ring::Speaker;
 ghost use mathlib.Core.Path.{_≡_};
 ghost use mathlib.Core.Bool.{true};
 ghost use Rattle.ring.specs.Ring.{ringSize};
-ghost use Rattle.node.specs.Slot.{heardFrom, lessonFor, afterBy};
 ghost use Rattle.node.specs.Calls.{itsTurn, setUpOf, stepOf, slotOf, sendOf, offOf, restartOf};
 
 // What came of a call on a record.
@@ -31,8 +30,7 @@ pub struct Stepped {
 
 // A record of no node: it comes with a refused set-up.
 pub const NO_NODE: Node = Node {
-    n: 0,
-    k: 0,
+    cable: Cable { n: 0, k: 0 },
     own: 0,
     slots: 0,
     state: State::Out(Cause::SwitchedOff),
@@ -50,28 +48,28 @@ pub const NO_NODE: Node = Node {
 };
 
 // The record of node `own` at the common start. Refuses by 1, 2 and 3.
-pub fn set_up(n: u32, k: u32, own: u32) -> Stepped
-    ensures { λ r. ⌜ r ≡ setUpOf n k own ⌝ }
+pub fn set_up(cable: Cable, own: u32) -> Stepped
+    ensures { λ r. ⌜ r ≡ setUpOf cable own ⌝ }
 {
-    if !ring::is_ring_size(n) {
+    if !ring::is_ring_size(cable.n) {
         return Stepped {
             node: NO_NODE,
             answer: Answer::Refused(Refusal::RingSize),
         };
     }
-    if !ring::is_sponsor_count(n, k) {
+    if !ring::is_sponsor_count(cable) {
         return Stepped {
             node: NO_NODE,
             answer: Answer::Refused(Refusal::SponsorCount),
         };
     }
-    if !ring::is_node_number(n, own) {
+    if !ring::is_node_number(cable.n, own) {
         return Stepped {
             node: NO_NODE,
             answer: Answer::Refused(Refusal::NodeNumber),
         };
     }
-    let v = node_changes::starting(n, k, own);
+    let v = node_changes::starting(cable, own);
     Stepped {
         node: v,
         answer: Answer::Done,
@@ -119,42 +117,6 @@ pub fn restart(v: Node) -> Stepped
     }
 }
 
-// What a node hears in a slot of s: in its own slot nothing.
-fn heard_from(s: u32, heard: Reading, v: Node) -> Reading
-    ensures { λ r. ⌜ r ≡ heardFrom s heard v ⌝ }
-{
-    if s == v.own {
-        return Reading::Refused(Refusal::MessageLength);
-    }
-    heard
-}
-
-// What the slot tells this node: the lesson, if it is that of the node's set.
-fn lesson_for(s: u32, heard: Reading, lesson: Lesson, v: Node) -> Lesson
-    ensures { λ r. ⌜ r ≡ lessonFor lesson s heard v ⌝ }
-{
-    if lesson.set == v.set {
-        return lesson;
-    }
-    node_steps::lesson_with(s, heard, v.n, v.k, v.set)
-}
-
-// The record after a slot of which s is the sender, by what the slot tells those who hold one set. The
-// slot count is the slot's number already. An inner function: it takes every record as it is.
-pub fn after_slot(s: u32, heard: Reading, lesson: Lesson, v: Node) -> Node
-    ensures { λ r. ⌜ r ≡ afterBy lesson s heard v ⌝ }
-{
-    let state = v.state;
-    if node_record::is_out(state) {
-        return v;
-    }
-    let told = heard_from(s, heard, v);
-    if node_record::is_listening(state) {
-        return node_hearing::listening_slot(s, told, v);
-    }
-    node_steps::tracking_slot(s, told, lesson_for(s, told, lesson, v), v)
-}
-
 // One slot, in which the reader found this in the bytes heard; any refused reading is nothing heard.
 // It takes every reading, also one that no bytes give. Refuses by 4 and 5.
 pub fn step(heard: Reading, v: Node) -> Stepped
@@ -172,7 +134,7 @@ pub fn step(heard: Reading, v: Node) -> Stepped
             answer: Answer::Refused(Refusal::SlotLimit),
         };
     }
-    let speaker = ring::sender(v.n, v.slots);
+    let speaker = ring::sender(v.cable.n, v.slots);
     // A sound record's n is a ring's size, so the sender is never refused.
     let Speaker::Node(s) = speaker else {
         return Stepped {
@@ -182,8 +144,9 @@ pub fn step(heard: Reading, v: Node) -> Stepped
     };
     let mut counted = v;
     counted.slots = v.slots + 1;
-    let lesson = node_steps::lesson_of(s, heard, counted);
-    let w = after_slot(s, heard, lesson, counted);
+    let cable = v.cable;
+    let digest = node_steps::digest_of(s, heard, cable, v.set);
+    let w = node_slot::after_slot(s, heard, digest, counted);
     Stepped {
         node: w,
         answer: Answer::Done,
@@ -194,15 +157,15 @@ pub fn step(heard: Reading, v: Node) -> Stepped
 pub fn slot(bytes: &[u8], v: Node) -> Stepped
     ensures { λ r. ⌜ r ≡ slotOf (now (bytes .entry)) v ⌝ }
 {
-    step(message::read(v.k, bytes), v)
+    step(message::read(v.cable.k, bytes), v)
 }
 
 // Whether the next slot is this node's and it sends there. An inner function: requires a ring's size.
 fn its_turn(v: Node) -> bool
-    requires { ⌜ ringSize (v .n) ≡ true ⌝ }
+    requires { ⌜ ringSize (v .cable .n) ≡ true ⌝ }
     ensures { λ r. ⌜ r ≡ itsTurn v ⌝ }
 {
-    let speaker = ring::sender(v.n, v.slots);
+    let speaker = ring::sender(v.cable.n, v.slots);
     // Never refused, by what is required.
     let Speaker::Node(s) = speaker else {
         return false;
@@ -225,7 +188,7 @@ pub fn send(v: Node, out: &mut [u8]) -> Written
         return Written::Refused(Refusal::NotItsSlot);
     }
     message::write(
-        v.k,
+        v.cable.k,
         node_sending::bits_sent(v),
         node_sending::return_sent(v),
         out,

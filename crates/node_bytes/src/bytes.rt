@@ -3,6 +3,7 @@ use node_record::Cause;
 use node_record::Node;
 use node_record::State;
 use node_record::Window;
+use ring::Cable;
 use run_io::block;
 use run_io::block::Block;
 
@@ -52,9 +53,12 @@ fn window_of(bytes: &Block) -> Window {
 }
 
 pub fn node_of(bytes: &Block) -> Node {
-    Node {
+    let cable = Cable {
         n: block::word(bytes, 0),
         k: block::word(bytes, 4),
+    };
+    Node {
+        cable,
         own: block::word(bytes, 8),
         slots: block::long_word(bytes, 12),
         state: state_of(bytes[20]),
@@ -77,8 +81,8 @@ fn set_window(bytes: &mut Block, window: Window) {
 pub fn set_node(bytes: &mut Block, node: Node) {
     let state = node.state;
     let window = node.listening;
-    block::set_word(bytes, 0, node.n);
-    block::set_word(bytes, 4, node.k);
+    block::set_word(bytes, 0, node.cable.n);
+    block::set_word(bytes, 4, node.cable.k);
     block::set_word(bytes, 8, node.own);
     block::set_long_word(bytes, 12, node.slots);
     bytes[20] = number_of(state);

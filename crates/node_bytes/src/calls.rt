@@ -4,6 +4,7 @@ use message::Written;
 use node::Answer;
 use node::Stepped;
 use node_record::Node;
+use ring::Cable;
 use run_io::block;
 use run_io::block::Block;
 ghost use mathlib.Core.Path.{_≡_};
@@ -34,7 +35,7 @@ fn set_up(arguments: &Block) -> Stepped {
     let n = block::word(arguments, 0);
     let k = block::word(arguments, 4);
     let own = block::word(arguments, 8);
-    node::set_up(n, k, own)
+    node::set_up(Cable { n, k }, own)
 }
 
 // The first bytes, all if there are not so many.

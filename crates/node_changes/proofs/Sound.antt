@@ -14,6 +14,7 @@ use Rattle.nodeset.proofs.Tests.{by-cases, all, or-left, or-right}
 use Rattle.nodeset.proofs.Bits.{has-none}
 use Rattle.nodeset.proofs.Laws.{full-lt, has-full}
 use Rattle.nodeset.proofs.Subsets.{has-subset}
+use Rattle.ring.specs.declared.Cable.{Cable}
 use Rattle.ring.specs.Ring.{ringSize, sponsorCount, nodeNumber}
 use Rattle.ring.proofs.Ranges.{ring-size, node-number}
 use Rattle.node_record.specs.declared.Node.{Node}
@@ -24,13 +25,13 @@ use Rattle.node_record.proofs.Facts.{clauses, sound-by, exactly-by}
 use Rattle.node_changes.specs.Changes.{starting, outFor, listeningAfter, fresh, followingWith, leave}
 
 -- n, k, own number and slot count in range
-pub record InRange (n k own slots : ℕ) : Type 0 where
-  pub ring : ringSize n ≡ true
-  pub sponsors : sponsorCount n k ≡ true
-  pub own-in : nodeNumber n own ≡ true
+pub record InRange (cable : Cable) (own slots : ℕ) : Type 0 where
+  pub ring : ringSize (cable .n) ≡ true
+  pub sponsors : sponsorCount cable ≡ true
+  pub own-in : nodeNumber (cable .n) own ≡ true
   pub slots-in : leb slots limit ≡ true
 
-pub in-range : (v : Node) → sound v ≡ true → InRange (v .n) (v .k) (v .own) (v .slots)
+pub in-range : (v : Node) → sound v ≡ true → InRange (v .cable) (v .own) (v .slots)
 in-range v e = let c = clauses v e in record { ring = c .ring; sponsors = c .sponsors; own-in = c .own; slots-in = c .slots }
 
 -- a set is a part of itself
@@ -45,7 +46,7 @@ none-within n = lt-ltb 0 (2 ^ n) (pow-pos n)
 not-own : (n own : ℕ) → nodeNumber n own ≡ true → eqb 0 own ≡ false
 not-own n own e = ne-eqb 0 own (λ z. omega (arith, node-number n own e))
 
-pub out-sound : (cause : Cause) (v : Node) → InRange (v .n) (v .k) (v .own) (v .slots) → sound (outFor cause v) ≡ true
+pub out-sound : (cause : Cause) (v : Node) → InRange (v .cable) (v .own) (v .slots) → sound (outFor cause v) ≡ true
 unfolding has
 out-sound cause v r =
     sound-by (outFor cause v)
@@ -54,18 +55,18 @@ out-sound cause v r =
       sponsors = r .sponsors;
       own = r .own-in;
       slots = r .slots-in;
-      sets = all (none-within (v .n)) (all (none-within (v .n)) (subset-self 0));
-      returning = all (le-leb 0 (v .n) (omega arith)) refl;
+      sets = all (none-within (v .cable .n)) (all (none-within (v .cable .n)) (subset-self 0));
+      returning = all (le-leb 0 (v .cable .n) (omega arith)) refl;
       ownIn = exactly-by false (has 0 (v .own)) (sym (has-none (v .own)));
-      knock = exactly-by false (eqb 0 (v .own)) (sym (not-own (v .n) (v .own) (r .own-in)));
+      knock = exactly-by false (eqb 0 (v .own)) (sym (not-own (v .cable .n) (v .own) (r .own-in)));
       empty = refl;
       heard = refl;
       window = refl;
       enough = refl;
     })
 
-pub listening-sound : (last : ℕ) (v : Node) → InRange (v .n) (v .k) (v .own) (v .slots)
-    → last < 2 ^ v .n → (last ≡ 0) ⊎ (2 ≤ size (v .n) last) → has last (v .own) ≡ false
+pub listening-sound : (last : ℕ) (v : Node) → InRange (v .cable) (v .own) (v .slots)
+    → last < 2 ^ v .cable .n → (last ≡ 0) ⊎ (2 ≤ size (v .cable .n) last) → has last (v .own) ≡ false
     → sound (listeningAfter last v) ≡ true
 unfolding has
 listening-sound last v r l two absent =
@@ -75,38 +76,38 @@ listening-sound last v r l two absent =
       sponsors = r .sponsors;
       own = r .own-in;
       slots = r .slots-in;
-      sets = all (none-within (v .n)) (all (none-within (v .n)) (subset-self 0));
-      returning = all (le-leb 0 (v .n) (omega arith)) refl;
+      sets = all (none-within (v .cable .n)) (all (none-within (v .cable .n)) (subset-self 0));
+      returning = all (le-leb 0 (v .cable .n) (omega arith)) refl;
       ownIn = exactly-by false (has 0 (v .own)) (sym (has-none (v .own)));
-      knock = exactly-by false (eqb 0 (v .own)) (sym (not-own (v .n) (v .own) (r .own-in)));
+      knock = exactly-by false (eqb 0 (v .own)) (sym (not-own (v .cable .n) (v .own) (r .own-in)));
       empty = refl;
       heard = refl;
       window =
           all
-          (all (lt-ltb 0 (v .n) (omega (arith, ring-size (v .n) (r .ring))))
-          (all (none-within (v .n))
-          (all (le-leb (v .k) (v .k) (le-refl (v .k)))
-          (all (eq-eqb (v .k) (v .k) refl)
-          (all (lt-ltb last (2 ^ v .n) l)
+          (all (lt-ltb 0 (v .cable .n) (omega (arith, ring-size (v .cable .n) (r .ring))))
+          (all (none-within (v .cable .n))
+          (all (le-leb (v .cable .k) (v .cable .k) (le-refl (v .cable .k)))
+          (all (eq-eqb (v .cable .k) (v .cable .k) refl)
+          (all (lt-ltb last (2 ^ v .cable .n) l)
           (all (few two)
           (all (ap not (has-none (v .own))) (ap not absent))))))))
           refl;
       enough = refl;
     })
   where
-    few : (last ≡ 0) ⊎ (2 ≤ size (v .n) last) → (eqb last 0 || leb 2 (size (v .n) last)) ≡ true
-    few (inl e) = or-left (eqb last 0) (leb 2 (size (v .n) last)) (eq-eqb last 0 e)
-    few (inr h) = or-right (eqb last 0) (leb 2 (size (v .n) last)) (le-leb 2 (size (v .n) last) h)
+    few : (last ≡ 0) ⊎ (2 ≤ size (v .cable .n) last) → (eqb last 0 || leb 2 (size (v .cable .n) last)) ≡ true
+    few (inl e) = or-left (eqb last 0) (leb 2 (size (v .cable .n) last)) (eq-eqb last 0 e)
+    few (inr h) = or-right (eqb last 0) (leb 2 (size (v .cable .n) last)) (le-leb 2 (size (v .cable .n) last) h)
 
-pub fresh-sound : (v : Node) → InRange (v .n) (v .k) (v .own) (v .slots) → sound (fresh v) ≡ true
-fresh-sound v r = listening-sound 0 v r (pow-pos (v .n)) (inl refl) (has-none (v .own))
+pub fresh-sound : (v : Node) → InRange (v .cable) (v .own) (v .slots) → sound (fresh v) ≡ true
+fresh-sound v r = listening-sound 0 v r (pow-pos (v .cable .n)) (inl refl) (has-none (v .own))
 
-pub leave-sound : (cause : Cause) (v : Node) → InRange (v .n) (v .k) (v .own) (v .slots) → sound (leave cause v) ≡ true
+pub leave-sound : (cause : Cause) (v : Node) → InRange (v .cable) (v .own) (v .slots) → sound (leave cause v) ≡ true
 unfolding leave
 leave-sound cause v r = by-cases (isMember (v .state)) (λ e. rw e (out-sound cause v r)) (λ e. rw e (fresh-sound v r))
 
-pub following-sound : (set : ℕ) (v : Node) → InRange (v .n) (v .k) (v .own) (v .slots)
-    → set < 2 ^ v .n → 2 ≤ size (v .n) set → has set (v .own) ≡ false
+pub following-sound : (set : ℕ) (v : Node) → InRange (v .cable) (v .own) (v .slots)
+    → set < 2 ^ v .cable .n → 2 ≤ size (v .cable .n) set → has set (v .own) ≡ false
     → sound (followingWith set v) ≡ true
 unfolding has
 following-sound set v r l two absent =
@@ -116,21 +117,22 @@ following-sound set v r l two absent =
       sponsors = r .sponsors;
       own = r .own-in;
       slots = r .slots-in;
-      sets = all (lt-ltb set (2 ^ v .n) l) (all (lt-ltb set (2 ^ v .n) l) (subset-self set));
-      returning = all (le-leb 0 (v .n) (omega arith)) refl;
+      sets = all (lt-ltb set (2 ^ v .cable .n) l) (all (lt-ltb set (2 ^ v .cable .n) l) (subset-self set));
+      returning = all (le-leb 0 (v .cable .n) (omega arith)) refl;
       ownIn = exactly-by false (has set (v .own)) (sym absent);
-      knock = exactly-by false (eqb 0 (v .own)) (sym (not-own (v .n) (v .own) (r .own-in)));
+      knock = exactly-by false (eqb 0 (v .own)) (sym (not-own (v .cable .n) (v .own) (r .own-in)));
       empty = refl;
       heard = refl;
       window = refl;
-      enough = le-leb 2 (size (v .n) set) two;
+      enough = le-leb 2 (size (v .cable .n) set) two;
     })
 
-pub starting-sound : (n k own : ℕ) → ringSize n ≡ true → sponsorCount n k ≡ true → nodeNumber n own ≡ true → sound (starting n k own) ≡ true
+pub starting-sound : (cable : Cable) (own : ℕ) → ringSize (cable .n) ≡ true → sponsorCount cable ≡ true → nodeNumber (cable .n) own ≡ true → sound (starting cable own) ≡ true
 unfolding has
-starting-sound n k own h i j =
+starting-sound cable own h i j =
+    let n = cable .n in
     let x = node-number n own j in
-    sound-by (starting n k own)
+    sound-by (starting cable own)
     (record {
       ring = h;
       sponsors = i;

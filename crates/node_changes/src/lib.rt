@@ -5,8 +5,9 @@ use node_record::Node;
 use node_record::State;
 use node_record::Window;
 use node_record::is_member;
+use ring::Cable;
 ghost use mathlib.Core.Path.{_≡_};
-ghost use Rattle.node_changes.specs.Changes.{starting, holding, outFor, listeningAfter, fresh, followingWith, leave, withSet, withMarks, withReturning, withWindow};
+ghost use Rattle.node_changes.specs.Changes.{starting, outFor, listeningAfter, fresh, followingWith, leave, withSet, withMarks, withReturning, withWindow};
 
 // Listening data of a node that does not listen.
 const NO_WINDOW: Window = Window {
@@ -18,14 +19,13 @@ const NO_WINDOW: Window = Window {
 };
 
 // A member of a full set, all marks on.
-pub fn starting(n: u32, k: u32, own: u32) -> Node
-    ensures { λ r. ⌜ r ≡ starting n k own ⌝ }
+pub fn starting(cable: Cable, own: u32) -> Node
+    ensures { λ r. ⌜ r ≡ starting cable own ⌝ }
 {
-    let all = nodeset::full(n);
+    let all = nodeset::full(cable.n);
     let w = NO_WINDOW;
     Node {
-        n,
-        k,
+        cable,
         own,
         slots: 0,
         state: State::Member,
@@ -37,33 +37,14 @@ pub fn starting(n: u32, k: u32, own: u32) -> Node
     }
 }
 
-// A member that holds a set and has no marks, of whom nothing else is known.
-pub fn holding(n: u32, k: u32, set: u32) -> Node
-    ensures { λ r. ⌜ r ≡ holding n k set ⌝ }
-{
-    let w = NO_WINDOW;
-    Node {
-        n,
-        k,
-        own: 0,
-        slots: 0,
-        state: State::Member,
-        set,
-        present: 0,
-        returning: 0,
-        return_heard: false,
-        listening: w,
-    }
-}
-
 // Out for a cause.
 pub fn out_for(cause: Cause, v: Node) -> Node
     ensures { λ r. ⌜ r ≡ outFor cause v ⌝ }
 {
+    let cable = v.cable;
     let w = NO_WINDOW;
     Node {
-        n: v.n,
-        k: v.k,
+        cable,
         own: v.own,
         slots: v.slots,
         state: State::Out(cause),
@@ -79,16 +60,16 @@ pub fn out_for(cause: Cause, v: Node) -> Node
 pub fn listening_after(last: u32, v: Node) -> Node
     ensures { λ r. ⌜ r ≡ listeningAfter last v ⌝ }
 {
+    let cable = v.cable;
     let w = Window {
         done: 0,
         heard: 0,
-        shortest: v.k,
+        shortest: cable.k,
         return_seen: false,
         last,
     };
     Node {
-        n: v.n,
-        k: v.k,
+        cable,
         own: v.own,
         slots: v.slots,
         state: State::Listening,
@@ -111,10 +92,10 @@ pub fn fresh(v: Node) -> Node
 pub fn following_with(set: u32, v: Node) -> Node
     ensures { λ r. ⌜ r ≡ followingWith set v ⌝ }
 {
+    let cable = v.cable;
     let w = NO_WINDOW;
     Node {
-        n: v.n,
-        k: v.k,
+        cable,
         own: v.own,
         slots: v.slots,
         state: State::Following,
@@ -160,10 +141,10 @@ pub fn with_marks(present: u32, heard: bool, v: Node) -> Node
 pub fn with_returning(state: State, r: u32, v: Node) -> Node
     ensures { λ w. ⌜ w ≡ withReturning state r v ⌝ }
 {
+    let cable = v.cable;
     let window = v.listening;
     Node {
-        n: v.n,
-        k: v.k,
+        cable,
         own: v.own,
         slots: v.slots,
         state,

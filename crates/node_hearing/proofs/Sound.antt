@@ -1,7 +1,7 @@
 -- One slot of a listening node (specs/Hearing) keeps its record sound. Assumes nothing.
 use Prim.Native.Nat.{ℕ, _^_, _≤_, _<_}
 use mathlib.Core.Path.{_≡_, sym, ap, _∙_}
-use mathlib.Core.Logic.{_≢_, inr}
+use mathlib.Core.Logic.{inr}
 use mathlib.Core.Bool.{true, false, not, _||_, true≢false}
 use native.Mathlib.Omega.{arith}
 use lib.Dec.{eqb, leb, ltb}
@@ -10,9 +10,11 @@ use Rattle.nodeset.specs.Sets.{has, within, size}
 use Rattle.nodeset.proofs.Tests.{by-cases, both, all, or-left}
 use Rattle.nodeset.proofs.Bits.{has-none}
 use Rattle.nodeset.proofs.Laws.{has-with, has-with-other, with-lt}
+use Rattle.ring.specs.declared.Cable.{Cable}
 use Rattle.ring.proofs.Ranges.{ring-size}
 use Rattle.message.specs.declared.Reading.{Reading}
 use Rattle.message.specs.declared.Reading.the-variants as reading
+use Rattle.message.proofs.From.{FromOther}
 use Rattle.node_record.specs.declared.Node.{Node}
 use Rattle.node_record.specs.declared.Window.{Window}
 use Rattle.node_record.specs.States.{isListening}
@@ -20,20 +22,22 @@ use Rattle.node_record.specs.Soundness.{implies, windowInRange, windowEmpty, so
 use Rattle.node_record.proofs.Facts.{clauses, sound-by, implied, implies-by, window-listening}
 use Rattle.node_changes.specs.Changes.{withWindow}
 use Rattle.node_changes.proofs.Sound.{in-range, fresh-sound, listening-sound, following-sound}
-use Rattle.node_hearing.specs.Hearing.{overheard, clean, windowEnd, listeningSlot}
+use Rattle.node_hearing.specs.Hearing.{overheard, clean, windowEnd, goesOn, listeningBy}
 
 -- the ranges of the listening data, as facts
-record Ranges (n k own : ℕ) (w : Window) : Type 0 where
-  heard-in : w .heard < 2 ^ n
-  short : w .shortest ≤ k
-  silent : w .heard ≡ 0 → w .shortest ≡ k
-  last-in : w .last < 2 ^ n
-  last-two : (eqb (w .last) 0 || leb 2 (size n (w .last))) ≡ true
+record Ranges (cable : Cable) (own : ℕ) (w : Window) : Type 0 where
+  heard-in : w .heard < 2 ^ cable .n
+  short : w .shortest ≤ cable .k
+  silent : w .heard ≡ 0 → w .shortest ≡ cable .k
+  last-in : w .last < 2 ^ cable .n
+  last-two : (eqb (w .last) 0 || leb 2 (size (cable .n) (w .last))) ≡ true
   heard-others : has (w .heard) own ≡ false
   last-others : has (w .last) own ≡ false
 
-ranges : (n k own : ℕ) (w : Window) → windowInRange n k own w ≡ true → Ranges n k own w
-ranges n k own w e =
+ranges : (cable : Cable) (own : ℕ) (w : Window) → windowInRange cable own w ≡ true → Ranges cable own w
+ranges cable own w e =
+    let n = cable .n in
+    let k = cable .k in
     let b₁ = both (ltb (w .done) n) _ e in
     let b₂ = both (within n (w .heard)) _ (b₁ .1) in
     let b₃ = both (leb (w .shortest) k) _ (b₂ .1) in
@@ -51,8 +55,10 @@ ranges n k own w e =
       last-others = not-true (has (w .last) own) (b₇ .1);
     }
 
-in-window : (n k own : ℕ) (w : Window) → w .done < n → Ranges n k own w → windowInRange n k own w ≡ true
-in-window n k own w h r =
+in-window : (cable : Cable) (own : ℕ) (w : Window) → w .done < cable .n → Ranges cable own w → windowInRange cable own w ≡ true
+in-window cable own w h r =
+    let n = cable .n in
+    let k = cable .k in
     all (lt-ltb (w .done) n h)
     (all (lt-ltb (w .heard) (2 ^ n) (r .heard-in))
     (all (le-leb (w .shortest) k (r .short))
@@ -62,14 +68,9 @@ in-window n k own w h r =
 
 -- ---- one slot more in the window
 
--- nothing is heard, or a node other than this one
-abbrev pub FromOther : ℕ → Reading → ℕ → Type 0
-FromOther s (reading.Heard bits returnBit) own = s ≢ own
-FromOther s (reading.Refused r) own = Unit {0}
-
-overheard-ranges : (n k own s : ℕ) (heard : Reading) (w : Window) → n ≤ 32 → 1 ≤ s → s ≤ n → FromOther s heard own → Ranges n k own w → Ranges n k own (overheard s heard w)
-overheard-ranges n k own s (reading.Heard bits returnBit) w h a b d r = record {
-  heard-in = with-lt n (w .heard) s b (r .heard-in);
+overheard-ranges : (cable : Cable) (own s : ℕ) (heard : Reading) (w : Window) → cable .n ≤ 32 → 1 ≤ s → s ≤ cable .n → FromOther s heard own → Ranges cable own w → Ranges cable own (overheard s heard w)
+overheard-ranges cable own s (reading.Heard bits returnBit) w h a b d r = record {
+  heard-in = with-lt (cable .n) (w .heard) s b (r .heard-in);
   short = omega (arith, r .short);
   silent = λ z. absurd (true≢false (sym (has-with (w .heard) s a (omega arith)) ∙ ap (λ (q : ℕ). has q s) z ∙ has-none s));
   last-in = r .last-in;
@@ -77,7 +78,7 @@ overheard-ranges n k own s (reading.Heard bits returnBit) w h a b d r = record {
   heard-others = has-with-other (w .heard) s own d ∙ r .heard-others;
   last-others = r .last-others;
 }
-overheard-ranges n k own s (reading.Refused c) w h a b d r = record {
+overheard-ranges cable own s (reading.Refused c) w h a b d r = record {
   heard-in = r .heard-in;
   short = r .short;
   silent = r .silent;
@@ -88,7 +89,7 @@ overheard-ranges n k own s (reading.Refused c) w h a b d r = record {
 }
 
 -- a listening record with another window in range
-window-sound : (w : Window) (v : Node) → sound v ≡ true → isListening (v .state) ≡ true → windowInRange (v .n) (v .k) (v .own) w ≡ true → sound (withWindow w v) ≡ true
+window-sound : (w : Window) (v : Node) → sound v ≡ true → isListening (v .state) ≡ true → windowInRange (v .cable) (v .own) w ≡ true → sound (withWindow w v) ≡ true
 window-sound w v e l h =
     let c = clauses v e in
     sound-by (withWindow w v)
@@ -103,29 +104,29 @@ window-sound w v e l h =
       knock = c .knock;
       empty = c .empty;
       heard = c .heard;
-      window = all (implies-by (isListening (v .state)) (windowInRange (v .n) (v .k) (v .own) w) (λ t. h)) (or-left (isListening (v .state)) (windowEmpty w) l);
+      window = all (implies-by (isListening (v .state)) (windowInRange (v .cable) (v .own) w) (λ t. h)) (or-left (isListening (v .state)) (windowEmpty w) l);
       enough = c .enough;
     })
 
 -- ---- the end of a window
 
-window-end-sound : (w : Window) (v : Node) → sound v ≡ true → Ranges (v .n) (v .k) (v .own) w → sound (windowEnd w v) ≡ true
+window-end-sound : (w : Window) (v : Node) → sound v ≡ true → Ranges (v .cable) (v .own) w → sound (windowEnd w v) ≡ true
 unfolding windowEnd clean
 window-end-sound w v e r =
-    by-cases (clean (v .n) (v .k) w)
+    by-cases (clean (v .cable) w)
     (λ c.
-    let two : 2 ≤ size (v .n) (w .heard) = leb-true 2 (size (v .n) (w .heard)) (both (leb 2 (size (v .n) (w .heard))) _ c .0) in
+    let two : 2 ≤ size (v .cable .n) (w .heard) = leb-true 2 (size (v .cable .n) (w .heard)) (both (leb 2 (size (v .cable .n) (w .heard))) _ c .0) in
     rw c (by-cases (eqb (w .last) (w .heard))
     (λ s. rw s (following-sound (w .heard) v (in-range v e) (r .heard-in) two (r .heard-others)))
     (λ s. rw s (listening-sound (w .heard) v (in-range v e) (r .heard-in) (inr two) (r .heard-others)))))
     (λ c. rw c (fresh-sound v (in-range v e)))
 
-pub listening-slot-sound : (s : ℕ) (heard : Reading) (v : Node) → 1 ≤ s → s ≤ v .n → FromOther s heard (v .own) → sound v ≡ true → isListening (v .state) ≡ true → sound (listeningSlot s heard v) ≡ true
-unfolding listeningSlot
+pub listening-slot-sound : (s : ℕ) (heard : Reading) (v : Node) → 1 ≤ s → s ≤ v .cable .n → FromOther s heard (v .own) → sound v ≡ true → isListening (v .state) ≡ true → sound (listeningBy s heard v) ≡ true
+unfolding listeningBy goesOn
 listening-slot-sound s heard v a b d e l =
     let c = clauses v e in
     let w = overheard s heard (v .listening) in
-    let r = overheard-ranges (v .n) (v .k) (v .own) s heard (v .listening) (ring-size (v .n) (c .ring) .1) a b d (ranges (v .n) (v .k) (v .own) (v .listening) (window-listening v (c .window) l)) in
-    by-cases (ltb (w .done) (v .n))
-    (λ t. rw t (window-sound w v e l (in-window (v .n) (v .k) (v .own) w (ltb-true (w .done) (v .n) t) r)))
+    let r = overheard-ranges (v .cable) (v .own) s heard (v .listening) (ring-size (v .cable .n) (c .ring) .1) a b d (ranges (v .cable) (v .own) (v .listening) (window-listening v (c .window) l)) in
+    by-cases (ltb (w .done) (v .cable .n))
+    (λ t. rw t (window-sound w v e l (in-window (v .cable) (v .own) w (ltb-true (w .done) (v .cable .n) t) r)))
     (λ t. rw t (window-end-sound w v e r))

@@ -3,8 +3,9 @@
 use message::Reading;
 use node_record::Node;
 use node_record::Window;
+use ring::Cable;
 ghost use mathlib.Core.Path.{_≡_};
-ghost use Rattle.node_hearing.specs.Hearing.{overheard, withDone, clean, windowEnd, listeningSlot};
+ghost use Rattle.node_hearing.specs.Hearing.{overheard, withDone, clean, windowEnd, listeningBy};
 
 // The window with one more slot of it, and this count of slots done.
 fn overheard(s: u32, heard: Reading, done: u32, w: Window) -> Window
@@ -34,17 +35,18 @@ fn overheard(s: u32, heard: Reading, done: u32, w: Window) -> Window
     }
 }
 
-fn clean(n: u32, k: u32, w: Window) -> bool
-    ensures { λ r. ⌜ r ≡ clean n k w ⌝ }
+fn clean(cable: Cable, w: Window) -> bool
+    ensures { λ r. ⌜ r ≡ clean cable w ⌝ }
 {
-    let count = nodeset::size(n, w.heard);
-    (2 <= count) & (!w.return_seen & (ring::ks(k, count) <= w.shortest))
+    let count = nodeset::size(cable.n, w.heard);
+    (2 <= count) & (!w.return_seen & (ring::ks(cable, count) <= w.shortest))
 }
 
 fn window_end(w: Window, v: Node) -> Node
     ensures { λ r. ⌜ r ≡ windowEnd w v ⌝ }
 {
-    if !clean(v.n, v.k, w) {
+    let cable = v.cable;
+    if !clean(cable, w) {
         return node_changes::listening_after(0, v);
     }
     if w.last == w.heard {
@@ -53,18 +55,18 @@ fn window_end(w: Window, v: Node) -> Node
     node_changes::listening_after(w.heard, v)
 }
 
-// One slot of a listening node. A window that has n slots done already ends, whatever its count.
+// One slot of a listening node, to which nothing may be handed over in its own slot. A window that has n slots done already ends, whatever its count.
 pub fn listening_slot(s: u32, heard: Reading, v: Node) -> Node
-    ensures { λ r. ⌜ r ≡ listeningSlot s heard v ⌝ }
+    ensures { λ r. ⌜ r ≡ listeningBy s heard v ⌝ }
 {
     let before = v.listening;
-    if v.n <= before.done {
+    if v.cable.n <= before.done {
         let w = overheard(s, heard, 0, before);
         return window_end(w, v);
     }
     let done = before.done + 1;
     let w = overheard(s, heard, done, before);
-    if done < v.n {
+    if done < v.cable.n {
         return node_changes::with_window(w, v);
     }
     window_end(w, v)

@@ -9,9 +9,9 @@ use Rattle.node_record.specs.States.{isListening}
 use Rattle.node_record.specs.Soundness.{limit, implies, exactly, setsSound, returningSound, ownSound, knockSound, emptySound, heardSound, windowInRange, windowEmpty, windowSound, enoughSound, sound}
 
 pub record Clauses (v : Node) : Type 0 where
-  pub ring : ringSize (v .n) ≡ true
-  pub sponsors : sponsorCount (v .n) (v .k) ≡ true
-  pub own : nodeNumber (v .n) (v .own) ≡ true
+  pub ring : ringSize (v .cable .n) ≡ true
+  pub sponsors : sponsorCount (v .cable) ≡ true
+  pub own : nodeNumber (v .cable .n) (v .own) ≡ true
   pub slots : leb (v .slots) limit ≡ true
   pub sets : setsSound v ≡ true
   pub returning : returningSound v ≡ true
@@ -80,8 +80,8 @@ exactly-by false b e = ap (exactly false) (sym e)
 -- ---- the window's count of slots done can go up by one
 
 -- the listening data of a listening node, and of any other
-pub window-listening : (v : Node) → windowSound v ≡ true → isListening (v .state) ≡ true → windowInRange (v .n) (v .k) (v .own) (v .listening) ≡ true
-window-listening v e l = implied (isListening (v .state)) (windowInRange (v .n) (v .k) (v .own) (v .listening)) (both (implies (isListening (v .state)) (windowInRange (v .n) (v .k) (v .own) (v .listening))) (isListening (v .state) || windowEmpty (v .listening)) e .0) l
+pub window-listening : (v : Node) → windowSound v ≡ true → isListening (v .state) ≡ true → windowInRange (v .cable) (v .own) (v .listening) ≡ true
+window-listening v e l = implied (isListening (v .state)) (windowInRange (v .cable) (v .own) (v .listening)) (both (implies (isListening (v .state)) (windowInRange (v .cable) (v .own) (v .listening))) (isListening (v .state) || windowEmpty (v .listening)) e .0) l
 
 pub window-other : (v : Node) → windowSound v ≡ true → isListening (v .state) ≡ false → windowEmpty (v .listening) ≡ true
-window-other v e l = or-else (isListening (v .state)) (windowEmpty (v .listening)) (both (implies (isListening (v .state)) (windowInRange (v .n) (v .k) (v .own) (v .listening))) (isListening (v .state) || windowEmpty (v .listening)) e .1) l
+window-other v e l = or-else (isListening (v .state)) (windowEmpty (v .listening)) (both (implies (isListening (v .state)) (windowInRange (v .cable) (v .own) (v .listening))) (isListening (v .state) || windowEmpty (v .listening)) e .1) l

@@ -28,15 +28,15 @@ tracks Knocking = true
 tracks (Out cause) = false
 
 pub record Tracking (v : Node) : Type 0 where
-  pub ring : ringSize (v .n) ≡ true
-  pub sponsors : sponsorCount (v .n) (v .k) ≡ true
-  pub own : nodeNumber (v .n) (v .own) ≡ true
+  pub ring : ringSize (v .cable .n) ≡ true
+  pub sponsors : sponsorCount (v .cable) ≡ true
+  pub own : nodeNumber (v .cable .n) (v .own) ≡ true
   pub slots : leb (v .slots) limit ≡ true
   pub tracking : tracks (v .state) ≡ true
-  pub set-in : v .set < 2 ^ v .n
-  pub marks-in : v .present < 2 ^ v .n
+  pub set-in : v .set < 2 ^ v .cable .n
+  pub marks-in : v .present < 2 ^ v .cable .n
   pub marked : (x : ℕ) → has (v .present) x ≡ true → has (v .set) x ≡ true
-  pub returning : v .returning ≤ v .n
+  pub returning : v .returning ≤ v .cable .n
   pub outside : has (v .set) (v .returning) ≡ false
   pub ownIn : isMember (v .state) ≡ has (v .set) (v .own)
   pub knock : isKnocking (v .state) ≡ eqb (v .returning) (v .own)
@@ -78,21 +78,21 @@ no-member-follower (Out cause) e f = e
 pub sound-tracking : (v : Node) → sound v ≡ true → tracks (v .state) ≡ true → Tracking v
 sound-tracking v e t =
     let c = clauses v e in
-    let s = both (within (v .n) (v .set)) (within (v .n) (v .present) && subset (v .present) (v .set)) (c .sets) in
-    let m = both (within (v .n) (v .present)) (subset (v .present) (v .set)) (s .1) in
-    let r = both (leb (v .returning) (v .n)) (not (has (v .set) (v .returning))) (c .returning) in
-    let marks : v .present < 2 ^ v .n = ltb-true (v .present) (2 ^ v .n) (m .0) in
-    let word : 2 ^ v .n ≤ 2 ^ 32 = pow-mono {i = v .n} {j = 32} (ring-size (v .n) (c .ring) .1) in
+    let s = both (within (v .cable .n) (v .set)) (within (v .cable .n) (v .present) && subset (v .present) (v .set)) (c .sets) in
+    let m = both (within (v .cable .n) (v .present)) (subset (v .present) (v .set)) (s .1) in
+    let r = both (leb (v .returning) (v .cable .n)) (not (has (v .set) (v .returning))) (c .returning) in
+    let marks : v .present < 2 ^ v .cable .n = ltb-true (v .present) (2 ^ v .cable .n) (m .0) in
+    let word : 2 ^ v .cable .n ≤ 2 ^ 32 = pow-mono {i = v .cable .n} {j = 32} (ring-size (v .cable .n) (c .ring) .1) in
     record {
       ring = c .ring;
       sponsors = c .sponsors;
       own = c .own;
       slots = c .slots;
       tracking = t;
-      set-in = ltb-true (v .set) (2 ^ v .n) (s .0);
+      set-in = ltb-true (v .set) (2 ^ v .cable .n) (s .0);
       marks-in = marks;
       marked = λ x h. subset-has (v .present) (v .set) x (omega arith) (m .1) h;
-      returning = leb-true (v .returning) (v .n) (r .0);
+      returning = leb-true (v .returning) (v .cable .n) (r .0);
       outside = not-true (has (v .set) (v .returning)) (r .1);
       ownIn = same-test (isMember (v .state)) (has (v .set) (v .own)) (c .ownIn);
       knock = same-test (isKnocking (v .state)) (eqb (v .returning) (v .own)) (c .knock);
@@ -101,12 +101,12 @@ sound-tracking v e t =
     }
 
 -- "Following and knocking need two members or more in the set"
-pub enough : (v : Node) → sound v ≡ true → tracks (v .state) ≡ true → isMember (v .state) ≡ false → 2 ≤ size (v .n) (v .set)
+pub enough : (v : Node) → sound v ≡ true → tracks (v .state) ≡ true → isMember (v .state) ≡ false → 2 ≤ size (v .cable .n) (v .set)
 enough v e t m =
-    leb-true 2 (size (v .n) (v .set))
-    (implied (isFollowing (v .state) || isKnocking (v .state)) (leb 2 (size (v .n) (v .set))) (clauses v e .enough) (no-member-follower (v .state) t m))
+    leb-true 2 (size (v .cable .n) (v .set))
+    (implied (isFollowing (v .state) || isKnocking (v .state)) (leb 2 (size (v .cable .n) (v .set))) (clauses v e .enough) (no-member-follower (v .state) t m))
 
-pub tracking-sound : (v : Node) → Tracking v → (isMember (v .state) ≡ false → 2 ≤ size (v .n) (v .set)) → sound v ≡ true
+pub tracking-sound : (v : Node) → Tracking v → (isMember (v .state) ≡ false → 2 ≤ size (v .cable .n) (v .set)) → sound v ≡ true
 tracking-sound v k two =
     sound-by v
     (record {
@@ -114,15 +114,15 @@ tracking-sound v k two =
       sponsors = k .sponsors;
       own = k .own;
       slots = k .slots;
-      sets = all (lt-ltb (v .set) (2 ^ v .n) (k .set-in)) (all (lt-ltb (v .present) (2 ^ v .n) (k .marks-in)) (has-subset (v .present) (v .set) (λ x p q h. k .marked x h)));
-      returning = all (le-leb (v .returning) (v .n) (k .returning)) (ap not (k .outside));
+      sets = all (lt-ltb (v .set) (2 ^ v .cable .n) (k .set-in)) (all (lt-ltb (v .present) (2 ^ v .cable .n) (k .marks-in)) (has-subset (v .present) (v .set) (λ x p q h. k .marked x h)));
+      returning = all (le-leb (v .returning) (v .cable .n) (k .returning)) (ap not (k .outside));
       ownIn = exactly-by (isMember (v .state)) (has (v .set) (v .own)) (k .ownIn);
       knock = exactly-by (isKnocking (v .state)) (eqb (v .returning) (v .own)) (k .knock);
       empty = implies-by (isListening (v .state) || isOut (v .state)) (eqb (v .set) 0 && (eqb (v .present) 0 && eqb (v .returning) 0)) (λ h. absurd (true≢false (sym h ∙ tracks-not-away (v .state) (k .tracking))));
       heard = implies-by (v .«return_heard») (isKnocking (v .state)) (k .heard);
       window =
           all
-          (implies-by (isListening (v .state)) (windowInRange (v .n) (v .k) (v .own) (v .listening)) (λ h. absurd (true≢false (sym h ∙ tracks-not-listening (v .state) (k .tracking)))))
+          (implies-by (isListening (v .state)) (windowInRange (v .cable) (v .own) (v .listening)) (λ h. absurd (true≢false (sym h ∙ tracks-not-listening (v .state) (k .tracking)))))
           (or-right (isListening (v .state)) (windowEmpty (v .listening)) (k .window));
-      enough = implies-by (isFollowing (v .state) || isKnocking (v .state)) (leb 2 (size (v .n) (v .set))) (λ h. le-leb 2 (size (v .n) (v .set)) (two (follower-no-member (v .state) h)));
+      enough = implies-by (isFollowing (v .state) || isKnocking (v .state)) (leb 2 (size (v .cable .n) (v .set))) (λ h. le-leb 2 (size (v .cable .n) (v .set)) (two (follower-no-member (v .state) h)));
     })

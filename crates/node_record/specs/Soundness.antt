@@ -3,6 +3,7 @@ use Prim.Native.Nat.{ℕ}
 use mathlib.Core.Bool.{Bool, not, _&&_, _||_, Bool·beq}
 use lib.Dec.{eqb, leb, ltb}
 use Rattle.nodeset.specs.Sets.{has, within, subset, size}
+use Rattle.ring.specs.declared.Cable.{Cable}
 use Rattle.ring.specs.Ring.{ringSize, sponsorCount, nodeNumber}
 use Rattle.node_record.specs.declared.Node.{Node}
 use Rattle.node_record.specs.declared.Window.{Window}
@@ -22,15 +23,15 @@ exactly a b = Bool·beq a b
 
 -- "n, k and own number are in range, the slot count is at most the limit"
 abbrev pub numbersSound : Node → Bool
-numbersSound v = ringSize (v .n) && (sponsorCount (v .n) (v .k) && (nodeNumber (v .n) (v .own) && leb (v .slots) limit))
+numbersSound v = ringSize (v .cable .n) && (sponsorCount (v .cable) && (nodeNumber (v .cable .n) (v .own) && leb (v .slots) limit))
 
 -- "set and marks hold only numbers 1 to n, each marked node is in the set"
 abbrev pub setsSound : Node → Bool
-setsSound v = within (v .n) (v .set) && (within (v .n) (v .present) && subset (v .present) (v .set))
+setsSound v = within (v .cable .n) (v .set) && (within (v .cable .n) (v .present) && subset (v .present) (v .set))
 
 -- "returning is outside the set"; it is "0 or a node"
 abbrev pub returningSound : Node → Bool
-returningSound v = leb (v .returning) (v .n) && not (has (v .set) (v .returning))
+returningSound v = leb (v .returning) (v .cable .n) && not (has (v .set) (v .returning))
 
 -- "a member's own number is in its set and otherwise not"
 abbrev pub ownSound : Node → Bool
@@ -52,14 +53,14 @@ heardSound v = implies (v .«return_heard») (isKnocking (v .state))
 -- "Listening data: slots done in this window (0 to n - 1), nodes heard in it, the shortest run of ones in it (0 to k, k while nothing is
 -- heard), whether a return bit of 1 was heard in it, and the nodes of the last clean window (none, or two or more). Neither group of
 -- nodes holds the own number." ("Listening")
-abbrev pub windowInRange : ℕ → ℕ → ℕ → Window → Bool
-windowInRange n k own w =
-    ltb (w .done) n
-    && (within n (w .heard)
-    && (leb (w .shortest) k
-    && (implies (eqb (w .heard) 0) (eqb (w .shortest) k)
-    && (within n (w .last)
-    && ((eqb (w .last) 0 || leb 2 (size n (w .last)))
+abbrev pub windowInRange : Cable → ℕ → Window → Bool
+windowInRange cable own w =
+    ltb (w .done) (cable .n)
+    && (within (cable .n) (w .heard)
+    && (leb (w .shortest) (cable .k)
+    && (implies (eqb (w .heard) 0) (eqb (w .shortest) (cable .k))
+    && (within (cable .n) (w .last)
+    && ((eqb (w .last) 0 || leb 2 (size (cable .n) (w .last)))
     && (not (has (w .heard) own) && not (has (w .last) own)))))))
 
 abbrev pub windowEmpty : Window → Bool
@@ -69,12 +70,12 @@ windowEmpty w =
 -- "listening data are within the ranges given under Listening, and zero or no in every other state"
 abbrev pub windowSound : Node → Bool
 windowSound v =
-    implies (isListening (v .state)) (windowInRange (v .n) (v .k) (v .own) (v .listening))
+    implies (isListening (v .state)) (windowInRange (v .cable) (v .own) (v .listening))
     && (isListening (v .state) || windowEmpty (v .listening))
 
 -- "Following and knocking need two members or more in the set"
 abbrev pub enoughSound : Node → Bool
-enoughSound v = implies (isFollowing (v .state) || isKnocking (v .state)) (leb 2 (size (v .n) (v .set)))
+enoughSound v = implies (isFollowing (v .state) || isKnocking (v .state)) (leb 2 (size (v .cable .n) (v .set)))
 
 unfoldable pub sound : Node → Bool
 sound v =

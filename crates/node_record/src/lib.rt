@@ -1,4 +1,5 @@
 // The node record (document 01, "The node record"): what it holds, and when it is sound.
+use ring::Cable;
 ghost use mathlib.Core.Path.{_≡_};
 ghost use Rattle.node_record.specs.States.{isMember, isListening, isFollowing, isKnocking, isOut, causeNumber};
 ghost use Rattle.node_record.specs.Soundness.{numbersSound, setsSound, returningSound, ownSound, knockSound, emptySound, heardSound, windowInRange, windowEmpty, windowSound, enoughSound, sound};
@@ -30,8 +31,7 @@ pub struct Window {
 }
 
 pub struct Node {
-    pub n: u32,
-    pub k: u32,
+    pub cable: Cable,
     pub own: u32,
     pub slots: u64,
     pub state: State,
@@ -123,22 +123,23 @@ pub fn is_out(state: State) -> bool
 fn numbers_sound(v: Node) -> bool
     ensures { λ r. ⌜ r ≡ numbersSound v ⌝ }
 {
-    ring::is_ring_size(v.n)
-        & (ring::is_sponsor_count(v.n, v.k)
-            & (ring::is_node_number(v.n, v.own) & (v.slots <= LIMIT)))
+    let cable = v.cable;
+    ring::is_ring_size(cable.n)
+        & (ring::is_sponsor_count(cable)
+            & (ring::is_node_number(cable.n, v.own) & (v.slots <= LIMIT)))
 }
 
 // Marks that are in the set hold only numbers that the set holds.
 fn sets_sound(v: Node) -> bool
     ensures { λ r. ⌜ r ≡ setsSound v ⌝ }
 {
-    nodeset::is_within(v.n, v.set) & nodeset::is_subset(v.present, v.set)
+    nodeset::is_within(v.cable.n, v.set) & nodeset::is_subset(v.present, v.set)
 }
 
 fn returning_sound(v: Node) -> bool
     ensures { λ r. ⌜ r ≡ returningSound v ⌝ }
 {
-    (v.returning <= v.n) & !nodeset::has(v.set, v.returning)
+    (v.returning <= v.cable.n) & !nodeset::has(v.set, v.returning)
 }
 
 fn own_sound(v: Node) -> bool
@@ -170,16 +171,16 @@ fn heard_sound(v: Node) -> bool
     !v.return_heard | is_knocking(state)
 }
 
-fn window_in_range(n: u32, k: u32, own: u32, w: Window) -> bool
-    ensures { λ r. ⌜ r ≡ windowInRange n k own w ⌝ }
+fn window_in_range(cable: Cable, own: u32, w: Window) -> bool
+    ensures { λ r. ⌜ r ≡ windowInRange cable own w ⌝ }
 {
-    let shortest_right = (w.heard != 0) | (w.shortest == k);
-    let last_right = (w.last == 0) | (2 <= nodeset::size(n, w.last));
-    (w.done < n)
-        & (nodeset::is_within(n, w.heard)
-            & ((w.shortest <= k)
+    let shortest_right = (w.heard != 0) | (w.shortest == cable.k);
+    let last_right = (w.last == 0) | (2 <= nodeset::size(cable.n, w.last));
+    (w.done < cable.n)
+        & (nodeset::is_within(cable.n, w.heard)
+            & ((w.shortest <= cable.k)
                 & (shortest_right
-                    & (nodeset::is_within(n, w.last)
+                    & (nodeset::is_within(cable.n, w.last)
                         & (last_right
                             & (!nodeset::has(w.heard, own) & !nodeset::has(w.last, own)))))))
 }
@@ -195,7 +196,7 @@ fn enough_sound(v: Node) -> bool
 {
     let state = v.state;
     if is_following(state) | is_knocking(state) {
-        return 2 <= nodeset::size(v.n, v.set);
+        return 2 <= nodeset::size(v.cable.n, v.set);
     }
     true
 }
@@ -204,9 +205,10 @@ fn window_sound(v: Node) -> bool
     ensures { λ r. ⌜ r ≡ windowSound v ⌝ }
 {
     let state = v.state;
+    let cable = v.cable;
     let w = v.listening;
     if is_listening(state) {
-        return window_in_range(v.n, v.k, v.own, w);
+        return window_in_range(cable, v.own, w);
     }
     window_empty(w)
 }

@@ -6,19 +6,19 @@ use mathlib.Core.Bool.{Bool, true, false}
 use native.Mathlib.Omega.{arith}
 use native.Mathlib.Decide.{decLe}
 use lib.Pow.{pow-pos, pow-mono, pow-lt}
-use Rattle.nodeset.specs.Sets.{has, with, size}
+use Rattle.nodeset.specs.Sets.{has, with}
 use Rattle.nodeset.proofs.Tests.{by-cases, chosen, otherwise}
 use Rattle.nodeset.proofs.Bits.{has-beyond}
 use Rattle.nodeset.proofs.Laws.{has-with, has-with-other, with-lt}
-use Rattle.ring.specs.Ring.{ks}
-use Rattle.ring.specs.Answers.{sponsoredOf}
+use Rattle.ring.specs.Ring.{memberIn, sponsors}
 use Rattle.node_record.specs.declared.Node.{Node}
+use Rattle.node_record.specs.Sponsoring.{sponsorsIn, sponsoredIn}
 use Rattle.node_record.specs.States.{isMember}
-use Rattle.node_sending.specs.Sending.{hasFound, markBits, bitsSent}
+use Rattle.node_sending.specs.Sending.{markBits, bitsSent}
 
 -- the mark of the j-th sponsored member
 abbrev pub marked : Node → ℕ → Bool
-marked v j = hasFound (v .present) (sponsoredOf (v .n) (v .k) (v .set) (v .own) j)
+marked v j = has (v .present) (memberIn (sponsoredIn (v .own) j v))
 
 -- ---- one bit more, by the mark
 
@@ -43,13 +43,13 @@ markBits-lt v (suc j) =
     (λ e. omega (arith, markBits-off v j e))
 
 -- what any node sends fits k bits, so that the writer refuses none of it by cause 8
-pub bitsSent-lt : (v : Node) → bitsSent v < 2 ^ v .k
-unfolding bitsSent
+pub bitsSent-lt : (v : Node) → bitsSent v < 2 ^ v .cable .k
+unfolding bitsSent sponsors
 bitsSent-lt v =
-    let most : ℕ = ks (v .k) (size (v .n) (v .set)) in
+    let most : ℕ = sponsorsIn v in
     by-cases (isMember (v .state))
-    (λ e. omega (arith, chosen (markBits most v) 0 e, markBits-lt v most, pow-mono {i = most} {j = v .k} (omega arith)))
-    (λ e. omega (arith, otherwise (markBits most v) 0 e, pow-pos (v .k)))
+    (λ e. omega (arith, chosen (markBits most v) 0 e, markBits-lt v most, pow-mono {i = most} {j = v .cable .k} (omega arith)))
+    (λ e. omega (arith, otherwise (markBits most v) 0 e, pow-pos (v .cable .k)))
 
 -- ---- what each bit says
 

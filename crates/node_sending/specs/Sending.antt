@@ -1,20 +1,12 @@
 -- What a node sends in its own slot (document 01, end of "One slot").
 use Prim.Native.Nat.{ℕ, zero, suc}
-use mathlib.Core.Bool.{Bool, false, cond, not, _&&_, _||_}
+use mathlib.Core.Bool.{Bool, cond, not, _&&_, _||_}
 use lib.Dec.{eqb}
-use Rattle.nodeset.specs.Sets.{has, with, size}
-use Rattle.ring.specs.declared.Found.{Found}
-use Rattle.ring.specs.declared.Found.the-variants.{Member, Nobody, Refused}
-use Rattle.ring.specs.Ring.{ks}
-use Rattle.ring.specs.Answers.{sponsoredOf}
+use Rattle.nodeset.specs.Sets.{has, with}
+use Rattle.ring.specs.Ring.{memberIn}
 use Rattle.node_record.specs.declared.Node.{Node}
+use Rattle.node_record.specs.Sponsoring.{sponsorsIn, sponsoredIn}
 use Rattle.node_record.specs.States.{isMember, isFollowing}
-
--- A found member is in the set; where nobody is found there is nothing to ask.
-abbrev pub hasFound : ℕ → Found → Bool
-hasFound s (Member m) = has s m
-hasFound s Nobody = false
-hasFound s (Refused r) = false
 
 -- "Members send in their own slots", and a following node "in its own slot with returning 0 knocks: it sends".
 abbrev pub sends : Node → Bool
@@ -25,11 +17,11 @@ unfoldable pub markBits : ℕ → Node → ℕ
 markBits zero v = 0
 markBits (suc j) v =
     let bits = markBits j v in
-    cond (hasFound (v .present) (sponsoredOf (v .n) (v .k) (v .set) (v .own) (suc j))) (with bits (suc j)) bits
+    cond (has (v .present) (memberIn (sponsoredIn (v .own) (suc j) v))) (with bits (suc j)) bits
 
 -- "Acknowledgement bits past ks are sent as 0"; "A knock carries zero bits".
 unfoldable pub bitsSent : Node → ℕ
-bitsSent v = cond (isMember (v .state)) (markBits (ks (v .k) (size (v .n) (v .set))) v) 0
+bitsSent v = cond (isMember (v .state)) (markBits (sponsorsIn v) v) 0
 
 -- "the return bit is 1 if returning is not 0. A knock carries .. return bit 0."
 abbrev pub returnSent : Node → Bool

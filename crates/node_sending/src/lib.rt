@@ -3,46 +3,36 @@
 use node_record::Node;
 use node_record::is_following;
 use node_record::is_member;
-use ring::Found;
 ghost use mathlib.Core.Path.{_≡_};
 ghost use mathlib.Core.Bool.{cond};
-ghost use Rattle.nodeset.specs.Sets.{with, size};
-ghost use Rattle.ring.specs.Ring.{ks};
-ghost use Rattle.node_sending.specs.Sending.{hasFound, sends, markBits, bitsSent, returnSent};
+ghost use Rattle.nodeset.specs.Sets.{has, with};
+ghost use Rattle.node_record.specs.Sponsoring.{sponsorsIn};
+ghost use Rattle.node_sending.specs.Sending.{sends, markBits, bitsSent, returnSent};
 
-fn has_found(set: u32, found: Found) -> bool
-    ensures { λ r. ⌜ r ≡ hasFound set found ⌝ }
+// The bits with the j-th, if node x, the j-th sponsored member, is marked.
+fn mark_bit(j: u32, bits: u32, marks: u32, x: u32) -> u32
+    ensures { λ r. ⌜ r ≡ cond (has marks x) (with bits j) bits ⌝ }
 {
-    match found {
-        Found::Member(m) => nodeset::has(set, m),
-        Found::Nobody => false,
-        Found::Refused(_) => false,
-    }
-}
-
-// The bits with that of a sponsored member, the j-th.
-fn mark_bit(j: u32, bits: u32, marks: u32, found: Found) -> u32
-    ensures { λ r. ⌜ r ≡ cond (hasFound marks found) (with bits j) bits ⌝ }
-{
-    if has_found(marks, found) {
+    if nodeset::has(marks, x) {
         return nodeset::with(bits, j);
     }
     bits
 }
 
-// The acknowledgement bits of a member: its marks of those that it sponsors, which are taken one
-// after the other, each the nearest before the last.
+// The acknowledgement bits of a member: its marks of those that it sponsors, which one walk back
+// takes one after the other.
 fn mark_bits(v: Node) -> u32
-    ensures { λ r. ⌜ r ≡ markBits (ks (v .k) (size (v .n) (v .set))) v ⌝ }
+    ensures { λ r. ⌜ r ≡ markBits (sponsorsIn v) v ⌝ }
 {
-    let most = ring::ks(v.k, nodeset::size(v.n, v.set));
+    let cable = v.cable;
+    let most = ring::sponsors(cable, v.set);
+    let mut place = ring::start_at(cable.n, v.own);
     let mut bits = 0;
-    let mut found = ring::sponsored(v.n, v.k, v.set, v.own, 1);
     let mut j = 0;
     while j < most {
         j += 1;
-        bits = mark_bit(j, bits, v.present, found);
-        found = ring::before_found(v.n, v.set, found);
+        place = ring::nearest(cable.n, v.set, place);
+        bits = mark_bit(j, bits, v.present, place.node);
     }
     bits
 }

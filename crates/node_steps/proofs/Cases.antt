@@ -1,20 +1,41 @@
 -- The slot of specs/Steps, which does the steps in their order, is the slot by cases of specs/Inner. Assumes nothing.
 use Prim.Native.Nat.{ℕ}
-use mathlib.Core.Path.{_≡_, refl, sym, ap, _∙_}
+use mathlib.Core.Path.{_≡_, refl, sym, ap, ap₂, _∙_}
 use mathlib.Core.Bool.{Bool, true, false, cond, not, _&&_, true≢false}
 use lib.Dec.{eqb}
-use borrow.Author.Tests.{eqb-true}
+use borrow.Author.Tests.{eqb-true, ne-eqb}
 use Rattle.nodeset.specs.Sets.{has, without}
-use Rattle.nodeset.proofs.Tests.{chosen, otherwise}
+use Rattle.nodeset.proofs.Tests.{by-cases, chosen, otherwise}
 use Rattle.ring.specs.declared.Found.{Found}
 use Rattle.ring.specs.declared.Found.the-variants as found
-use Rattle.ring.specs.Answers.{decidedOf}
+use Rattle.ring.specs.Ring.{memberIn, isFound}
 use Rattle.message.specs.declared.Reading.{Reading}
+use Rattle.message.specs.declared.Reading.the-variants as reading
+use Rattle.message.proofs.From.{FromOther}
 use Rattle.node_record.specs.declared.Node.{Node}
 use Rattle.node_record.specs.States.{leavingCause}
-use Rattle.node_changes.specs.Changes.{leave, withSet}
-use Rattle.node_steps.specs.Steps.{missedReturn, marked, isFound, leaves, withoutDecided, departed, afterMessage, settle, trackingSlot}
-use Rattle.node_steps.specs.Inner.{judged, departs, insideSlot, outsideSlot, slotByCases}
+use Rattle.node_record.specs.Sponsoring.{decidedIn}
+use Rattle.node_changes.specs.Changes.{leave, withSet, withMarks}
+use Rattle.node_steps.specs.Steps.{isOwn, returnIn, hearsReturn, readMarks, marksAfter, missedReturn, returnHeard, marked, noted, leaves, departed, settle, trackingSlot}
+use Rattle.node_steps.specs.Inner.{readReturn, readHeard, readMarked, judged, departs, departing, insideSlot, outsideSlot, slotByCases}
+
+-- ---- step 1: what is heard of the own slot is a refused reading
+
+returns-read : (s : ℕ) (heard : Reading) (v : Node) → FromOther s heard (v .own) → hearsReturn s heard v ≡ returnIn heard
+returns-read s (reading.Heard bits returnBit) v f = rw (ne-eqb s (v .own) f) refl
+returns-read s (reading.Refused r) v f = by-cases (isOwn s v) (λ e. rw e refl) (λ e. rw e refl)
+
+marks-read : (s : ℕ) (heard : Reading) (v : Node) → FromOther s heard (v .own) → marksAfter s heard v ≡ readMarks s heard v
+marks-read s (reading.Heard bits returnBit) v f = otherwise _ _ (ne-eqb s (v .own) f)
+marks-read s (reading.Refused r) v f =
+    by-cases (isOwn s v) (λ e. chosen _ _ e ∙ ap (without (v .present)) (sym (eqb-true s (v .own) e))) (λ e. otherwise _ _ e)
+
+marked-read : (s : ℕ) (heard : Reading) (v : Node) → FromOther s heard (v .own) → marked s heard v ≡ readMarked s heard v
+marked-read s heard v f =
+    let h : returnHeard s heard v ≡ readHeard heard v = rw (returns-read s heard v f) refl in
+    ap₂ (λ (marks : ℕ) (b : Bool). withMarks marks b v) (marks-read s heard v f) h
+
+-- ---- step 3
 
 -- a member m that is struck is the node itself, or another; b: m is marked, c: the node is
 struck : {X : Type 0} (f : ℕ → X) (x : X) (set left : ℕ) (a b c : Bool) → (a ≡ true → b ≡ c) → cond (a && not c) x (f (cond b set left)) ≡ cond b (f set) (cond a x (f left))
@@ -25,26 +46,39 @@ struck f x set left true false false h = refl
 struck f x set left false true c h = refl
 struck f x set left false false c h = refl
 
-departs-is : (s : ℕ) (d : Found) (v : Node) → cond (isFound (v .own) d && not (has (v .present) (v .own))) (leave (leavingCause 1) v) (settle true s (withSet (withoutDecided d v) v)) ≡ departs s d v
-unfolding judged
+departs-is : (s : ℕ) (d : Found) (v : Node)
+    → cond (isFound (v .own) d && not (has (v .present) (v .own))) (leave (leavingCause 1) v)
+    (settle true s (withSet (cond (has (v .present) (memberIn d)) (v .set) (without (v .set) (memberIn d))) v)) ≡ departs s d v
+unfolding judged has without
 departs-is s (found.Member m) v =
     struck (λ (set : ℕ). settle true s (withSet set v)) (leave (leavingCause 1) v) (v .set) (without (v .set) m) (eqb m (v .own)) (has (v .present) m) (has (v .present) (v .own)) (λ e. ap (has (v .present)) (eqb-true m (v .own) e))
 departs-is s found.Nobody v = refl
-departs-is s (found.Refused r) v = refl
 
-pub slot-by-cases : (s : ℕ) (heard : Reading) (v : Node) → trackingSlot s heard v ≡ slotByCases s heard v
+-- ---- the slot
+
+-- the steps after the message, of the record w
+inside-is : (s : ℕ) (w : Node) → cond (leaves s w (w .own)) (leave (leavingCause 1) w) (settle true s (departed s w)) ≡ departing s w
+inside-is s w = departs-is s (decidedIn s w) w
+
+pub slot-by-cases : (s : ℕ) (heard : Reading) (v : Node) → FromOther s heard (v .own) → trackingSlot s heard v ≡ slotByCases s heard v
 unfolding trackingSlot slotByCases insideSlot outsideSlot
-slot-by-cases s heard v = go (has (v .set) s)
-  where
-    go : (b : Bool) → let w = afterMessage b s heard v in
-        cond (b && missedReturn heard v) (leave (leavingCause 3) v) (cond (b && leaves s w (w .own)) (leave (leavingCause 1) w) (settle b s (cond b (departed s w) w))) ≡ cond b (insideSlot s heard v) (outsideSlot s heard v)
-    go true = ap (cond (missedReturn heard v) (leave (leavingCause 3) v)) (departs-is s (decidedOf (v .n) (v .k) (v .set) s) (marked s heard v))
-    go false = refl
+slot-by-cases s heard v f =
+    by-cases (has (v .set) s)
+    (λ e.
+    let r : missedReturn s heard v ≡ readReturn heard v = rw (returns-read s heard v f) refl in
+    rw e (ap (λ (b : Bool). cond b (leave (leavingCause 3) v) (cond (leaves s (marked s heard v) (v .own)) (leave (leavingCause 1) (marked s heard v)) (settle true s (departed s (marked s heard v))))) r
+    ∙ ap (cond (readReturn heard v) (leave (leavingCause 3) v)) (inside-is s (marked s heard v) ∙ ap (departing s) (marked-read s heard v f))))
+    (λ e. rw e refl)
 
-pub slot-inside : (s : ℕ) (heard : Reading) (v : Node) → has (v .set) s ≡ true → trackingSlot s heard v ≡ insideSlot s heard v
+pub slot-inside : (s : ℕ) (heard : Reading) (v : Node) → has (v .set) s ≡ true → slotByCases s heard v ≡ insideSlot s heard v
 unfolding slotByCases
-slot-inside s heard v e = slot-by-cases s heard v ∙ chosen _ _ e
+slot-inside s heard v e = chosen _ _ e
 
-pub slot-outside : (s : ℕ) (heard : Reading) (v : Node) → has (v .set) s ≡ false → trackingSlot s heard v ≡ outsideSlot s heard v
+pub slot-outside : (s : ℕ) (heard : Reading) (v : Node) → has (v .set) s ≡ false → slotByCases s heard v ≡ outsideSlot s heard v
 unfolding slotByCases
-slot-outside s heard v e = slot-by-cases s heard v ∙ otherwise _ _ e
+slot-outside s heard v e = otherwise _ _ e
+
+-- a message handed over in the own slot is ignored
+pub slot-ignores : (s : ℕ) (a b : Reading) (v : Node) → isOwn s v ≡ true → trackingSlot s a v ≡ trackingSlot s b v
+unfolding trackingSlot noted
+slot-ignores s a b v e = rw e refl

@@ -1,3 +1,3 @@
 pub mod Cases
 pub mod Sound
-pub mod Taught
+pub mod Digests

@@ -3,21 +3,20 @@
 use Prim.Native.Nat.{ℕ, zero, suc, _^_, _≤_, _<_}
 use mathlib.Core.Path.{_≡_, refl, sym, ap, _∙_}
 use mathlib.Core.Logic.{_≢_}
-use mathlib.Core.Bool.{Bool, true, false, cond, not, _&&_, _||_, true≢false}
+use mathlib.Core.Bool.{Bool, true, false, not, _&&_, _||_, true≢false}
 use native.Mathlib.Omega.{arith}
 use native.Mathlib.Decide.{ℕ-discrete}
 use lib.Dec.{eqb, ltb}
-use borrow.Author.Tests.{eqb-true, eqb-false, eq-eqb, ne-eqb, ltb-false, not-true}
+use borrow.Author.Tests.{eqb-true, eqb-false, eq-eqb, ne-eqb, ltb-false, not-true, le-leb}
 use Rattle.nodeset.specs.Sets.{has, with, without, size}
-use Rattle.nodeset.proofs.Tests.{by-cases, both}
+use Rattle.nodeset.proofs.Tests.{by-cases, both, all}
 use Rattle.nodeset.proofs.Laws.{has-with, has-with-other, has-without, has-without-other, with-lt, without-lt, has-range}
 use Rattle.nodeset.proofs.Counts.{size-with}
 use Rattle.ring.specs.declared.Found.{Found}
 use Rattle.ring.specs.declared.Found.the-variants as found
-use Rattle.ring.specs.Ring.{ks, nodeNumber}
-use Rattle.ring.specs.Answers.{beforeOf, sponsoredOf, decidedOf}
+use Rattle.ring.specs.Ring.{nodeNumber, memberIn}
 use Rattle.ring.proofs.Ranges.{ring-size, node-number}
-use Rattle.ring.proofs.Members.{on-ring, sponsoredOf-member}
+use Rattle.ring.proofs.Members.{sponsored-member}
 use Rattle.message.specs.declared.Reading.{Reading}
 use Rattle.message.specs.declared.Reading.the-variants as reading
 use Rattle.node_record.specs.declared.Node.{Node}
@@ -26,14 +25,14 @@ use Rattle.node_record.specs.declared.State.the-variants.{Member, Listening, Fo
 use Rattle.node_record.specs.declared.Cause.the-variants.{Unconfirmed, NothingHeard, MissedReturn}
 use Rattle.node_record.specs.States.{isMember, isFollowing, isKnocking}
 use Rattle.node_record.specs.Soundness.{sound}
+use Rattle.node_record.specs.Sponsoring.{sponsorsIn, sponsoredIn, decidedIn}
 use Rattle.node_record.proofs.Tracking.{Tracking, tracks, tracking-sound}
 use Rattle.node_changes.specs.Changes.{withSet, withReturning}
 use Rattle.node_changes.proofs.Sound.{InRange, fresh-sound, leave-sound}
-use Rattle.node_steps.specs.Steps.{isHeard, returnIn, withFound, confirmed, marksAfter, missedReturn, marked, noted, tooFew, nothingHeard, isFound, joins, stateOnList, joined, join, settle, trackingSlot}
-use Rattle.node_steps.specs.Inner.{judged, departs, insideSlot, outsideSlot, slotByCases}
-use Rattle.node_steps.proofs.Cases.{slot-by-cases}
+use Rattle.node_steps.specs.Steps.{isHeard, returnIn, confirmed, readMarks, noted, tooFew, nothingHeard, joins, stateOnList, joined, join, settle}
+use Rattle.node_steps.specs.Inner.{readReturn, readMarked, judged, departs, insideSlot, outsideSlot, slotByCases}
 
-numbers : (v : Node) → Tracking v → InRange (v .n) (v .k) (v .own) (v .slots)
+numbers : (v : Node) → Tracking v → InRange (v .cable) (v .own) (v .slots)
 numbers v k = record { ring = k .ring; sponsors = k .sponsors; own-in = k .own; slots-in = k .slots }
 
 -- ---- marks within a set
@@ -61,26 +60,25 @@ without-marks n set marks m k = record { lt = without-lt n marks m (k .lt); with
 
 -- ---- step 1
 
-found-marks : (n set marks : ℕ) (f : Found) → n ≤ 32 → set < 2 ^ n → ((m : ℕ) → f ≡ found.Member m → has set m ≡ true) → Marks n set marks → Marks n set (withFound marks f)
+-- a sponsored member, if there is one, is marked
+found-marks : (n set marks : ℕ) (f : Found) → n ≤ 32 → set < 2 ^ n → ((m : ℕ) → f ≡ found.Member m → has set m ≡ true) → Marks n set marks → Marks n set (with marks (memberIn f))
+unfolding with
 found-marks n set marks (found.Member m) h l e k = with-marks n set marks m h l (e m refl) k
 found-marks n set marks found.Nobody h l e k = k
-found-marks n set marks (found.Refused r) h l e k = k
 
-confirmed-marks : (j s bits : ℕ) (v : Node) → v .n ≤ 32 → v .set < 2 ^ v .n → has (v .set) s ≡ true → Marks (v .n) (v .set) (v .present) → Marks (v .n) (v .set) (confirmed j s bits v)
+confirmed-marks : (j s bits : ℕ) (v : Node) → v .cable .n ≤ 32 → v .set < 2 ^ v .cable .n → has (v .set) s ≡ true → Marks (v .cable .n) (v .set) (v .present) → Marks (v .cable .n) (v .set) (confirmed j s bits v)
 unfolding confirmed
-confirmed-marks zero s bits v h l e k = with-marks (v .n) (v .set) (v .present) s h l e k
+confirmed-marks zero s bits v h l e k = with-marks (v .cable .n) (v .set) (v .present) s h l e k
 confirmed-marks (suc j) s bits v h l e k =
     let r = confirmed-marks j s bits v h l e k in
-    let f = sponsoredOf (v .n) (v .k) (v .set) s (suc j) in
-    go (has bits (suc j)) r (found-marks (v .n) (v .set) (confirmed j s bits v) f h l (λ m q. sponsoredOf-member (v .n) (v .k) (v .set) s (suc j) m q) r)
-  where
-    go : (b : Bool) → Marks (v .n) (v .set) (confirmed j s bits v) → Marks (v .n) (v .set) (withFound (confirmed j s bits v) (sponsoredOf (v .n) (v .k) (v .set) s (suc j))) → Marks (v .n) (v .set) (cond b (withFound (confirmed j s bits v) (sponsoredOf (v .n) (v .k) (v .set) s (suc j))) (confirmed j s bits v))
-    go true a b = b
-    go false a b = a
+    let f = sponsoredIn s (suc j) v in
+    by-cases (has bits (suc j))
+    (λ t. rw t (found-marks (v .cable .n) (v .set) (confirmed j s bits v) f h l (λ m q. sponsored-member (v .cable) (v .set) s (suc j) m q) r))
+    (λ t. rw t r)
 
-marks-after : (s : ℕ) (heard : Reading) (v : Node) → v .n ≤ 32 → v .set < 2 ^ v .n → has (v .set) s ≡ true → Marks (v .n) (v .set) (v .present) → Marks (v .n) (v .set) (marksAfter s heard v)
-marks-after s (reading.Heard bits returnBit) v h l e k = confirmed-marks (ks (v .k) (size (v .n) (v .set))) s bits v h l e k
-marks-after s (reading.Refused r) v h l e k = without-marks (v .n) (v .set) (v .present) s k
+marks-after : (s : ℕ) (heard : Reading) (v : Node) → v .cable .n ≤ 32 → v .set < 2 ^ v .cable .n → has (v .set) s ≡ true → Marks (v .cable .n) (v .set) (v .present) → Marks (v .cable .n) (v .set) (readMarks s heard v)
+marks-after s (reading.Heard bits returnBit) v h l e k = confirmed-marks (sponsorsIn v) s bits v h l e k
+marks-after s (reading.Refused r) v h l e k = without-marks (v .cable .n) (v .set) (v .present) s k
 
 -- return heard is set only while knocking
 heard-knocking : (a b c : Bool) → (a ≡ true → b ≡ true) → (a || (b && c)) ≡ true → b ≡ true
@@ -88,9 +86,9 @@ heard-knocking true b c f e = f refl
 heard-knocking false true c f e = refl
 heard-knocking false false c f e = e
 
-marked-tracks : (s : ℕ) (heard : Reading) (v : Node) → has (v .set) s ≡ true → Tracking v → Tracking (marked s heard v)
+marked-tracks : (s : ℕ) (heard : Reading) (v : Node) → has (v .set) s ≡ true → Tracking v → Tracking (readMarked s heard v)
 marked-tracks s heard v e k =
-    let m = marks-after s heard v (ring-size (v .n) (k .ring) .1) (k .set-in) e (record { lt = k .marks-in; within = k .marked }) in
+    let m = marks-after s heard v (ring-size (v .cable .n) (k .ring) .1) (k .set-in) e (record { lt = k .marks-in; within = k .marked }) in
     record {
       ring = k .ring;
       sponsors = k .sponsors;
@@ -131,7 +129,7 @@ knock-tracks v e k =
       set-in = k .set-in;
       marks-in = k .marks-in;
       marked = k .marked;
-      returning = node-number (v .n) (v .own) (k .own) .1;
+      returning = node-number (v .cable .n) (v .own) (k .own) .1;
       outside = absent;
       ownIn = sym absent;
       knock = sym (eq-eqb (v .own) (v .own) refl);
@@ -140,9 +138,9 @@ knock-tracks v e k =
     }
 
 -- another node's knock is noted
-note-tracks : (s : ℕ) (v : Node) → s ≤ v .n → s ≢ v .own → has (v .set) s ≡ false → v .returning ≡ 0 → Tracking v → Tracking (withReturning (v .state) s v)
+note-tracks : (s : ℕ) (v : Node) → s ≤ v .cable .n → s ≢ v .own → has (v .set) s ≡ false → v .returning ≡ 0 → Tracking v → Tracking (withReturning (v .state) s v)
 note-tracks s v l d e z k =
-    let none : isKnocking (v .state) ≡ false = k .knock ∙ ne-eqb (v .returning) (v .own) (λ q. omega (arith, node-number (v .n) (v .own) (k .own))) in
+    let none : isKnocking (v .state) ≡ false = k .knock ∙ ne-eqb (v .returning) (v .own) (λ q. omega (arith, node-number (v .cable .n) (v .own) (k .own))) in
     record {
       ring = k .ring;
       sponsors = k .sponsors;
@@ -160,7 +158,7 @@ note-tracks s v l d e z k =
       window = k .window;
     }
 
-noted-tracks : (s : ℕ) (heard : Reading) (v : Node) → s ≤ v .n → has (v .set) s ≡ false → Tracking v → Tracking (noted s heard v)
+noted-tracks : (s : ℕ) (heard : Reading) (v : Node) → s ≤ v .cable .n → has (v .set) s ≡ false → Tracking v → Tracking (noted s heard v)
 unfolding noted
 noted-tracks s heard v l e k =
     by-cases (eqb s (v .own))
@@ -181,7 +179,7 @@ departed-tracks m v off d k =
       own = k .own;
       slots = k .slots;
       tracking = k .tracking;
-      set-in = without-lt (v .n) (v .set) m (k .set-in);
+      set-in = without-lt (v .cable .n) (v .set) m (k .set-in);
       marks-in = k .marks-in;
       marked = λ x h. kept x h (ℕ-discrete m x);
       returning = k .returning;
@@ -203,7 +201,7 @@ departed-tracks m v off d k =
 -- ---- step 5
 
 not-node-0 : (v : Node) → Tracking v → eqb 0 (v .own) ≡ false
-not-node-0 v k = ne-eqb 0 (v .own) (λ z. omega (arith, node-number (v .n) (v .own) (k .own)))
+not-node-0 v k = ne-eqb 0 (v .own) (λ z. omega (arith, node-number (v .cable .n) (v .own) (k .own)))
 
 has-0 : (s : ℕ) → has s 0 ≡ false
 unfolding has
@@ -257,9 +255,9 @@ on-list-tracks Following e = (refl, refl)
 on-list-tracks Knocking e = (refl, refl)
 on-list-tracks (Out cause) e = (e, refl)
 
-joined-tracks : (v : Node) → nodeNumber (v .n) (v .returning) ≡ true → Tracking v → Tracking (joined v)
+joined-tracks : (v : Node) → nodeNumber (v .cable .n) (v .returning) ≡ true → Tracking v → Tracking (joined v)
 joined-tracks v e k =
-    let r = node-number (v .n) (v .returning) e in
+    let r = node-number (v .cable .n) (v .returning) e in
     let l = on-list-tracks (v .state) (k .tracking) in
     record {
       ring = k .ring;
@@ -267,8 +265,8 @@ joined-tracks v e k =
       own = k .own;
       slots = k .slots;
       tracking = l .0;
-      set-in = with-lt (v .n) (v .set) (v .returning) (r .1) (k .set-in);
-      marks-in = with-lt (v .n) (v .present) (v .returning) (r .1) (k .marks-in);
+      set-in = with-lt (v .cable .n) (v .set) (v .returning) (r .1) (k .set-in);
+      marks-in = with-lt (v .cable .n) (v .present) (v .returning) (r .1) (k .marks-in);
       marked = λ x h. kept x h (ℕ-discrete (v .returning) x);
       returning = omega arith;
       outside = has-0 (with (v .set) (v .returning));
@@ -280,8 +278,8 @@ joined-tracks v e k =
   where
     there : has (with (v .set) (v .returning)) (v .returning) ≡ true
     there =
-        let r = node-number (v .n) (v .returning) e in
-        has-with (v .set) (v .returning) (r .0) (omega (arith, r .1, ring-size (v .n) (k .ring)))
+        let r = node-number (v .cable .n) (v .returning) e in
+        has-with (v .set) (v .returning) (r .0) (omega (arith, r .1, ring-size (v .cable .n) (k .ring)))
 
     kept : (x : ℕ) → has (with (v .present) (v .returning)) x ≡ true → Dec (v .returning ≡ x) → has (with (v .set) (v .returning)) x ≡ true
     kept x h (yes p) = ap (has (with (v .set) (v .returning))) (sym p) ∙ there
@@ -301,20 +299,20 @@ joined-tracks v e k =
 -- ---- the order of the steps
 
 -- "if fewer remain after step 3": they do not
-enough-left : (v : Node) → tooFew v ≡ false → isMember (v .state) ≡ false → 2 ≤ size (v .n) (v .set)
-enough-left v e m = ltb-false (size (v .n) (v .set)) 2 (sym (ap (λ (b : Bool). not b && ltb (size (v .n) (v .set)) 2) m) ∙ e)
+enough-left : (v : Node) → tooFew v ≡ false → isMember (v .state) ≡ false → 2 ≤ size (v .cable .n) (v .set)
+enough-left v e m = ltb-false (size (v .cable .n) (v .set)) 2 (sym (ap (λ (b : Bool). not b && ltb (size (v .cable .n) (v .set)) 2) m) ∙ e)
 
-joined-enough : (v : Node) → nodeNumber (v .n) (v .returning) ≡ true → Tracking v → (isMember (v .state) ≡ false → 2 ≤ size (v .n) (v .set))
-    → isMember (stateOnList (v .state)) ≡ false → 2 ≤ size (v .n) (with (v .set) (v .returning))
+joined-enough : (v : Node) → nodeNumber (v .cable .n) (v .returning) ≡ true → Tracking v → (isMember (v .state) ≡ false → 2 ≤ size (v .cable .n) (v .set))
+    → isMember (stateOnList (v .state)) ≡ false → 2 ≤ size (v .cable .n) (with (v .set) (v .returning))
 joined-enough v e k two m =
-    let r = node-number (v .n) (v .returning) e in
+    let r = node-number (v .cable .n) (v .returning) e in
     by-cases (isKnocking (v .state))
     (λ t. absurd (true≢false (sym (ap isMember (on-list-member (v .state) t)) ∙ m)))
     (λ t.
-    let h : 2 ≤ size (v .n) (v .set) = two (sym (ap isMember (on-list-stays (v .state) t)) ∙ m) in
-    omega (arith, size-with (v .n) (v .set) (v .returning) (r .0) (r .1) (omega (arith, r .1, ring-size (v .n) (k .ring))) (k .outside)))
+    let h : 2 ≤ size (v .cable .n) (v .set) = two (sym (ap isMember (on-list-stays (v .state) t)) ∙ m) in
+    omega (arith, size-with (v .cable .n) (v .set) (v .returning) (r .0) (r .1) (omega (arith, r .1, ring-size (v .cable .n) (k .ring))) (k .outside)))
 
-join-sound : (s : ℕ) (v : Node) → joins s v ≡ true → Tracking v → (isMember (v .state) ≡ false → 2 ≤ size (v .n) (v .set)) → sound (join v) ≡ true
+join-sound : (s : ℕ) (v : Node) → joins s v ≡ true → Tracking v → (isMember (v .state) ≡ false → 2 ≤ size (v .cable .n) (v .set)) → sound (join v) ≡ true
 unfolding join
 join-sound s v j k two =
     by-cases (isKnocking (v .state) && not (v .«return_heard»))
@@ -323,15 +321,14 @@ join-sound s v j k two =
     rw t (tracking-sound (withReturning Following 0 v) (refollow-tracks v (b .0) (not-true (v .«return_heard») (b .1)) k) (λ m. two (knocking-no-member (v .state) (b .0)))))
     (λ t. rw t (tracking-sound (joined v) (joined-tracks v known k) (joined-enough v known k two)))
   where
-    nearest : (f : Found) → isFound s f ≡ true → (m : ℕ) × (f ≡ found.Member m)
-    nearest (found.Member m) e = (m, refl)
-    nearest found.Nobody e = absurd (true≢false (sym e))
-    nearest (found.Refused r) e = absurd (true≢false (sym e))
+    ne-pos : (x : ℕ) → x ≢ 0 → 1 ≤ x
+    ne-pos zero e = absurd (e refl)
+    ne-pos (suc x) e = omega arith
 
-    known : nodeNumber (v .n) (v .returning) ≡ true
+    known : nodeNumber (v .cable .n) (v .returning) ≡ true
     known =
-        let f = nearest (beforeOf (v .n) (v .set) (v .returning) 1) (both (not (eqb (v .returning) 0)) (isFound s (beforeOf (v .n) (v .set) (v .returning) 1)) j .1) in
-        on-ring (v .n) (v .returning) (f .0) _ (f .1) .1
+        let some = eqb-false (v .returning) 0 (not-true (eqb (v .returning) 0) (both (not (eqb (v .returning) 0)) _ j .0)) in
+        all (le-leb 1 (v .returning) (ne-pos (v .returning) some)) (le-leb (v .returning) (v .cable .n) (k .returning))
 
 settle-sound : (inside : Bool) (s : ℕ) (v : Node) → Tracking v → sound (settle inside s v) ≡ true
 unfolding settle
@@ -356,16 +353,12 @@ judged-sound s m v k =
 departs-sound : (s : ℕ) (f : Found) (v : Node) → Tracking v → sound (departs s f v) ≡ true
 departs-sound s (found.Member m) v k = judged-sound s m v k
 departs-sound s found.Nobody v k = settle-sound true s v k
-departs-sound s (found.Refused r) v k = settle-sound true s v k
 
-by-cases-sound : (s : ℕ) (heard : Reading) (v : Node) → s ≤ v .n → Tracking v → sound (slotByCases s heard v) ≡ true
+pub slot-sound : (s : ℕ) (heard : Reading) (v : Node) → s ≤ v .cable .n → Tracking v → sound (slotByCases s heard v) ≡ true
 unfolding slotByCases insideSlot outsideSlot
-by-cases-sound s heard v l k =
+slot-sound s heard v l k =
     by-cases (has (v .set) s)
-    (λ t. rw t (by-cases (missedReturn heard v)
+    (λ t. rw t (by-cases (readReturn heard v)
     (λ m. rw m (leave-sound MissedReturn v (numbers v k)))
-    (λ m. rw m (departs-sound s (decidedOf (v .n) (v .k) (v .set) s) (marked s heard v) (marked-tracks s heard v t k)))))
+    (λ m. rw m (departs-sound s (decidedIn s v) (readMarked s heard v) (marked-tracks s heard v t k)))))
     (λ t. rw t (settle-sound false s (noted s heard v) (noted-tracks s heard v l t k)))
-
-pub tracking-slot-sound : (s : ℕ) (heard : Reading) (v : Node) → s ≤ v .n → Tracking v → sound (trackingSlot s heard v) ≡ true
-tracking-slot-sound s heard v l k = ap sound (slot-by-cases s heard v) ∙ by-cases-sound s heard v l k

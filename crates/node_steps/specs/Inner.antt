@@ -1,16 +1,27 @@
--- Inner: the slot of specs/Steps by cases, each case with what comes after it, as the code and the proofs take it. The law is `slot-by-cases` in proofs/Cases.
+-- Inner: the slot of specs/Steps by cases, each case with what comes after it, as the code and the proofs take it; what is heard of the own slot is a refused
+-- reading. The law is `slot-by-cases` in proofs/Cases.
 use Prim.Native.Nat.{ℕ}
-use mathlib.Core.Bool.{true, false, cond}
+use mathlib.Core.Bool.{Bool, true, false, cond, _&&_, _||_}
 use lib.Dec.{eqb}
 use Rattle.nodeset.specs.Sets.{has, without}
 use Rattle.ring.specs.declared.Found.{Found}
 use Rattle.ring.specs.declared.Found.the-variants as found
-use Rattle.ring.specs.Answers.{decidedOf}
 use Rattle.message.specs.declared.Reading.{Reading}
 use Rattle.node_record.specs.declared.Node.{Node}
-use Rattle.node_record.specs.States.{leavingCause}
-use Rattle.node_changes.specs.Changes.{leave, withSet}
-use Rattle.node_steps.specs.Steps.{missedReturn, marked, noted, settle}
+use Rattle.node_record.specs.States.{isKnocking, leavingCause}
+use Rattle.node_record.specs.Sponsoring.{decidedIn}
+use Rattle.node_changes.specs.Changes.{leave, withSet, withMarks}
+use Rattle.node_steps.specs.Steps.{returnIn, readMarks, noted, settle}
+
+-- Step 1 by what is read.
+abbrev pub readReturn : Reading → Node → Bool
+readReturn heard v = returnIn heard && eqb (v .returning) 0
+
+abbrev pub readHeard : Reading → Node → Bool
+readHeard heard v = v .«return_heard» || (isKnocking (v .state) && returnIn heard)
+
+abbrev pub readMarked : ℕ → Reading → Node → Node
+readMarked s heard v = withMarks (readMarks s heard v) (readHeard heard v) v
 
 -- Step 3, and what comes after it: "the decided member leaves if its mark is off. If that is this node, it leaves with cause 1 and the steps end."
 unfoldable pub judged : ℕ → ℕ → Node → Node
@@ -22,15 +33,14 @@ judged s m v =
 abbrev pub departs : ℕ → Found → Node → Node
 departs s (found.Member m) v = judged s m v
 departs s found.Nobody v = settle true s v
-departs s (found.Refused r) v = settle true s v
 
 abbrev pub departing : ℕ → Node → Node
-departing s v = departs s (decidedOf (v .n) (v .k) (v .set) s) v
+departing s v = departs s (decidedIn s v) v
 
 -- The sender is in the set: step 1, then "Departure, only if the sender is in the set", and what comes after it; "leaving with cause 3, and nothing
 -- further happens".
 unfoldable pub insideSlot : ℕ → Reading → Node → Node
-insideSlot s heard v = cond (missedReturn heard v) (leave (leavingCause 3) v) (departing s (marked s heard v))
+insideSlot s heard v = cond (readReturn heard v) (leave (leavingCause 3) v) (departing s (readMarked s heard v))
 
 -- The sender is outside the set: step 2, then step 4.
 unfoldable pub outsideSlot : ℕ → Reading → Node → Node

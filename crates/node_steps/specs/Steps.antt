@@ -1,25 +1,23 @@
 -- One slot, for a member, following or knocking node (document 01, "One slot"): the definitions of each numbered step under its sentences, then
--- one that does them in order. s is the slot's sender; a reading is what the reader made of the bytes heard. "A message handed over in the own slot is ignored":
--- there the reading is a refused one (node's specs/Slot), so the own slot goes by the rule of a message that is not heard.
+-- one that does them in order. s is the slot's sender; a reading is what the reader made of the bytes that were handed over.
 -- Acknowledgement bits are a set of numbers: bit j is 1 where j is in it.
 use Prim.Native.Nat.{ℕ, zero, suc}
 use mathlib.Core.Bool.{Bool, true, false, cond, not, _&&_, _||_}
 use lib.Dec.{eqb, ltb}
 use Rattle.nodeset.specs.Sets.{has, with, without, size}
-use Rattle.ring.specs.declared.Found.{Found}
-use Rattle.ring.specs.declared.Found.the-variants as found
-use Rattle.ring.specs.Ring.{ks}
-use Rattle.ring.specs.Answers.{beforeOf, sponsoredOf, decidedOf}
+use Rattle.ring.specs.Ring.{memberBefore, memberIn, isFound}
 use Rattle.message.specs.declared.Reading.{Reading}
 use Rattle.message.specs.declared.Reading.the-variants as reading
 use Rattle.node_record.specs.declared.Node.{Node}
 use Rattle.node_record.specs.declared.State.{State}
 use Rattle.node_record.specs.declared.State.the-variants.{Member, Listening, Following, Knocking, Out}
 use Rattle.node_record.specs.States.{isMember, isFollowing, isKnocking, leavingCause}
+use Rattle.node_record.specs.Sponsoring.{sponsorsIn, sponsoredIn, decidedIn}
 use Rattle.node_changes.specs.Changes.{fresh, leave, withSet, withMarks, withReturning}
 
--- ---- what a reading says; "An unreadable message counts as not heard."
+-- ---- the slot's message
 
+-- "An unreadable message counts as not heard."
 abbrev pub isHeard : Reading → Bool
 isHeard (reading.Heard bits returnBit) = true
 isHeard (reading.Refused r) = false
@@ -28,37 +26,45 @@ abbrev pub returnIn : Reading → Bool
 returnIn (reading.Heard bits returnBit) = returnBit
 returnIn (reading.Refused r) = false
 
+-- The sender is this node.
+abbrev pub isOwn : ℕ → Node → Bool
+isOwn s v = eqb s (v .own)
+
+-- A return bit of 1 is heard; "A message handed over in the own slot is ignored."
+abbrev pub hearsReturn : ℕ → Reading → Node → Bool
+hearsReturn s heard v = not (isOwn s v) && returnIn heard
+
 -- ---- step 1: "The sender is in the set."
 
--- The set with a found member.
-abbrev pub withFound : ℕ → Found → ℕ
-withFound s (found.Member m) = with s m
-withFound s found.Nobody = s
-withFound s (found.Refused r) = s
+-- "If it is this node, its own mark goes off"
+abbrev pub ownMarks : Node → ℕ
+ownMarks v = without (v .present) (v .own)
 
--- "each sponsored member whose bit is 1 is marked": the marks with the first j of the members that s sponsors. Bits past ks are "ignored when heard".
+-- "its mark goes on and each sponsored member whose bit is 1 is marked, this node included": the marks with the first j of the members that s sponsors.
 unfoldable pub confirmed : ℕ → ℕ → ℕ → Node → ℕ
 confirmed zero s bits v = with (v .present) s
 confirmed (suc j) s bits v =
     let marks = confirmed j s bits v in
-    cond (has bits (suc j)) (withFound marks (sponsoredOf (v .n) (v .k) (v .set) s (suc j))) marks
+    cond (has bits (suc j)) (with marks (memberIn (sponsoredIn s (suc j) v))) marks
 
--- "If it is this node, its own mark goes off .. If its message is heard, its mark goes on and each sponsored member whose bit is 1 is
--- marked, this node included. If not heard, its mark goes off."
+-- "If its message is heard", so; bits past ks are "ignored when heard" ("The message"). "If not heard, its mark goes off."
+abbrev pub readMarks : ℕ → Reading → Node → ℕ
+readMarks s (reading.Heard bits returnBit) v = confirmed (sponsorsIn v) s bits v
+readMarks s (reading.Refused r) v = without (v .present) s
+
 abbrev pub marksAfter : ℕ → Reading → Node → ℕ
-marksAfter s (reading.Heard bits returnBit) v = confirmed (ks (v .k) (size (v .n) (v .set))) s bits v
-marksAfter s (reading.Refused r) v = without (v .present) s
+marksAfter s heard v = cond (isOwn s v) (ownMarks v) (readMarks s heard v)
 
 -- "A return bit of 1 heard while returning is 0 means leaving with cause 3"
-abbrev pub missedReturn : Reading → Node → Bool
-missedReturn heard v = returnIn heard && eqb (v .returning) 0
+abbrev pub missedReturn : ℕ → Reading → Node → Bool
+missedReturn s heard v = hearsReturn s heard v && eqb (v .returning) 0
 
 -- "heard while knocking, it sets return heard"
-abbrev pub returnHeard : Reading → Node → Bool
-returnHeard heard v = v .«return_heard» || (isKnocking (v .state) && returnIn heard)
+abbrev pub returnHeard : ℕ → Reading → Node → Bool
+returnHeard s heard v = v .«return_heard» || (isKnocking (v .state) && hearsReturn s heard v)
 
 abbrev pub marked : ℕ → Reading → Node → Node
-marked s heard v = withMarks (marksAfter s heard v) (returnHeard heard v) v
+marked s heard v = withMarks (marksAfter s heard v) (returnHeard s heard v) v
 
 -- ---- step 2: "The sender is outside the set."
 
@@ -66,46 +72,40 @@ marked s heard v = withMarks (marksAfter s heard v) (returnHeard heard v) v
 -- its own slot with returning 0 knocks: it sends and sets returning to itself. A knocking node found in its own slot is silent and stays knocking."
 unfoldable pub noted : ℕ → Reading → Node → Node
 noted s heard v =
-    cond (eqb s (v .own))
+    cond (isOwn s v)
     (cond (isFollowing (v .state) && eqb (v .returning) 0) (withReturning Knocking (v .own) v) v)
     (cond (isHeard heard && eqb (v .returning) 0) (withReturning (v .state) s v) v)
 
 -- ---- step 3: "Departure, only if the sender is in the set"
 
--- The found member is x.
-abbrev pub isFound : ℕ → Found → Bool
-isFound x (found.Member m) = eqb m x
-isFound x found.Nobody = false
-isFound x (found.Refused r) = false
-
 -- "The decided member leaves if its mark is off": does node x leave?
 abbrev pub leaves : ℕ → Node → ℕ → Bool
-leaves s v x = isFound x (decidedOf (v .n) (v .k) (v .set) s) && not (has (v .present) x)
+leaves s v x = isFound x (decidedIn s v) && not (has (v .present) x)
 
--- The set without it. "With one member nobody is decided" ("The ring").
-abbrev pub withoutDecided : Found → Node → ℕ
-withoutDecided (found.Member m) v = cond (has (v .present) m) (v .set) (without (v .set) m)
-withoutDecided found.Nobody v = v .set
-withoutDecided (found.Refused r) v = v .set
+-- The set without it.
+abbrev pub withoutDecided : ℕ → Node → ℕ
+withoutDecided s v =
+    let m = memberIn (decidedIn s v) in
+    cond (has (v .present) m) (v .set) (without (v .set) m)
 
 abbrev pub departed : ℕ → Node → Node
-departed s v = withSet (withoutDecided (decidedOf (v .n) (v .k) (v .set) s) v) v
+departed s v = withSet (withoutDecided s v) v
 
 -- ---- step 4, and what stands before it
 
 -- "Following and knocking need two members or more in the set; if fewer remain after step 3, the node goes to fresh listening."
 abbrev pub tooFew : Node → Bool
-tooFew v = not (isMember (v .state)) && ltb (size (v .n) (v .set)) 2
+tooFew v = not (isMember (v .state)) && ltb (size (v .cable .n) (v .set)) 2
 
 -- "Then, if no other member is marked, this node leaves with cause 2."
 abbrev pub nothingHeard : Node → Bool
-nothingHeard v = eqb (size (v .n) (without (v .present) (v .own))) 0
+nothingHeard v = eqb (size (v .cable .n) (without (v .present) (v .own))) 0
 
 -- ---- step 5
 
 -- There is a returning node, and "the sender .. is the nearest member before" it.
 abbrev pub joins : ℕ → Node → Bool
-joins s v = not (eqb (v .returning) 0) && isFound s (beforeOf (v .n) (v .set) (v .returning) 1)
+joins s v = not (eqb (v .returning) 0) && isFound s (memberBefore (v .cable .n) (v .set) (v .returning) 1)
 
 -- The state of a node once the returning one is on the list: a knocking node, which is that one, is a member.
 abbrev pub stateOnList : State → State
@@ -117,7 +117,7 @@ stateOnList (Out cause) = Out cause
 
 -- The record with a state, a set and marks, returning 0.
 abbrev pub settledAs : State → ℕ → ℕ → Node → Node
-settledAs state set marks v = record { n = v .n; k = v .k; own = v .own; slots = v .slots; state = state; set = set; present = marks; returning = 0; «return_heard» = false; listening = v .listening }
+settledAs state set marks v = record { cable = v .cable; own = v .own; slots = v .slots; state = state; set = set; present = marks; returning = 0; «return_heard» = false; listening = v .listening }
 
 -- "that node joins, marked, and returning becomes 0"
 abbrev pub joined : Node → Node
@@ -145,6 +145,6 @@ unfoldable pub trackingSlot : ℕ → Reading → Node → Node
 trackingSlot s heard v =
     let inside = has (v .set) s in
     let w = afterMessage inside s heard v in
-    cond (inside && missedReturn heard v) (leave (leavingCause 3) v)
+    cond (inside && missedReturn s heard v) (leave (leavingCause 3) v)
     (cond (inside && leaves s w (w .own)) (leave (leavingCause 1) w)
     (settle inside s (cond inside (departed s w) w)))

@@ -7,92 +7,38 @@ use node_record::State;
 use node_record::is_following;
 use node_record::is_knocking;
 use node_record::is_member;
+use ring::Cable;
 use ring::Found;
 ghost use mathlib.Core.Path.{_≡_};
 ghost use mathlib.Core.Bool.{cond};
-ghost use Rattle.nodeset.specs.Sets.{has, size};
-ghost use Rattle.ring.specs.Ring.{ks};
-ghost use Rattle.ring.specs.Answers.{memberIn};
-ghost use Rattle.node_changes.specs.Changes.{holding};
-ghost use Rattle.node_steps.specs.Steps.{isHeard, returnIn, withFound, confirmed, missedReturn, returnHeard, noted, tooFew, nothingHeard, isFound, joins, stateOnList, joined, join, settle};
-ghost use Rattle.node_steps.specs.Lessons.{bitsIn, lessonOf, marksBy, markedBy, takenBy, decidedBy, isStruck, setAfter, trackingBy};
+ghost use lib.Dec.{eqb};
+ghost use Rattle.nodeset.specs.Sets.{has, with};
+ghost use Rattle.ring.specs.Ring.{memberIn, isFound};
+ghost use Rattle.node_steps.specs.Steps.{tooFew, nothingHeard, joins, stateOnList, joined, join, settle};
+ghost use Rattle.node_steps.specs.Digests.{bitsHeard, marksSet, digestOf, marksBy, decidedBy, effectOf, markedBy, notedBy, takenBy, decidedWhere, isStruck, setAfter, trackingBy};
 
-// What a slot tells all who hold one set: that set; the marks that the message sets, the sender's and
-// those of the members that it acknowledges; and the member that the sender decides, 0 for nobody.
-// It is worked out once for all of them.
-pub struct Lesson {
+// What a slot means to all who hold one set: that set; the marks that the message sets, the sender's
+// and those of the members that it acknowledges; and the member that the sender decides, 0 for
+// nobody. It is worked out once for all of them.
+pub struct Digest {
     pub set: u32,
     pub marks: u32,
     pub decided: u32,
 }
 
-// The return bit heard.
-fn return_in(heard: Reading) -> bool
-    ensures { λ r. ⌜ r ≡ returnIn heard ⌝ }
-{
-    match heard {
-        Reading::Heard {
-            acknowledgements: _,
-            return_bit,
-        } => return_bit,
-        Reading::Refused(_) => false,
-    }
+// What the slot's message does to a record: whether it is heard, the marks after it, and whether a
+// return bit of 1 is heard.
+struct Effect {
+    heard: bool,
+    marks: u32,
+    returned: bool,
 }
 
-// Whether a message was heard.
-fn is_heard(heard: Reading) -> bool
-    ensures { λ r. ⌜ r ≡ isHeard heard ⌝ }
-{
-    match heard {
-        Reading::Heard {
-            acknowledgements: _,
-            return_bit: _,
-        } => true,
-        Reading::Refused(_) => false,
-    }
-}
-
-// The set with the member found, if any.
-fn with_found(set: u32, found: Found) -> u32
-    ensures { λ r. ⌜ r ≡ withFound set found ⌝ }
-{
-    match found {
-        Found::Member(m) => nodeset::with(set, m),
-        Found::Nobody => set,
-        Found::Refused(_) => set,
-    }
-}
-
-// The marks with that of a sponsored member, the j-th, if its bit is 1.
-fn confirm(j: u32, marks: u32, bits: u32, found: Found) -> u32
-    ensures { λ r. ⌜ r ≡ cond (has bits j) (withFound marks found) marks ⌝ }
-{
-    if nodeset::has(bits, j) {
-        return with_found(marks, found);
-    }
-    marks
-}
-
-// The marks after a heard message: its sender's, and those that it acknowledges. The members that
-// the sender sponsors are taken one after the other, each the nearest before the last.
-fn confirmed(s: u32, bits: u32, v: Node) -> u32
-    ensures { λ r. ⌜ r ≡ confirmed (ks (v .k) (size (v .n) (v .set))) s bits v ⌝ }
-{
-    let most = ring::ks(v.k, nodeset::size(v.n, v.set));
-    let mut marks = nodeset::with(v.present, s);
-    let mut found = ring::sponsored(v.n, v.k, v.set, s, 1);
-    let mut j = 0;
-    while j < most {
-        j += 1;
-        marks = confirm(j, marks, bits, found);
-        found = ring::before_found(v.n, v.set, found);
-    }
-    marks
-}
+// ---- The digest
 
 // The acknowledgements heard; none where nothing is.
-fn bits_in(heard: Reading) -> u32
-    ensures { λ r. ⌜ r ≡ bitsIn heard ⌝ }
+fn bits_heard(heard: Reading) -> u32
+    ensures { λ r. ⌜ r ≡ bitsHeard heard ⌝ }
 {
     match heard {
         Reading::Heard {
@@ -103,6 +49,33 @@ fn bits_in(heard: Reading) -> u32
     }
 }
 
+// The marks with that of node x, the j-th sponsored member, if its bit is 1.
+fn confirm(j: u32, marks: u32, bits: u32, x: u32) -> u32
+    ensures { λ r. ⌜ r ≡ cond (has bits j) (with marks x) marks ⌝ }
+{
+    if nodeset::has(bits, j) {
+        return nodeset::with(marks, x);
+    }
+    marks
+}
+
+// The marks that a message sets: its sender's, and those of the members that it acknowledges, which
+// one walk back takes one after the other.
+fn marks_set(s: u32, bits: u32, cable: Cable, set: u32) -> u32
+    ensures { λ r. ⌜ r ≡ marksSet s bits cable set ⌝ }
+{
+    let most = ring::sponsors(cable, set);
+    let mut place = ring::start_at(cable.n, s);
+    let mut marks = nodeset::with(0, s);
+    let mut j = 0;
+    while j < most {
+        j += 1;
+        place = ring::nearest(cable.n, set, place);
+        marks = confirm(j, marks, bits, place.node);
+    }
+    marks
+}
+
 // The member found; 0 where there is none.
 fn member_in(found: Found) -> u32
     ensures { λ r. ⌜ r ≡ memberIn found ⌝ }
@@ -110,71 +83,88 @@ fn member_in(found: Found) -> u32
     match found {
         Found::Member(m) => m,
         Found::Nobody => 0,
-        Found::Refused(_) => 0,
     }
 }
 
-// What a slot of s, in which this is heard, tells those who hold the set.
-pub fn lesson_with(s: u32, heard: Reading, n: u32, k: u32, set: u32) -> Lesson
-    ensures { λ r. ⌜ r ≡ lessonOf s heard (holding n k set) ⌝ }
+// What a slot of s, in which this is heard, means to those who hold the set.
+pub fn digest_of(s: u32, heard: Reading, cable: Cable, set: u32) -> Digest
+    ensures { λ r. ⌜ r ≡ digestOf s heard cable set ⌝ }
 {
-    let bare = node_changes::holding(n, k, set);
-    let marks = confirmed(s, bits_in(heard), bare);
-    let decided = member_in(ring::decided(n, k, set, s));
-    Lesson {
+    let marks = marks_set(s, bits_heard(heard), cable, set);
+    let decided = member_in(ring::decided_member(cable, set, s));
+    Digest {
         set,
         marks,
         decided,
     }
 }
 
-// What it tells those who hold the record's set.
-pub fn lesson_of(s: u32, heard: Reading, v: Node) -> Lesson
-    ensures { λ r. ⌜ r ≡ lessonOf s heard v ⌝ }
+// Whether the digest is that of the node's set.
+fn is_for(digest: Digest, v: Node) -> bool
+    ensures { λ r. ⌜ r ≡ eqb (digest .set) (v .set) ⌝ }
 {
-    lesson_with(s, heard, v.n, v.k, v.set)
+    digest.set == v.set
 }
 
-// The marks after a slot of a member, whose message sets these. An unreadable message counts as not
-// heard: the sender's mark goes off.
-fn marks_after(s: u32, heard: Reading, marks: u32, v: Node) -> u32
-    ensures { λ r. ⌜ r ≡ marksBy marks s heard v ⌝ }
+// The marks that the message sets, by the digest, if it is that of the node's set.
+fn marks_by(digest: Digest, s: u32, bits: u32, v: Node) -> u32
+    ensures { λ r. ⌜ r ≡ marksBy digest s bits v ⌝ }
+{
+    if is_for(digest, v) {
+        return digest.marks;
+    }
+    let cable = v.cable;
+    marks_set(s, bits, cable, v.set)
+}
+
+// The member that the sender decides, by the digest, if it is that of the node's set.
+fn decided_by(digest: Digest, s: u32, v: Node) -> u32
+    ensures { λ r. ⌜ r ≡ decidedBy digest s v ⌝ }
+{
+    if is_for(digest, v) {
+        return digest.decided;
+    }
+    let cable = v.cable;
+    member_in(ring::decided_member(cable, v.set, s))
+}
+
+// ---- Steps 1 and 2
+
+// What the message does. An unreadable message counts as not heard: the sender's mark goes off.
+fn effect_of(digest: Digest, s: u32, heard: Reading, v: Node) -> Effect
+    ensures { λ r. ⌜ r ≡ effectOf digest s heard v ⌝ }
 {
     let Reading::Heard {
-        acknowledgements: _,
-        return_bit: _,
+        acknowledgements,
+        return_bit,
     } = heard
     else {
-        return nodeset::without(v.present, s);
+        return Effect {
+            heard: false,
+            marks: nodeset::without(v.present, s),
+            returned: false,
+        };
     };
-    nodeset::union(v.present, marks)
-}
-
-// Whether a return bit of 1 was heard while returning is 0.
-fn missed_return(heard: Reading, v: Node) -> bool
-    ensures { λ r. ⌜ r ≡ missedReturn heard v ⌝ }
-{
-    return_in(heard) & (v.returning == 0)
-}
-
-// Return heard after the slot.
-fn return_heard(heard: Reading, v: Node) -> bool
-    ensures { λ r. ⌜ r ≡ returnHeard heard v ⌝ }
-{
-    let state = v.state;
-    v.return_heard | (is_knocking(state) & return_in(heard))
+    let set = marks_by(digest, s, acknowledgements, v);
+    Effect {
+        heard: true,
+        marks: nodeset::union(v.present, set),
+        returned: return_bit,
+    }
 }
 
 // Step 1: the marks, and whether a return bit was heard while knocking.
-fn marked(s: u32, heard: Reading, marks: u32, v: Node) -> Node
-    ensures { λ r. ⌜ r ≡ markedBy marks s heard v ⌝ }
+fn marked(effect: Effect, v: Node) -> Node
+    ensures { λ r. ⌜ r ≡ markedBy effect v ⌝ }
 {
-    node_changes::with_marks(marks_after(s, heard, marks, v), return_heard(heard, v), v)
+    let state = v.state;
+    let heard = v.return_heard | (is_knocking(state) & effect.returned);
+    node_changes::with_marks(effect.marks, heard, v)
 }
 
 // Step 2: a knock is noted, or this node knocks.
-fn noted(s: u32, heard: Reading, v: Node) -> Node
-    ensures { λ r. ⌜ r ≡ noted s heard v ⌝ }
+fn noted(s: u32, heard: bool, v: Node) -> Node
+    ensures { λ r. ⌜ r ≡ notedBy s heard v ⌝ }
 {
     let state = v.state;
     let free = v.returning == 0;
@@ -184,25 +174,63 @@ fn noted(s: u32, heard: Reading, v: Node) -> Node
         }
         return v;
     }
-    if is_heard(heard) & free {
+    if heard & free {
         return node_changes::with_returning(state, s, v);
     }
     v
 }
+
+// Step 1 where the sender is in the set, step 2 where it is not.
+fn taken(inside: bool, s: u32, effect: Effect, v: Node) -> Node
+    ensures { λ r. ⌜ r ≡ takenBy inside s effect v ⌝ }
+{
+    if inside {
+        return marked(effect, v);
+    }
+    noted(s, effect.heard, v)
+}
+
+// ---- Step 3
+
+// The decided member; 0 where there is none, or the sender is outside the set.
+fn decided_where(inside: bool, m: u32) -> u32
+    ensures { λ r. ⌜ r ≡ decidedWhere inside m ⌝ }
+{
+    if inside { m } else { 0 }
+}
+
+// Whether this node is the decided member and its mark is off.
+fn is_struck(m: u32, v: Node) -> bool
+    ensures { λ r. ⌜ r ≡ isStruck m v ⌝ }
+{
+    (v.own == m) & !nodeset::has(v.present, m)
+}
+
+// The set without the decided member, if its mark is off.
+fn set_after(m: u32, v: Node) -> u32
+    ensures { λ r. ⌜ r ≡ setAfter m v ⌝ }
+{
+    if nodeset::has(v.present, m) {
+        return v.set;
+    }
+    nodeset::without(v.set, m)
+}
+
+// ---- Steps 4 and 5
 
 // Whether fewer than two members remain for a following or knocking node.
 fn too_few(v: Node) -> bool
     ensures { λ r. ⌜ r ≡ tooFew v ⌝ }
 {
     let state = v.state;
-    !is_member(state) & (nodeset::size(v.n, v.set) < 2)
+    !is_member(state) & (nodeset::size(v.cable.n, v.set) < 2)
 }
 
 // Step 4: whether no other member is marked.
 fn nothing_heard(v: Node) -> bool
     ensures { λ r. ⌜ r ≡ nothingHeard v ⌝ }
 {
-    nodeset::size(v.n, nodeset::without(v.present, v.own)) == 0
+    nodeset::size(v.cable.n, nodeset::without(v.present, v.own)) == 0
 }
 
 // Whether the member found is x.
@@ -212,7 +240,6 @@ fn is_found(x: u32, found: Found) -> bool
     match found {
         Found::Member(m) => m == x,
         Found::Nobody => false,
-        Found::Refused(_) => false,
     }
 }
 
@@ -223,7 +250,7 @@ fn joins(s: u32, v: Node) -> bool
     if v.returning == 0 {
         return false;
     }
-    is_found(s, ring::before(v.n, v.set, v.returning, 1))
+    is_found(s, ring::member_before(v.cable.n, v.set, v.returning, 1))
 }
 
 // The state of a node that is on the list.
@@ -247,10 +274,10 @@ fn joined(v: Node) -> Node
     let next = state_on_list(state);
     let set = nodeset::with(v.set, v.returning);
     let present = nodeset::with(v.present, v.returning);
+    let cable = v.cable;
     let window = v.listening;
     Node {
-        n: v.n,
-        k: v.k,
+        cable,
         own: v.own,
         slots: v.slots,
         state: next,
@@ -289,53 +316,17 @@ fn settle(inside: bool, s: u32, v: Node) -> Node
     v
 }
 
-// Step 1 where the sender is in the set, step 2 where it is not.
-fn taken(inside: bool, s: u32, heard: Reading, marks: u32, v: Node) -> Node
-    ensures { λ r. ⌜ r ≡ takenBy inside marks s heard v ⌝ }
-{
-    if inside {
-        return marked(s, heard, marks, v);
-    }
-    noted(s, heard, v)
-}
-
-// The member that a sender decides; 0 where it decides nobody, or is outside the set.
-fn decided_by(inside: bool, lesson: Lesson) -> u32
-    ensures { λ r. ⌜ r ≡ decidedBy inside lesson ⌝ }
-{
-    if inside {
-        return lesson.decided;
-    }
-    0
-}
-
-// Step 3: whether this node is the decided member and its mark is off.
-fn is_struck(m: u32, v: Node) -> bool
-    ensures { λ r. ⌜ r ≡ isStruck m v ⌝ }
-{
-    (v.own == m) & !nodeset::has(v.present, m)
-}
-
-// Step 3: the set without the decided member, if its mark is off.
-fn set_after(m: u32, v: Node) -> u32
-    ensures { λ r. ⌜ r ≡ setAfter m v ⌝ }
-{
-    if nodeset::has(v.present, m) {
-        return v.set;
-    }
-    nodeset::without(v.set, m)
-}
-
-// One slot of a member, following or knocking node, by what the slot tells those who hold its set.
-pub fn tracking_slot(s: u32, heard: Reading, lesson: Lesson, v: Node) -> Node
-    ensures { λ r. ⌜ r ≡ trackingBy lesson s heard v ⌝ }
+// One slot of a member, following or knocking node, by what the slot means to those who hold one set.
+pub fn tracking_slot(s: u32, heard: Reading, digest: Digest, v: Node) -> Node
+    ensures { λ r. ⌜ r ≡ trackingBy digest s heard v ⌝ }
 {
     let inside = nodeset::has(v.set, s);
-    if inside & missed_return(heard, v) {
+    let effect = effect_of(digest, s, heard, v);
+    if inside & (effect.returned & (v.returning == 0)) {
         return node_changes::leave(Cause::MissedReturn, v);
     }
-    let w = taken(inside, s, heard, lesson.marks, v);
-    let m = decided_by(inside, lesson);
+    let w = taken(inside, s, effect, v);
+    let m = decided_where(inside, decided_by(digest, s, v));
     if is_struck(m, w) {
         return node_changes::leave(Cause::Unconfirmed, w);
     }

@@ -16,7 +16,7 @@ use Rattle.plan_line.specs.declared.Missed.{Missed}
 use Rattle.plan_line.specs.declared.Line.{Line}
 use Rattle.plan_line.specs.declared.Line.the-variants.{Miss, Refused}
 use Rattle.plan_line.specs.Words.{gap, isNumber, leastAfter, longer, parted, valueOf, wordsOf}
-use Rattle.plan_line.specs.Plan.{allInRing, allNumbers, ifRead, inRing, joined, missedLine, missingOf, risingFrom, valuesOf, withAll}
+use Rattle.plan_line.specs.Plan.{allInRing, allNumbers, ifSaid, inRing, missedWith, missedLine, missingOf, risingFrom, valuesOf, withAll}
 use Rattle.plan_line.proofs.Words.{and-false}
 use Rattle.plan_line.proofs.Numbers.{form}
 use Rattle.plan_line.proofs.Capped.{in-ring-capped, with-capped}
@@ -26,8 +26,8 @@ use Rattle.plan_line.proofs.Capped.{in-ring-capped, with-capped}
 -- What a line says whose words so far came to `missed`, the last of them `last`, with these words left.
 unfoldable pub rest : ℕ → List ℕ → Missed → List (List ℕ) → Line
 rest n last missed words =
-    ifRead (allNumbers words && risingFrom (leastAfter last) (valuesOf words)) PlanLine
-    (ifRead (missed .inside && allInRing n (valuesOf words)) NodeNumber
+    ifSaid (allNumbers words && risingFrom (leastAfter last) (valuesOf words)) PlanLine
+    (ifSaid (missed .inside && allInRing n (valuesOf words)) NodeNumber
     (Miss (withAll (missed .set) (valuesOf words))))
 
 pub rest-start : (n : ℕ) (text : List ℕ) → missingOf n text ≡ rest n [] (record { inside = true; set = 0 }) (wordsOf text)
@@ -50,7 +50,7 @@ one-fails false b c d e = refl
 
 pub rest-end : (n : ℕ) (last : List ℕ) (missed : Missed) → rest n last missed [] ≡ missedLine missed
 unfolding rest allNumbers valuesOf risingFrom allInRing withAll
-rest-end n last missed = ap (λ (b : Bool). ifRead b NodeNumber (Miss (missed .set))) (and-true (missed .inside))
+rest-end n last missed = ap (λ (b : Bool). ifSaid b NodeNumber (Miss (missed .set))) (and-true (missed .inside))
 
 pub rest-stop : (n : ℕ) (last : List ℕ) (missed : Missed) (word : List ℕ) (words : List (List ℕ)) → (isNumber word && leb (leastAfter last) (valueOf word)) ≡ false
     → rest n last missed (word ∷ words) ≡ Refused PlanLine
@@ -64,17 +64,17 @@ least-more [] h = absurd (omega arith)
 least-more (b ∷ l) h = refl
 
 pub rest-next : (n : ℕ) (last : List ℕ) (missed : Missed) (word : List ℕ) (words : List (List ℕ)) → (isNumber word && leb (leastAfter last) (valueOf word)) ≡ true
-    → rest n last missed (word ∷ words) ≡ rest n word (joined n missed (valueOf word)) words
+    → rest n last missed (word ∷ words) ≡ rest n word (missedWith n missed (valueOf word)) words
 unfolding rest allNumbers valuesOf risingFrom allInRing withAll
 rest-next n last missed word words e =
     let both = and-eq-true-iff (isNumber word) (leb (leastAfter last) (valueOf word)) .0 e in
     let v = valueOf word in
     let least : leastAfter word ≡ suc v = least-more word (form word (both .0) .0) in
     simp (both .0, both .1, least)
-    (ap (λ (b : Bool). ifRead (allNumbers words && risingFrom (suc v) (valuesOf words)) PlanLine (ifRead b NodeNumber (Miss (withAll (with (missed .set) v) (valuesOf words)))))
+    (ap (λ (b : Bool). ifSaid (allNumbers words && risingFrom (suc v) (valuesOf words)) PlanLine (ifSaid b NodeNumber (Miss (withAll (with (missed .set) v) (valuesOf words)))))
     (and-assoc (missed .inside) (inRing n v) (allInRing n (valuesOf words))))
 
-pub joined-capped : (n : ℕ) (missed : Missed) (v : ℕ) → joined n missed (min v 100) ≡ joined n missed v
+pub joined-capped : (n : ℕ) (missed : Missed) (v : ℕ) → missedWith n missed (min v 100) ≡ missedWith n missed v
 joined-capped n missed v = cc (in-ring-capped n v, with-capped (missed .set) v)
 
 -- ---- where the parts of a text stand

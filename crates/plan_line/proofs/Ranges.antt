@@ -4,7 +4,6 @@ use Prim.Native.Nat.{ℕ, _-_, _^_, _≤_, _<_}
 use mathlib.Core.Path.{_≡_, refl}
 use mathlib.Core.Bool.{Bool, true, false, cond, _&&_, and-eq-true-iff}
 use mathlib.Core.List.{List, [], _∷_}
-use native.Mathlib.Omega.{arith}
 use lib.Dec.{leb}
 use lib.ListN.{drop}
 use lib.Pow.{pow-pos}
@@ -13,7 +12,7 @@ use Rattle.refusal.specs.declared.Refusal.{Refusal}
 use Rattle.refusal.specs.declared.Refusal.the-variants.{NodeNumber, PlanLine, RingSize, SponsorCount}
 use Rattle.nodeset.specs.Sets.{with}
 use Rattle.nodeset.proofs.Laws.{with-lt}
-use Rattle.ring.specs.Ring.{nodeNumber, ringSize, sponsorCount}
+use Rattle.ring.specs.Ring.{cableOf, nodeNumber, ringSize, sponsorCount}
 use Rattle.plan_line.specs.declared.Named.{Named}
 use Rattle.plan_line.specs.declared.Named.the-variants as named
 use Rattle.plan_line.specs.declared.Opening.{Opening}
@@ -21,12 +20,12 @@ use Rattle.plan_line.specs.declared.Opening.the-variants as opening
 use Rattle.plan_line.specs.declared.Line.{Line}
 use Rattle.plan_line.specs.declared.Line.the-variants as lines
 use Rattle.plan_line.specs.Words.{after, before, begins, isNumber, same, valueOf, wordsOf}
-use Rattle.plan_line.specs.Plan.{allInRing, allNumbers, ifNamed, ifOpened, ifRead, inRing, lostWord, missWord, missingOf, namedOf, numbersOf, offLine, offWord, okWord, onLine, onWord, openingOf, lineOf, ringOf, risingFrom, shortEnough, valuesOf, withAll, wordOf}
+use Rattle.plan_line.specs.Plan.{allInRing, allNumbers, ifNamed, ifOpened, ifSaid, inRing, lostWord, missWord, missingOf, namedOf, numbersOf, offLine, offWord, okWord, onLine, onWord, openingOf, lineOf, ringOf, risingFrom, shortEnough, valuesOf, withAll, wordOf}
 
 -- ---- line one
 
 abbrev pub RingIn : Opening → Type 0
-RingIn (opening.Ring n k) = (3 ≤ n) × (n ≤ 32) × (2 ≤ k) × (k < n)
+RingIn (opening.Ring n k) = (ringSize n ≡ true) × (sponsorCount (cableOf n k) ≡ true)
 RingIn (opening.Refused cause) = Unit {0}
 
 if-opened : (b : Bool) (cause : Refusal) (o : Opening) → (b ≡ true → RingIn o) → RingIn (ifOpened b cause o)
@@ -38,13 +37,8 @@ unfolding openingOf numbersOf ringOf
 opened line =
     if-opened (shortEnough line) PlanLine (numbersOf (before line) (after line)) (λ _.
     if-opened (isNumber (before line) && isNumber (after line)) PlanLine (ringOf n k) (λ _.
-    if-opened (ringSize n) RingSize (ifOpened (sponsorCount n k) SponsorCount (opening.Ring n k)) (λ size.
-    if-opened (sponsorCount n k) SponsorCount (opening.Ring n k) (λ count.
-    let s = and-eq-true-iff (leb 3 n) (leb n 32) .0 size in
-    let c = and-eq-true-iff (leb 2 k) (leb k (n - 1)) .0 count in
-    let low = leb-true 3 n (s .0) in
-    let high = leb-true k (n - 1) (c .1) in
-    (low, leb-true n 32 (s .1), leb-true 2 k (c .0), omega arith)))))
+    if-opened (ringSize n) RingSize (ifOpened (sponsorCount (cableOf n k)) SponsorCount (opening.Ring n k)) (λ size.
+    if-opened (sponsorCount (cableOf n k)) SponsorCount (opening.Ring n k) (λ count. (size, count)))))
   where
     n : ℕ
     n = valueOf (before line)
@@ -94,7 +88,7 @@ on-in : (n : ℕ) (f : Named) → NamedIn n f → NodesIn n (onLine f)
 on-in n (named.Node a) h = h
 on-in n (named.Refused cause) h = tt
 
-if-read : (n : ℕ) (b : Bool) (cause : Refusal) (o : Line) → (b ≡ true → NodesIn n o) → NodesIn n (ifRead b cause o)
+if-read : (n : ℕ) (b : Bool) (cause : Refusal) (o : Line) → (b ≡ true → NodesIn n o) → NodesIn n (ifSaid b cause o)
 if-read n true cause o h = h refl
 if-read n false cause o h = tt
 
@@ -108,7 +102,7 @@ all-below n set (a ∷ values) h e =
 missing-in : (n : ℕ) (text : List ℕ) → NodesIn n (missingOf n text)
 unfolding missingOf
 missing-in n text =
-    if-read n (allNumbers (wordsOf text) && risingFrom 0 values) PlanLine (ifRead (allInRing n values) NodeNumber (lines.Miss (withAll 0 values))) (λ _.
+    if-read n (allNumbers (wordsOf text) && risingFrom 0 values) PlanLine (ifSaid (allInRing n values) NodeNumber (lines.Miss (withAll 0 values))) (λ _.
     if-read n (allInRing n values) NodeNumber (lines.Miss (withAll 0 values)) (all-below n 0 values (pow-pos n)))
   where
     values : List ℕ

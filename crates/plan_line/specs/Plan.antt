@@ -8,7 +8,7 @@ use lib.ListN.{length, drop}
 use Rattle.refusal.specs.declared.Refusal.{Refusal}
 use Rattle.refusal.specs.Causes.{cause}
 use Rattle.nodeset.specs.Sets.{with}
-use Rattle.ring.specs.Ring.{ringSize, sponsorCount, nodeNumber}
+use Rattle.ring.specs.Ring.{cableOf, ringSize, sponsorCount, nodeNumber}
 use Rattle.plan_line.specs.declared.Opening.{Opening}
 use Rattle.plan_line.specs.declared.Opening.the-variants as opening
 use Rattle.plan_line.specs.declared.Named.{Named}
@@ -31,7 +31,7 @@ ifOpened false cause opened = opening.Refused cause
 
 -- n and k: 1 is tested before 2.
 unfoldable pub ringOf : ℕ → ℕ → Opening
-ringOf n k = ifOpened (ringSize n) (cause 1) (ifOpened (sponsorCount n k) (cause 2) (opening.Ring n k))
+ringOf n k = ifOpened (ringSize n) (cause 1) (ifOpened (sponsorCount (cableOf n k)) (cause 2) (opening.Ring n k))
 
 -- Two words that should be numbers.
 unfoldable pub numbersOf : List ℕ → List ℕ → Opening
@@ -80,22 +80,22 @@ withAll set [] = set
 withAll set (a ∷ rest) = withAll (with set a) rest
 
 -- The line where a test holds, and the refusal where it does not.
-abbrev pub ifRead : Bool → Refusal → Line → Line
-ifRead true cause said = said
-ifRead false cause said = lines.Refused cause
+abbrev pub ifSaid : Bool → Refusal → Line → Line
+ifSaid true cause said = said
+ifSaid false cause said = lines.Refused cause
 
 -- What came of the words so far, with one node more; and what they say.
-abbrev pub joined : ℕ → Missed → ℕ → Missed
-joined n missed a = record { inside = missed .inside && inRing n a; set = with (missed .set) a }
+abbrev pub missedWith : ℕ → Missed → ℕ → Missed
+missedWith n missed a = record { inside = missed .inside && inRing n a; set = with (missed .set) a }
 
 abbrev pub missedLine : Missed → Line
-missedLine missed = ifRead (missed .inside) (cause 3) (lines.Miss (missed .set))
+missedLine missed = ifSaid (missed .inside) (cause 3) (lines.Miss (missed .set))
 
 -- "`miss a b` (numbers rising, at least one)": what stands after `miss `. A list that does not rise is unreadable, so that 12 is tested before 3.
 unfoldable pub missingOf : ℕ → List ℕ → Line
 missingOf n text =
-    ifRead (allNumbers (wordsOf text) && risingFrom 0 (valuesOf (wordsOf text))) (cause 12)
-    (ifRead (allInRing n (valuesOf (wordsOf text))) (cause 3)
+    ifSaid (allNumbers (wordsOf text) && risingFrom 0 (valuesOf (wordsOf text))) (cause 12)
+    (ifSaid (allInRing n (valuesOf (wordsOf text))) (cause 3)
     (lines.Miss (withAll 0 (valuesOf (wordsOf text)))))
 
 -- ---- the lines after line one
@@ -137,4 +137,4 @@ wordOf n line =
 
 -- "Plan line unreadable or too long" is 12.
 unfoldable pub lineOf : ℕ → List ℕ → Line
-lineOf n line = ifRead (shortEnough line) (cause 12) (wordOf n line)
+lineOf n line = ifSaid (shortEnough line) (cause 12) (wordOf n line)

@@ -1,13 +1,14 @@
 // The lines of a plan (document 01, "The bench program"): what a line says, or by which cause it is
 // refused. A line comes without its line feed.
 use refusal::Refusal;
+use ring::Cable;
 ghost use mathlib.Core.Path.{_≡_};
 ghost use mathlib.Core.Bool.{true, false, _&&_};
 ghost use Prim.Native.Nat.{_+_, _≤_, min};
 ghost use lib.ListN.{length, drop};
 ghost use lib.Dec.{leb};
 ghost use Rattle.plan_line.specs.Words.{allDigits, begins, gap, isNumber, leadingZero, leastAfter, same, valueOf};
-ghost use Rattle.plan_line.specs.Plan.{inRing, joined, missedLine, missingOf, namedOf, numbersOf, offLine, onLine, openingOf, lineOf, ringOf, wordOf};
+ghost use Rattle.plan_line.specs.Plan.{inRing, missedWith, missedLine, missingOf, namedOf, numbersOf, offLine, onLine, openingOf, lineOf, ringOf, wordOf};
 
 // What line one says.
 pub enum Opening {
@@ -179,8 +180,8 @@ fn node_named(n: u32, word: &[u8]) -> Named
 }
 
 // What came of the words so far, with one node more.
-fn joined(n: u32, missed: Missed, a: u32) -> Missed
-    ensures { λ r. ⌜ r ≡ joined n missed a ⌝ }
+fn missed_with(n: u32, missed: Missed, a: u32) -> Missed
+    ensures { λ r. ⌜ r ≡ missedWith n missed a ⌝ }
 {
     let inside = in_ring(n, a);
     Missed {
@@ -215,7 +216,7 @@ fn missing(n: u32, text: &[u8]) -> Line
         if !follows(&text[last..end], &text[at..next]) {
             return Line::Refused(Refusal::PlanLine);
         }
-        missed = joined(n, missed, small_value(&text[at..next]));
+        missed = missed_with(n, missed, small_value(&text[at..next]));
         last = at;
         end = next;
         at = next + 1;
@@ -282,7 +283,7 @@ fn ring_of(n: u32, k: u32) -> Opening
     if !ring::is_ring_size(n) {
         return Opening::Refused(Refusal::RingSize);
     }
-    if !ring::is_sponsor_count(n, k) {
+    if !ring::is_sponsor_count(Cable { n, k }) {
         return Opening::Refused(Refusal::SponsorCount);
     }
     Opening::Ring(n, k)

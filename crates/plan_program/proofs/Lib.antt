@@ -2,6 +2,6 @@ pub mod Lines
 pub mod Chunks
 pub mod Sound
 pub mod Turns
-pub mod Distances
+pub mod Tables
 pub mod Pieces
 pub mod Computed

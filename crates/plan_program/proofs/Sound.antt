@@ -11,12 +11,14 @@ use lib.ListN.{length, take, drop, drop-of-length-le, length-take, length-replic
 use lib.Seq.{take-all, take-at}
 use borrow.Author.Tests.{ne-eqb, ltb-false}
 use Rattle.nodeset.proofs.Tests.{by-cases}
+use Rattle.ring.specs.Ring.{cableOf, ringSize, sponsorCount}
+use Rattle.ring.proofs.Ranges.{ring-size}
 use Rattle.node.specs.Calls.{noNode}
 use Rattle.bench.specs.Table.{Table, recordOf, slotsOf, tableSound}
 use Rattle.bench.specs.Outcomes.{endedOf}
 use Rattle.bench.specs.Runs.{Call, slot, off, restart, callOf, tableAfter}
-use Rattle.bench.proofs.agreement.Places.{Placed, sound-placed, placed-sound}
-use Rattle.bench.proofs.agreement.Runs.{placed-call, start-placed}
+use Rattle.bench.proofs.Places.{Placed, sound-placed, placed-sound}
+use Rattle.bench.proofs.Runs.{placed-call, start-placed}
 use Rattle.bench_by_value.specs.ByValue as by-value
 use Rattle.bench_by_value.specs.ByValue.{Rows, tableOf}
 use Rattle.plan_line.specs.declared.Opening.{Opening}
@@ -29,7 +31,7 @@ use Rattle.plan_run.specs.Run.{actOf, noRows, openedBy, openedOf, ranBy, ranOf}
 use Rattle.plan_program.specs.declared.Plan.{Plan}
 use Rattle.plan_program.specs.Program.{afterLine, counted, planOpened, planRan, quiet, runLine, runOf}
 use Rattle.plan_program.specs.Calls.{planSound}
-use Rattle.plan_program.specs.Distances.{callsIn, madeBy, startOf}
+use Rattle.plan_program.specs.Tables.{callsIn, madeBy, startOf}
 
 -- the table of rows whose table was replaced by one of the same size
 table-replaced : (n : ℕ) (rows : Rows) (t : Table) → length t ≡ length (tableOf n rows) → tableOf n (t ++ drop n rows) ≡ t
@@ -44,20 +46,24 @@ table-replaced n rows t same = go (decLe n (length rows))
 
 -- ---- a call
 
+-- a ring of one node at least
 some-record : (t : Table) → tableSound t ≡ true → 1 ≤ length t
 unfolding tableSound
 some-record [] e = absurd (false≢true e)
 some-record (v ∷ t) e = omega arith
 
+some-node : (t : Table) → tableSound t ≡ true → 1 ≤ recordOf t 1 .cable .n
+some-node t e = omega (arith, some-record t e, sound-placed t e .length-is)
+
 module _ (t : Table) (sound : tableSound t ≡ true) where
-  still-placed : (c : Call) → (slots : ℕ) × Placed (length t) (recordOf t 1 .k) slots (callOf c t .table)
-  still-placed c = (_, placed-call (length t) (recordOf t 1 .k) (slotsOf t) t (some-record t sound) (sound-placed t sound) c)
+  still-placed : (c : Call) → (slots : ℕ) × Placed (recordOf t 1 .cable) slots (callOf c t .table)
+  still-placed c = (_, placed-call (recordOf t 1 .cable) (slotsOf t) t (some-node t sound) (sound-placed t sound) c)
 
   same-size : (c : Call) → length (callOf c t .table) ≡ length t
-  same-size c = still-placed c .1 .length-is
+  same-size c = still-placed c .1 .length-is ∙ sym (sound-placed t sound .length-is)
 
   pub still-sound : (c : Call) → tableSound (callOf c t .table) ≡ true
-  still-sound c = placed-sound (length t) (recordOf t 1 .k) (still-placed c .0) (callOf c t .table) (some-record t sound) (still-placed c .1)
+  still-sound c = placed-sound (recordOf t 1 .cable) (still-placed c .0) (callOf c t .table) (some-node t sound) (still-placed c .1)
 
 -- ---- a later line
 
@@ -85,19 +91,19 @@ module _ (n : ℕ) (rows : Rows) (sound : tableSound (tableOf n rows) ≡ true) 
 
 -- ---- line one
 
-module _ (n k : ℕ) (three : 3 ≤ n) (most : n ≤ 32) (two : 2 ≤ k) (fewer : k ≤ n - 1) where
+module _ (n k : ℕ) (ring : ringSize n ≡ true) (sponsors : sponsorCount (cableOf n k) ≡ true) where
   one-each : length (tableOf n noRows) ≡ n
-  one-each = omega (arith, length-take n noRows, length-replicate 32 noNode)
+  one-each = omega (arith, length-take n noRows, length-replicate 32 noNode, ring-size n ring)
 
-  start : Placed n k 0 (startOf n k)
-  start = start-placed n k three most two fewer (tableOf n noRows) one-each
+  start : Placed (cableOf n k) 0 (startOf n k)
+  start = start-placed (cableOf n k) ring sponsors (tableOf n noRows) one-each
 
   pub opened-table : tableOf n (openedBy (opening.Ring n k) .rows) ≡ startOf n k
   unfolding by-value.callOf endedOf
   opened-table = table-replaced n noRows (startOf n k) (start .length-is ∙ sym one-each)
 
   start-sound : tableSound (startOf n k) ≡ true
-  start-sound = placed-sound n k 0 (startOf n k) (omega arith) start
+  start-sound = placed-sound (cableOf n k) 0 (startOf n k) (omega (arith, ring-size n ring)) start
 
 -- ---- a plan
 
@@ -156,7 +162,7 @@ first-line p l begun going = simp (going, begun)
 opened-sound : (L : ℕ) (o : Opening) → RingIn o → planSound (planOpened L (openedBy o)) ≡ true
 unfolding planSound
 opened-sound L (opening.Ring n k) r =
-    sound-table (planOpened L (openedBy (opening.Ring n k))) (ap tableSound (opened-table n k (r .0) (r .1) (r .2) (omega arith)) ∙ start-sound n k (r .0) (r .1) (r .2) (omega arith))
+    sound-table (planOpened L (openedBy (opening.Ring n k))) (ap tableSound (opened-table n k (r .0) (r .1)) ∙ start-sound n k (r .0) (r .1))
 opened-sound L (opening.Refused cause) r = refl
 
 pub sound-line : (p : Plan) (l : List ℕ) → planSound p ≡ true → planSound (afterLine p l) ≡ true

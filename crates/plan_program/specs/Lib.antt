@@ -1,4 +1,4 @@
 pub mod Program
 pub mod Calls
-pub mod Distances
+pub mod Tables
 pub mod Inner

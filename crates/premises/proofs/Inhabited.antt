@@ -1,11 +1,13 @@
 -- The premises of demand 3 are met by a run in which a node fails, leaves, is restarted, knocks and joins again: the demand does not hold for want of runs.
 -- Assumes nothing.
-use Prim.Native.Nat.{ℕ, _≤_}
+use Prim.Native.Nat.{ℕ}
 use mathlib.Core.Path.{_≡_, refl}
 use mathlib.Core.Bool.{true}
 use mathlib.Core.List.{List, [], _∷_, map, reverse}
 use lib.Dec.{lit≤}
 use lib.ListN.{replicate}
+use Rattle.ring.specs.declared.Cable.{Cable}
+use Rattle.ring.specs.Ring.{cableOf}
 use Rattle.node_record.specs.declared.Node.{Node}
 use Rattle.node_record.specs.declared.State.{State}
 use Rattle.node_record.specs.declared.State.the-variants.{Member, Out}
@@ -13,11 +15,11 @@ use Rattle.node_record.specs.declared.Cause.the-variants.{Unconfirmed}
 use Rattle.bench.specs.Table.{Table}
 use Rattle.bench.specs.Calls.{setUpOf}
 use Rattle.bench.specs.Runs.{tableAfter}
-use Rattle.bench.specs.Demand.{Premises, Claims, EverySequence}
+use Rattle.agreement.specs.Demand.{Premises, Claims, EverySequence}
 use Rattle.bench.proofs.Computed.{computed}
-use Rattle.bench.proofs.agreement.Places.{Placed}
-use Rattle.bench.proofs.agreement.Runs.{start-placed}
-use Rattle.bench.proofs.agreement.Demanded.{demand3}
+use Rattle.bench.proofs.Places.{Placed}
+use Rattle.bench.proofs.Runs.{start-placed}
+use Rattle.agreement.proofs.Demanded.{demand3}
 use Rattle.premises.specs.Plans.{departure, return}
 use Rattle.premises.specs.Needed.{Premise, few-failures, one-outside, list-kept, all-heard, Holds}
 use Rattle.premises.proofs.Tested.{every, test, by-test}
@@ -33,11 +35,14 @@ module _ (a b c d e : Node) where
   abbrev lent : Table
   lent = a ∷ b ∷ c ∷ d ∷ e ∷ []
 
-  abbrev start : Table
-  start = setUpOf 5 2 lent .table
+  abbrev cable : Cable
+  cable = cableOf 5 2
 
-  begins : Placed 5 2 0 start
-  begins = start-placed 5 2 (lit≤ tt) (lit≤ tt) (lit≤ tt) (lit≤ tt) lent refl
+  abbrev start : Table
+  start = setUpOf cable lent .table
+
+  begins : Placed cable 0 start
+  begins = start-placed cable refl refl lent refl
 
   pub departed : shown (tableAfter start (reverse departure))
       ≡ (Member, 0b11101) ∷ (Out Unconfirmed, 0) ∷ (Member, 0b11101) ∷ (Member, 0b11101) ∷ (Member, 0b11101) ∷ []
@@ -48,20 +53,20 @@ module _ (a b c d e : Node) where
   unfolding computed
   returned = refl
 
-  meets : (p : Premise) → Holds p 5 2 start (reverse return)
+  meets : (p : Premise) → Holds p cable start (reverse return)
   unfolding computed every noted scan
-  meets p = by-test 5 2 (lit≤ tt) start begins (reverse return) p (each p)
+  meets p = by-test cable (lit≤ tt) start begins (reverse return) p (each p)
     where
-      each : (p : Premise) → test p 5 2 start (reverse return) ≡ true
+      each : (p : Premise) → test p cable start (reverse return) ≡ true
       each few-failures = refl
       each one-outside = refl
       each list-kept = refl
       each all-heard = refl
 
-  pub premises-met : Premises 5 2 start (reverse return)
-  premises-met = the-four 5 2 start (reverse return) meets
+  pub premises-met : Premises cable start (reverse return)
+  premises-met = the-four cable start (reverse return) meets
 
   -- so demand 3 speaks of it
-  pub claims-follow : Claims 5 2 start (reverse return)
+  pub claims-follow : Claims cable start (reverse return)
   unfolding EverySequence
-  claims-follow = demand3 5 2 (lit≤ tt) (lit≤ tt) (lit≤ tt) (lit≤ tt) lent refl (reverse return) premises-met
+  claims-follow = demand3 cable refl refl lent refl (reverse return) premises-met

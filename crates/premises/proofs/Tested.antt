@@ -11,13 +11,14 @@ use Rattle.nodeset.specs.Sums.{sum, num}
 use Rattle.nodeset.specs.Sets.{has, size}
 use Rattle.nodeset.proofs.Sums.{sum-same, sum-zero}
 use Rattle.nodeset.proofs.Tests.{by-cases, both, all, or-left, or-right, or-else}
+use Rattle.ring.specs.declared.Cable.{Cable}
 use Rattle.node_record.specs.States.{isMember, isOut}
 use Rattle.bench.specs.Table.{Table, recordOf, slotsOf, speaker}
 use Rattle.bench.specs.Calls.{transmits}
 use Rattle.bench.specs.Runs.{Call, slot, off, restart, tableAfter, isSlot, listOf, Entry, noEntry, entry}
-use Rattle.bench.specs.Demand.{AtEach, KeepsList, AllHear, HearEverything}
-use Rattle.bench.proofs.agreement.Places.{Placed}
-use Rattle.bench.proofs.agreement.Entries.{entry-later}
+use Rattle.agreement.specs.Demand.{AtEach, KeepsList, AllHear, HearEverything}
+use Rattle.bench.proofs.Places.{Placed}
+use Rattle.agreement.proofs.Entries.{entry-later}
 use Rattle.premises.specs.Needed.{Premise, few-failures, one-outside, list-kept, all-heard, Holds}
 use Rattle.premises.proofs.Scan.{Notes, noted, Scan, SlotTest, scan, atSlots, Right, scan-right}
 
@@ -50,8 +51,8 @@ every-all f (suc m) h = all (every-all f m (λ i p q. h i p (omega arith))) (h (
 abbrev pub fewIn : (ℕ → ℕ) → ℕ → ℕ → ℕ → Bool
 fewIn f n c m = every (λ a. leb (sum f a n) c) m
 
-abbrev pub keepsIn : ℕ → ℕ → SlotTest
-keepsIn n k c t u = leb (k + 1) (size n (listOf t)) && leb (k + 1) (size n (listOf u))
+abbrev pub keepsIn : Cable → SlotTest
+keepsIn cable c t u = leb (cable .k + 1) (size (cable .n) (listOf t)) && leb (cable .k + 1) (size (cable .n) (listOf u))
 
 -- node i hears, or need not
 abbrev pub hearsAt : Bool → ℕ → Table → ℕ → Bool
@@ -64,14 +65,14 @@ hearIn n (slot lost missed room) t u = every (hearsAt lost missed t) n
 hearIn n (off a) t u = true
 hearIn n (restart a) t u = true
 
-abbrev pub testOf : Premise → ℕ → ℕ → Scan → Bool
-testOf few-failures n k s = fewIn (noted (s .failures)) n (k - 1) (slotsOf (s .table))
-testOf one-outside n k s = fewIn (noted (s .outside)) n 1 (slotsOf (s .table))
-testOf list-kept n k s = s .kept
-testOf all-heard n k s = s .heard
+abbrev pub testOf : Premise → Cable → Scan → Bool
+testOf few-failures cable s = fewIn (noted (s .failures)) (cable .n) (cable .k - 1) (slotsOf (s .table))
+testOf one-outside cable s = fewIn (noted (s .outside)) (cable .n) 1 (slotsOf (s .table))
+testOf list-kept cable s = s .kept
+testOf all-heard cable s = s .heard
 
-abbrev pub test : Premise → ℕ → ℕ → Table → List Call → Bool
-test p n k start cs = testOf p n k (scan (keepsIn n k) (hearIn n) start cs)
+abbrev pub test : Premise → Cable → Table → List Call → Bool
+test p cable start cs = testOf p cable (scan (keepsIn cable) (hearIn (cable .n)) start cs)
 
 -- ---- n in a row
 
@@ -116,13 +117,15 @@ module _ (P : Call → List Call → Type 0) (f : SlotTest) (start : Table) wher
   each-complete h (c ∷ cs) p =
       all (each-complete h cs (p .0)) (implying (isSlot c (tableAfter start cs)) (f c (tableAfter start cs) (tableAfter start (c ∷ cs))) (h c cs (p .1)))
 
-keeps-sound : (n k : ℕ) (t u : Table) (c : Call) → keepsIn n k c t u ≡ true → (k + 1 ≤ size n (listOf t)) × (k + 1 ≤ size n (listOf u))
-keeps-sound n k t u c e =
+keeps-sound : (cable : Cable) (t u : Table) (c : Call) → keepsIn cable c t u ≡ true → (cable .k + 1 ≤ size (cable .n) (listOf t)) × (cable .k + 1 ≤ size (cable .n) (listOf u))
+keeps-sound cable t u c e =
+    let n = cable .n in
+    let k = cable .k in
     let x = both (leb (k + 1) (size n (listOf t))) (leb (k + 1) (size n (listOf u))) e in
     (leb-true (k + 1) (size n (listOf t)) (x .0), leb-true (k + 1) (size n (listOf u)) (x .1))
 
-keeps-complete : (n k : ℕ) (t u : Table) (c : Call) → (k + 1 ≤ size n (listOf t)) × (k + 1 ≤ size n (listOf u)) → keepsIn n k c t u ≡ true
-keeps-complete n k t u c (a, b) = all (le-leb (k + 1) (size n (listOf t)) a) (le-leb (k + 1) (size n (listOf u)) b)
+keeps-complete : (cable : Cable) (t u : Table) (c : Call) → (cable .k + 1 ≤ size (cable .n) (listOf t)) × (cable .k + 1 ≤ size (cable .n) (listOf u)) → keepsIn cable c t u ≡ true
+keeps-complete cable t u c (a, b) = all (le-leb (cable .k + 1) (size (cable .n) (listOf t)) a) (le-leb (cable .k + 1) (size (cable .n) (listOf u)) b)
 
 -- ---- hearing
 
@@ -158,12 +161,14 @@ hear-complete n (restart a) t u h = refl
 
 -- ---- each premise
 
-module _ (n k : ℕ) (pos : 1 ≤ n) (start : Table) (begins : Placed n k 0 start) (cs : List Call) where
-  abbrev S : Scan
-  S = scan (keepsIn n k) (hearIn n) start cs
+module _ (cable : Cable) (pos : 1 ≤ cable .n) (start : Table) (begins : Placed cable 0 start) (cs : List Call) where
+  open Cable cable using (n, k)
 
-  right : Right (keepsIn n k) (hearIn n) start cs S
-  right = scan-right (keepsIn n k) (hearIn n) start cs
+  abbrev S : Scan
+  S = scan (keepsIn cable) (hearIn n) start cs
+
+  right : Right (keepsIn cable) (hearIn n) start cs S
+  right = scan-right (keepsIn cable) (hearIn n) start cs
 
   -- a number of each slot's entry, as it is noted
   module _ (f : Entry → ℕ) (none : f noEntry ≡ 0) (notes : Notes) (are : (u : ℕ) → noted notes u ≡ f (entry start cs u)) (c : ℕ) where
@@ -174,24 +179,24 @@ module _ (n k : ℕ) (pos : 1 ≤ n) (start : Table) (begins : Placed n k 0 star
     few-by e a = omega (arith, same-sum (suc a), few-sound (noted notes) n c (slotsOf (S .table)) later e a)
       where
         later : (u : ℕ) → slotsOf (S .table) < u → noted notes u ≡ 0
-        later u h = are u ∙ ap f (entry-later n k pos start begins cs u (omega (arith, h, ap slotsOf (right .table-is)))) ∙ none
+        later u h = are u ∙ ap f (entry-later cable pos start begins cs u (omega (arith, h, ap slotsOf (right .table-is)))) ∙ none
 
     few-tested : ((a : ℕ) → sum (λ u. f (entry start cs u)) (suc a) n ≤ c) → fewIn (noted notes) n c (slotsOf (S .table)) ≡ true
     few-tested h = few-complete (noted notes) n c (slotsOf (S .table)) (λ a. omega (arith, same-sum (suc a), h a))
 
-  pub by-test : (p : Premise) → test p n k start cs ≡ true → Holds p n k start cs
+  pub by-test : (p : Premise) → test p cable start cs ≡ true → Holds p cable start cs
   unfolding KeepsList HearEverything
   by-test few-failures e = few-by (λ x. x .failures) refl (S .failures) (right .failures-are) (k - 1) e
   by-test one-outside e = few-by (λ x. num (x .outside)) refl (S .outside) (right .outside-are) 1 e
-  by-test list-kept e = each-sound (KeepsList n k start) (keepsIn n k) start (λ c ds h s. keeps-sound n k (tableAfter start ds) (tableAfter start (c ∷ ds)) c (h s)) cs (sym (right .kept-is) ∙ e)
-  by-test all-heard e = each-sound (HearEverything n start) (hearIn n) start (λ c ds h s. hear-sound n c (tableAfter start ds) (tableAfter start (c ∷ ds)) (h s)) cs (sym (right .heard-is) ∙ e)
+  by-test list-kept e = each-sound (KeepsList cable start) (keepsIn cable) start (λ c ds h s. keeps-sound cable (tableAfter start ds) (tableAfter start (c ∷ ds)) c (h s)) cs (sym (right .kept-is) ∙ e)
+  by-test all-heard e = each-sound (HearEverything cable start) (hearIn n) start (λ c ds h s. hear-sound n c (tableAfter start ds) (tableAfter start (c ∷ ds)) (h s)) cs (sym (right .heard-is) ∙ e)
 
-  tested : (p : Premise) → Holds p n k start cs → test p n k start cs ≡ true
+  tested : (p : Premise) → Holds p cable start cs → test p cable start cs ≡ true
   unfolding KeepsList HearEverything
   tested few-failures h = few-tested (λ x. x .failures) refl (S .failures) (right .failures-are) (k - 1) h
   tested one-outside h = few-tested (λ x. num (x .outside)) refl (S .outside) (right .outside-are) 1 h
-  tested list-kept h = right .kept-is ∙ each-complete (KeepsList n k start) (keepsIn n k) start (λ c ds x s. keeps-complete n k (tableAfter start ds) (tableAfter start (c ∷ ds)) c (x s)) cs h
-  tested all-heard h = right .heard-is ∙ each-complete (HearEverything n start) (hearIn n) start (λ c ds x s. hear-complete n c (tableAfter start ds) (tableAfter start (c ∷ ds)) (x s)) cs h
+  tested list-kept h = right .kept-is ∙ each-complete (KeepsList cable start) (keepsIn cable) start (λ c ds x s. keeps-complete cable (tableAfter start ds) (tableAfter start (c ∷ ds)) c (x s)) cs h
+  tested all-heard h = right .heard-is ∙ each-complete (HearEverything cable start) (hearIn n) start (λ c ds x s. hear-complete n c (tableAfter start ds) (tableAfter start (c ∷ ds)) (x s)) cs h
 
-  pub by-failed-test : (p : Premise) → test p n k start cs ≡ false → Holds p n k start cs → ⊥
+  pub by-failed-test : (p : Premise) → test p cable start cs ≡ false → Holds p cable start cs → ⊥
   by-failed-test p e h = true≢false (sym (tested p h) ∙ e)

@@ -1,6 +1,8 @@
 pub mod Ranges
+pub mod Cables
 pub mod Senders
 pub mod Speakers
-pub mod Members
 pub mod Walks
-pub mod Nexts
+pub mod Members
+pub mod Places
+pub mod Tested

@@ -7,6 +7,7 @@ use native.Mathlib.Decide.{decLt}
 use lib.Dec.{leb, ltb}
 use borrow.Author.Tests.{leb-true, le-leb, lt-leb, lt-ltb, le-ltb}
 use Rattle.nodeset.proofs.Tests.{both}
+use Rattle.ring.specs.declared.Cable.{Cable}
 use Rattle.ring.specs.Ring.{ringSize, nodeNumber, sponsorCount}
 
 pub ring-size : (n : ℕ) → ringSize n ≡ true → (3 ≤ n) × (n ≤ 32)
@@ -15,8 +16,10 @@ ring-size n e = let t = both (leb 3 n) (leb n 32) e in (leb-true 3 n (t .0), leb
 pub node-number : (n x : ℕ) → nodeNumber n x ≡ true → (1 ≤ x) × (x ≤ n)
 node-number n x e = let t = both (leb 1 x) (leb x n) e in (leb-true 1 x (t .0), leb-true x n (t .1))
 
-pub sponsor-count : (n k : ℕ) → sponsorCount n k ≡ true → (2 ≤ k) × (k ≤ n - 1)
-sponsor-count n k e = let t = both (leb 2 k) (leb k (n - 1)) e in (leb-true 2 k (t .0), leb-true k (n - 1) (t .1))
+pub sponsor-count : (cable : Cable) → sponsorCount cable ≡ true → (2 ≤ cable .k) × (cable .k ≤ cable .n - 1)
+sponsor-count cable e =
+    let t = both (leb 2 (cable .k)) (leb (cable .k) (cable .n - 1)) e in
+    (leb-true 2 (cable .k) (t .0), leb-true (cable .k) (cable .n - 1) (t .1))
 
 -- "to n - 1" is "below n"
 pub to-before : (n k : ℕ) → 1 ≤ k → ltb k n ≡ leb k (n - 1)

@@ -7,7 +7,7 @@ use native.Mathlib.Omega.{arith}
 use native.Mathlib.Decide.{decLe, decLt}
 use native.Mathlib.Nat.{mod-lt, div-add-mod', mod-eq-of-lt}
 use lib.Arith.{digits-mod}
-use borrow.Author.Tests.{eq-eqb, ne-eqb}
+use borrow.Author.Tests.{le-leb, lt-leb}
 use Rattle.nodeset.specs.Sums.{sum, num}
 use Rattle.nodeset.specs.Sets.{has, size}
 use Rattle.nodeset.proofs.Sums.{sum-moved, sum-same, rotation}
@@ -99,8 +99,8 @@ module _ (n : ℕ) (pos : 1 ≤ n) where
       same = ap (sender n) (omega arith)
 
       go : (sender n (p + 1) ≡ sender n p + 1) ⊎ (sender n (p + 1) + n ≡ sender n p + 1) → previous n (sender n (suc p)) ≡ sender n p
-      go (inl z) = rw (ne-eqb (sender n (suc p)) 1 (λ e. omega (arith, same, sender-range p))) (omega (arith, same))
-      go (inr z) = rw (eq-eqb (sender n (suc p)) 1 (omega (arith, same, sender-range p, sender-range (suc p)))) (omega (arith, same, sender-range p, sender-range (suc p)))
+      go (inl z) = rw (lt-leb (sender n (suc p)) 1 (omega (arith, same, sender-range p))) (omega (arith, same))
+      go (inr z) = rw (le-leb (sender n (suc p)) 1 (omega (arith, same, sender-range p, sender-range (suc p)))) (omega (arith, same, sender-range p, sender-range (suc p)))
 
   -- ---- rounds
 

@@ -3,19 +3,17 @@
 use Prim.Native.Nat.{ℕ, zero, suc, _+_, _-_, _≤_, _<_}
 use mathlib.Core.Path.{_≡_, refl, sym, ap, _∙_}
 use mathlib.Core.Logic.{_≢_}
-use mathlib.Core.Bool.{true, false, cond}
+use mathlib.Core.Bool.{true, false}
 use native.Mathlib.Omega.{arith}
-use native.Mathlib.Decide.{decLe, ℕ-discrete}
+use native.Mathlib.Decide.{decLe}
 use native.Mathlib.Nat.{add-zero}
-use lib.Dec.{eqb}
-use borrow.Author.Tests.{eq-eqb, ne-eqb}
+use borrow.Author.Tests.{ne-eqb}
 use Rattle.nodeset.specs.Sums.{sum, num}
 use Rattle.nodeset.specs.Sets.{has, size}
 use Rattle.nodeset.proofs.Tests.{by-cases}
 use Rattle.nodeset.proofs.Sums.{sum-none, sum-next, sum-at, sum-split, one-place}
 use Rattle.ring.specs.declared.Found.the-variants.{Member, Nobody}
 use Rattle.ring.specs.Ring.{sender, previous, walk, memberBefore}
-use Rattle.ring.specs.Answers.{memberIn, foundAs}
 use Rattle.ring.proofs.Senders.{previous-sender, sender-once, size-round}
 
 -- ---- one slot of the walk, by what stands there
@@ -24,42 +22,17 @@ pub walk-nobody : (n set x j : ℕ) → walk 0 n set x j ≡ Nobody
 unfolding walk
 walk-nobody n set x j = refl
 
-pub walk-past : (left n set x j : ℕ) → 1 ≤ j → has set (previous n x) ≡ false → walk (suc left) n set x j ≡ walk left n set (previous n x) j
+pub walk-past : (left n set x j : ℕ) → has set (previous n x) ≡ false → walk (suc left) n set x j ≡ walk left n set (previous n x) j
 unfolding walk
-walk-past left n set x j h e =
-    let z : j - num (has set (previous n x)) ≡ j = omega (arith, ap num e) in
-    rw (z, ne-eqb j 0 (λ y. omega arith)) refl
+walk-past left n set x j e = let z : j - 0 ≡ j = omega arith in rw (e, z) refl
 
 pub walk-here : (left n set x : ℕ) → has set (previous n x) ≡ true → walk (suc left) n set x 1 ≡ Member (previous n x)
 unfolding walk
 walk-here left n set x e = rw e refl
 
-pub walk-on : (left n set x j : ℕ) → 2 ≤ j → has set (previous n x) ≡ true → walk (suc left) n set x j ≡ walk left n set (previous n x) (j - 1)
+pub walk-on : (left n set x j : ℕ) → j ≢ 1 → has set (previous n x) ≡ true → walk (suc left) n set x j ≡ walk left n set (previous n x) (j - 1)
 unfolding walk
-walk-on left n set x j h e =
-    let z : j - num (has set (previous n x)) ≡ j - 1 = omega (arith, ap num e) in
-    rw (z, ne-eqb (j - 1) 0 (λ y. omega arith)) refl
-
--- the node before a node is a node
-pub previous-pos : (n x : ℕ) → 1 ≤ n → 1 ≤ x → 1 ≤ previous n x
-unfolding previous
-previous-pos n x h i = go (ℕ-discrete x 1)
-  where
-    go : Dec (x ≡ 1) → 1 ≤ cond (eqb x 1) n (x - 1)
-    go (yes e) = rw (eq-eqb x 1 e) h
-    go (no e) = rw (ne-eqb x 1 e) (omega arith)
-
--- the number of the member met, 0 where there is none, says what was found
-pub walk-number : (left n set x j : ℕ) → 1 ≤ n → 1 ≤ x → foundAs (memberIn (walk left n set x j)) ≡ walk left n set x j
-unfolding walk
-walk-number zero n set x j h i = refl
-walk-number (suc left) n set x j h i =
-    let p = previous n x in
-    let more = j - num (has set p) in
-    let pos = previous-pos n x h i in
-    by-cases (eqb more 0)
-    (λ e. rw e (rw (ne-eqb p 0 (λ z. omega (arith, z, pos))) refl))
-    (λ e. rw e (walk-number left n set p more h pos))
+walk-on left n set x j h e = rw (e, ne-eqb j 1 h) refl
 
 -- ---- the walk over slots in a row
 
@@ -80,10 +53,10 @@ module _ (n : ℕ) (pos : 1 ≤ n) (set : ℕ) where
     pub found : walk left n set (sender n (a + left)) j ≡ Member (sender n u)
 
   -- the walk from slot p, one slot back at q
-  step-past : (l q j p : ℕ) → 1 ≤ q → 1 ≤ j → p ≡ suc q → has set (sender n q) ≡ false → walk (suc l) n set (sender n p) j ≡ walk l n set (sender n q) j
-  step-past l q j p h i e f =
+  step-past : (l q j p : ℕ) → 1 ≤ q → p ≡ suc q → has set (sender n q) ≡ false → walk (suc l) n set (sender n p) j ≡ walk l n set (sender n q) j
+  step-past l q j p h e f =
       let b : previous n (sender n p) ≡ sender n q = ap (λ (y : ℕ). previous n (sender n y)) e ∙ previous-sender n pos q h in
-      walk-past l n set (sender n p) j i (ap (has set) b ∙ f) ∙ ap (λ (y : ℕ). walk l n set y j) b
+      walk-past l n set (sender n p) j (ap (has set) b ∙ f) ∙ ap (λ (y : ℕ). walk l n set y j) b
 
   step-here : (l q p : ℕ) → 1 ≤ q → p ≡ suc q → has set (sender n q) ≡ true → walk (suc l) n set (sender n p) 1 ≡ Member (sender n q)
   step-here l q p h e f =
@@ -93,7 +66,7 @@ module _ (n : ℕ) (pos : 1 ≤ n) (set : ℕ) where
   step-on : (l q j p : ℕ) → 1 ≤ q → 2 ≤ j → p ≡ suc q → has set (sender n q) ≡ true → walk (suc l) n set (sender n p) j ≡ walk l n set (sender n q) (j - 1)
   step-on l q j p h i e f =
       let b : previous n (sender n p) ≡ sender n q = ap (λ (y : ℕ). previous n (sender n y)) e ∙ previous-sender n pos q h in
-      walk-on l n set (sender n p) j i (ap (has set) b ∙ f) ∙ ap (λ (y : ℕ). walk l n set y (j - 1)) b
+      walk-on l n set (sender n p) j (λ q. omega arith) (ap (has set) b ∙ f) ∙ ap (λ (y : ℕ). walk l n set y (j - 1)) b
 
   -- the member just before is the first that is met
   nearest : (l a : ℕ) → 1 ≤ a → has set (sender n (a + l)) ≡ true → Met (suc l) a 1
@@ -129,7 +102,7 @@ module _ (n : ℕ) (pos : 1 ≤ n) (set : ℕ) where
       by-cases (has set (sender n (a + l)))
       (λ e. nearest l a h e)
       (λ e.
-      later l a 0 1 1 (ap num e) refl (step-past l (a + l) 1 (a + suc l) (omega arith) i (omega arith) e)
+      later l a 0 1 1 (ap num e) refl (step-past l (a + l) 1 (a + suc l) (omega arith) (omega arith) e)
       (walk-meets l a 1 h i (omega (arith, sum-next member a l, ap num e))))
   walk-meets (suc l) a (suc (suc j)) h i le =
       by-cases (has set (sender n (a + l)))
@@ -140,7 +113,7 @@ module _ (n : ℕ) (pos : 1 ≤ n) (set : ℕ) where
       (walk-meets l a (suc j) h (omega arith) (omega (arith, sum-next member a l, ap num e))))
       (λ e.
       later l a 0 (suc (suc j)) (suc (suc j)) (ap num e) (omega arith)
-      (step-past l (a + l) (suc (suc j)) (a + suc l) (omega arith) i (omega arith) e)
+      (step-past l (a + l) (suc (suc j)) (a + suc l) (omega arith) (omega arith) e)
       (walk-meets l a (suc (suc j)) h i (omega (arith, sum-next member a l, ap num e))))
 
   -- Where there are fewer, nobody is.
@@ -152,7 +125,7 @@ module _ (n : ℕ) (pos : 1 ≤ n) (set : ℕ) where
       step-on l (a + l) j (a + suc l) (omega arith) (omega (arith, sum-next member a l, ap num e)) (omega arith) e
       ∙ walk-none l a (j - 1) h (omega (arith, sum-next member a l, ap num e)))
       (λ e.
-      step-past l (a + l) j (a + suc l) (omega arith) (omega arith) (omega arith) e
+      step-past l (a + l) j (a + suc l) (omega arith) (omega arith) e
       ∙ walk-none l a j h (omega (arith, sum-next member a l, ap num e)))
 
   -- The members are met in slot order: a later one speaks in an earlier slot.
@@ -191,9 +164,9 @@ module _ (n : ℕ) (pos : 1 ≤ n) (set : ℕ) where
 
   -- ---- the walk of n - 1 slots: all but the node where it starts
 
-  pub before-is : (x j : ℕ) → 1 ≤ j → memberBefore n set x j ≡ walk (n - 1) n set x j
+  pub before-is : (x j : ℕ) → memberBefore n set x j ≡ walk (n - 1) n set x j
   unfolding memberBefore
-  before-is x j h = rw (ne-eqb j 0 (λ y. omega arith)) refl
+  before-is x j = refl
 
   -- the members of the n - 1 slots before slot a + (n - 1) are all but its sender
   pub others : (a : ℕ) → 1 ≤ a → sum member a (n - 1) + member (a + (n - 1)) ≡ size n set

@@ -2,49 +2,47 @@
 -- that is 1 (n not 3 to 32), 2 (k not 2 to n - 1), 3 (node number not 1 to n).
 use Prim.Native.Nat.{ℕ}
 use mathlib.Core.Bool.{cond}
-use lib.Dec.{eqb}
 use Rattle.refusal.specs.Causes.{cause}
+use Rattle.ring.specs.declared.Cable.{Cable}
 use Rattle.ring.specs.declared.Speaker.{Speaker}
-use Rattle.ring.specs.declared.Speaker.the-variants as Speaker
+use Rattle.ring.specs.declared.Speaker.the-variants as speaker
 use Rattle.ring.specs.declared.Found.{Found}
-use Rattle.ring.specs.declared.Found.the-variants as Found
+use Rattle.ring.specs.declared.Lookup.{Lookup}
+use Rattle.ring.specs.declared.Lookup.the-variants as lookup
 use Rattle.ring.specs.Ring.{ringSize, nodeNumber, sponsorCount, sender, memberBefore, sponsored, decided}
 
+-- ---- the answers: a node, or the refusal with this number
+
+abbrev pub speaks : ℕ → Speaker
+speaks x = speaker.Node x
+
+abbrev pub noSpeaker : ℕ → Speaker
+noSpeaker number = speaker.Refused (cause number)
+
+-- what is found, or the refusal with this number
+abbrev pub finds : Found → Lookup
+finds found = lookup.Found found
+
+abbrev pub refuses : ℕ → Lookup
+refuses number = lookup.Refused (cause number)
+
+-- ---- the calls
+
 abbrev pub senderOf : ℕ → ℕ → Speaker
-senderOf n s = cond (ringSize n) (Speaker.Node (sender n s)) (Speaker.Refused (cause 1))
+senderOf n s = cond (ringSize n) (speaks (sender n s)) (noSpeaker 1)
 
--- Inner: the number of the member found, 0 where there is none.
-abbrev pub memberIn : Found → ℕ
-memberIn (Found.Member m) = m
-memberIn Found.Nobody = 0
-memberIn (Found.Refused r) = 0
+abbrev pub beforeOf : ℕ → ℕ → ℕ → ℕ → Lookup
+beforeOf n set x j = cond (ringSize n) (cond (nodeNumber n x) (finds (memberBefore n set x j)) (refuses 3)) (refuses 1)
 
--- Inner: the member of a number, nobody where it is 0.
-abbrev pub foundAs : ℕ → Found
-foundAs m = cond (eqb m 0) Found.Nobody (Found.Member m)
+-- 1, 2 and 3, then what is found
+abbrev pub onCable : Cable → ℕ → Found → Lookup
+onCable cable x found =
+    cond (ringSize (cable .n))
+    (cond (sponsorCount cable) (cond (nodeNumber (cable .n) x) (finds found) (refuses 3)) (refuses 2))
+    (refuses 1)
 
--- 1 and 3, where no k is given
-abbrev pub onRing : ℕ → ℕ → Found → Found
-onRing n x answer = cond (ringSize n) (cond (nodeNumber n x) answer (Found.Refused (cause 3))) (Found.Refused (cause 1))
+abbrev pub sponsoredOf : Cable → ℕ → ℕ → ℕ → Lookup
+sponsoredOf cable set x j = onCable cable x (sponsored cable set x j)
 
--- 1, 2 and 3
-abbrev pub onSponsoredRing : ℕ → ℕ → ℕ → Found → Found
-onSponsoredRing n k x answer =
-    cond (ringSize n)
-    (cond (sponsorCount n k) (cond (nodeNumber n x) answer (Found.Refused (cause 3))) (Found.Refused (cause 2)))
-    (Found.Refused (cause 1))
-
-abbrev pub beforeOf : ℕ → ℕ → ℕ → ℕ → Found
-beforeOf n set x j = onRing n x (memberBefore n set x j)
-
-abbrev pub sponsoredOf : ℕ → ℕ → ℕ → ℕ → ℕ → Found
-sponsoredOf n k set x j = onSponsoredRing n k x (sponsored n k set x j)
-
-abbrev pub decidedOf : ℕ → ℕ → ℕ → ℕ → Found
-decidedOf n k set x = onSponsoredRing n k x (decided n k set x)
-
--- The nearest member before one that was found; where none was found, none is.
-abbrev pub beforeFound : ℕ → ℕ → Found → Found
-beforeFound n set (Found.Member x) = beforeOf n set x 1
-beforeFound n set Found.Nobody = Found.Nobody
-beforeFound n set (Found.Refused r) = Found.Refused r
+abbrev pub decidedOf : Cable → ℕ → ℕ → Lookup
+decidedOf cable set x = onCable cable x (decided cable set x)

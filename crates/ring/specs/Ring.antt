@@ -1,11 +1,20 @@
--- Document 01, "The ring", in the order of its sentences.
+-- Document 01, "The ring", in the order of its sentences. What set-up chooses for the whole cable, n and k, is one struct.
 use Prim.Native.Nat.{ℕ, zero, suc, _+_, _-_, _%_, min}
-use mathlib.Core.Bool.{Bool, cond, _&&_}
+use mathlib.Core.Bool.{Bool, false, cond, _&&_}
 use lib.Dec.{eqb, leb}
 use Rattle.nodeset.specs.Sums.{num}
 use Rattle.nodeset.specs.Sets.{has, size}
+use Rattle.ring.specs.declared.Cable.{Cable}
 use Rattle.ring.specs.declared.Found.{Found}
 use Rattle.ring.specs.declared.Found.the-variants.{Member, Nobody}
+
+-- The cable with these numbers.
+abbrev pub cableOf : ℕ → ℕ → Cable
+cableOf n k = record { n = n; k = k }
+
+-- The same choices.
+abbrev pub sameCable : Cable → Cable → Bool
+sameCable a b = eqb (a .n) (b .n) && eqb (a .k) (b .k)
 
 -- "n nodes are numbered 1 to n, n from 3 to 32."
 abbrev pub ringSize : ℕ → Bool
@@ -15,37 +24,51 @@ abbrev pub nodeNumber : ℕ → ℕ → Bool
 nodeNumber n x = leb 1 x && leb x n
 
 -- "k is from 2 to n - 1."
-abbrev pub sponsorCount : ℕ → ℕ → Bool
-sponsorCount n k = leb 2 k && leb k (n - 1)
+abbrev pub sponsorCount : Cable → Bool
+sponsorCount cable = leb 2 (cable .k) && leb (cable .k) (cable .n - 1)
 
 -- "The sender of slot s is ((s - 1) mod n) + 1."
 unfoldable pub sender : ℕ → ℕ → ℕ
 sender n s = (s - 1) % n + 1
 
 -- "With c members, ks is the smaller of k and c - 1." (With none it is 0.)
-abbrev pub ks : ℕ → ℕ → ℕ
-ks k c = min k (c - 1)
+abbrev pub ks : Cable → ℕ → ℕ
+ks cable c = min (cable .k) (c - 1)
 
 -- "Going back round the ring in slot order": the node whose slot comes just before that of node x.
 unfoldable pub previous : ℕ → ℕ → ℕ
-previous n x = cond (eqb x 1) n (x - 1)
+previous n x = cond (leb x 1) n (x - 1)
 
--- "The walk back along the ring is a recursion with a falling number of slots": the j-th member met from node x, in at most `left` slots.
+-- "The walk back along the ring is a recursion with a falling number of slots": the j-th member met from node x, in at most `left` slots. (There is no 0th.)
 unfoldable pub walk : ℕ → ℕ → ℕ → ℕ → ℕ → Found
 walk zero n set x j = Nobody
 walk (suc left) n set x j =
     let p = previous n x in
     let more = j - num (has set p) in
-    cond (eqb more 0) (Member p) (walk left n set p more)
+    cond (has set p && eqb j 1) (Member p) (walk left n set p more)
 
--- The j-th member before node x. The walk ends before it comes round to x; there is no 0th.
+-- The j-th member before node x. The walk ends before it comes round to x.
 unfoldable pub memberBefore : ℕ → ℕ → ℕ → ℕ → Found
-memberBefore n set x j = cond (eqb j 0) Nobody (walk (n - 1) n set x j)
+memberBefore n set x j = walk (n - 1) n set x j
+
+-- How many of the set's members one of them sponsors.
+unfoldable pub sponsors : Cable → ℕ → ℕ
+sponsors cable set = ks cable (size (cable .n) set)
 
 -- "A member sponsors the ks members before it": the j-th of those, the nearest first.
-unfoldable pub sponsored : ℕ → ℕ → ℕ → ℕ → ℕ → Found
-sponsored n k set x j = cond (leb j (ks k (size n set))) (memberBefore n set x j) Nobody
+unfoldable pub sponsored : Cable → ℕ → ℕ → ℕ → Found
+sponsored cable set x j = cond (leb 1 j && leb j (sponsors cable set)) (memberBefore (cable .n) set x j) Nobody
 
 -- "The one furthest back is the member it decides. With one member nobody is decided."
-unfoldable pub decided : ℕ → ℕ → ℕ → ℕ → Found
-decided n k set x = memberBefore n set x (ks k (size n set))
+unfoldable pub decided : Cable → ℕ → ℕ → Found
+decided cable set x = sponsored cable set x (sponsors cable set)
+
+-- The number of the member found; 0, which is in no set, where there is none.
+abbrev pub memberIn : Found → ℕ
+memberIn (Member m) = m
+memberIn Nobody = 0
+
+-- The member found is x.
+abbrev pub isFound : ℕ → Found → Bool
+isFound x (Member m) = eqb m x
+isFound x Nobody = false

@@ -2,9 +2,18 @@
 // set is any u32; its members are the nodes 1 to n in it.
 use refusal::Refusal;
 ghost use mathlib.Core.Path.{_≡_};
-ghost use Prim.Native.Nat.{_+_, _≤_};
-ghost use Rattle.ring.specs.Ring.{ringSize, nodeNumber, sponsorCount, ks, previous, walk};
-ghost use Rattle.ring.specs.Answers.{senderOf, memberIn, foundAs, beforeOf, sponsoredOf, decidedOf, beforeFound};
+ghost use Prim.Native.Nat.{_+_, _-_};
+ghost use Rattle.nodeset.specs.Sums.{num};
+ghost use Rattle.ring.specs.Ring.{sameCable, ringSize, nodeNumber, sponsorCount, ks, previous, memberBefore, sponsors, sponsored, decided};
+ghost use Rattle.ring.specs.Answers.{senderOf, beforeOf, sponsoredOf, decidedOf};
+ghost use Rattle.ring.specs.Places.{testsOf, startAt, reach, nearestOf, foundAs};
+
+// What set-up chooses for the whole cable: how many nodes are on it, and how many others a member
+// sponsors at the most.
+pub struct Cable {
+    pub n: u32,
+    pub k: u32,
+}
 
 // Whose slot it is.
 pub enum Speaker {
@@ -16,7 +25,25 @@ pub enum Speaker {
 pub enum Found {
     Member(u32),
     Nobody,
+}
+
+// What a call that looks for a member answers.
+pub enum Lookup {
+    Found(Found),
     Refused(Refusal),
+}
+
+// What comes of tests before a walk.
+enum Tests {
+    Passed,
+    Refused(Refusal),
+}
+
+// Whether two cables are the same.
+pub fn is_same_cable(a: Cable, b: Cable) -> bool
+    ensures { λ r. ⌜ r ≡ sameCable a b ⌝ }
+{
+    (a.n == b.n) & (a.k == b.k)
 }
 
 // Whether a ring may have n nodes.
@@ -33,30 +60,19 @@ pub fn is_node_number(n: u32, x: u32) -> bool
     1 <= x && x <= n
 }
 
-// Whether a member of a ring of n may sponsor k others.
-pub fn is_sponsor_count(n: u32, k: u32) -> bool
-    ensures { λ r. ⌜ r ≡ sponsorCount n k ⌝ }
+// Whether a member may sponsor k others.
+pub fn is_sponsor_count(cable: Cable) -> bool
+    ensures { λ r. ⌜ r ≡ sponsorCount cable ⌝ }
 {
-    2 <= k && k < n
-}
-
-// The sender of the slot that follows `done` slots.
-pub fn sender(n: u32, done: u64) -> Speaker
-    ensures { λ r. ⌜ r ≡ senderOf n (done + 1) ⌝ }
-{
-    if !is_ring_size(n) {
-        return Speaker::Refused(Refusal::RingSize);
-    }
-    let place = done % (n as u64);
-    Speaker::Node(place as u32 + 1)
+    2 <= cable.k && cable.k < cable.n
 }
 
 // How many of c members one of them sponsors.
-pub fn ks(k: u32, c: u32) -> u32
-    ensures { λ r. ⌜ r ≡ ks k c ⌝ }
+pub fn ks(cable: Cable, c: u32) -> u32
+    ensures { λ r. ⌜ r ≡ ks cable c ⌝ }
 {
-    if k < c {
-        return k;
+    if cable.k < c {
+        return cable.k;
     }
     if c == 0 {
         return 0;
@@ -64,29 +80,69 @@ pub fn ks(k: u32, c: u32) -> u32
     c - 1
 }
 
-// The node whose slot comes just before that of node x, which is 1 or more.
-fn previous(n: u32, x: u32) -> u32
-    requires { ⌜ 1 ≤ x ⌝ }
-    ensures { λ r. ⌜ r ≡ previous n x ⌝ }
-{
-    if x == 1 { n } else { x - 1 }
+// ---- Inner: the walk back, which takes every number as it is; the rules of a slot use it.
+
+// A place on the walk back: the node that it reached, and the slots that it may still go back from
+// there. Node 0: it met no further member.
+pub struct Place {
+    pub node: u32,
+    pub left: u32,
 }
 
-// The j-th member met on the walk back from node x, in at most `left` slots: one slot back, and on
-// from there; 0 where there is none. An inner function: j, x and n are 1 or more.
-fn walk(left: u32, n: u32, set: u32, x: u32, j: u32) -> u32
-    requires { ⌜ (1 ≤ n) × (1 ≤ x) × (1 ≤ j) ⌝ }
-    ensures { λ r. ⌜ r ≡ memberIn (walk left n set x j) ⌝ }
+// The node whose slot comes just before that of node x.
+fn previous(n: u32, x: u32) -> u32
+    ensures { λ r. ⌜ r ≡ previous n x ⌝ }
 {
-    if left == 0 {
+    if x <= 1 { n } else { x - 1 }
+}
+
+// How many members are still to be met, of j, after a slot whose node is one or not.
+fn still(j: u32, met: bool) -> u32
+    ensures { λ r. ⌜ r ≡ j - num met ⌝ }
+{
+    if !met {
+        return j;
+    }
+    if j == 0 {
         return 0;
     }
-    let p = previous(n, x);
-    let more = if nodeset::has(set, p) { j - 1 } else { j };
-    if more == 0 {
-        return p;
+    j - 1
+}
+
+// The place of the j-th member met on the walk back from node x, in at most `left` slots: one slot
+// back, and on from there.
+fn walk(left: u32, n: u32, set: u32, x: u32, j: u32) -> Place
+    ensures { λ r. ⌜ r ≡ reach left n set x j ⌝ }
+{
+    if left == 0 {
+        return Place { node: 0, left: 0 };
     }
-    walk(left - 1, n, set, p, more)
+    let p = previous(n, x);
+    let met = nodeset::has(set, p);
+    if met & (j == 1) {
+        return Place {
+            node: p,
+            left: left - 1,
+        };
+    }
+    walk(left - 1, n, set, p, still(j, met))
+}
+
+// Where the walk back from node x begins. It ends before it comes round to x.
+pub fn start_at(n: u32, x: u32) -> Place
+    ensures { λ r. ⌜ r ≡ startAt n x ⌝ }
+{
+    Place {
+        node: x,
+        left: if n == 0 { 0 } else { n - 1 },
+    }
+}
+
+// The place of the nearest member before a place.
+pub fn nearest(n: u32, set: u32, place: Place) -> Place
+    ensures { λ r. ⌜ r ≡ nearestOf n set place ⌝ }
+{
+    walk(place.left, n, set, place.node, 1)
 }
 
 // The member of this number; nobody where it is 0.
@@ -100,60 +156,108 @@ fn found_as(m: u32) -> Found
 }
 
 // The j-th member before node x.
-pub fn before(n: u32, set: u32, x: u32, j: u32) -> Found
-    ensures { λ r. ⌜ r ≡ beforeOf n set x j ⌝ }
+pub fn member_before(n: u32, set: u32, x: u32, j: u32) -> Found
+    ensures { λ r. ⌜ r ≡ memberBefore n set x j ⌝ }
 {
-    if !is_ring_size(n) {
-        return Found::Refused(Refusal::RingSize);
-    }
-    if !is_node_number(n, x) {
-        return Found::Refused(Refusal::NodeNumber);
-    }
-    if j == 0 {
-        return Found::Nobody;
-    }
-    found_as(walk(n - 1, n, set, x, j))
+    let start = start_at(n, x);
+    let place = walk(start.left, n, set, x, j);
+    found_as(place.node)
 }
 
-// The nearest member before one that was found.
-pub fn before_found(n: u32, set: u32, found: Found) -> Found
-    ensures { λ r. ⌜ r ≡ beforeFound n set found ⌝ }
+// How many of the set's members one of them sponsors.
+pub fn sponsors(cable: Cable, set: u32) -> u32
+    ensures { λ r. ⌜ r ≡ sponsors cable set ⌝ }
 {
-    match found {
-        Found::Member(x) => before(n, set, x, 1),
-        Found::Nobody => found,
-        Found::Refused(_) => found,
-    }
+    ks(cable, nodeset::size(cable.n, set))
 }
 
 // The j-th member that node x sponsors, the nearest first.
-pub fn sponsored(n: u32, k: u32, set: u32, x: u32, j: u32) -> Found
-    ensures { λ r. ⌜ r ≡ sponsoredOf n k set x j ⌝ }
+pub fn sponsored_member(cable: Cable, set: u32, x: u32, j: u32) -> Found
+    ensures { λ r. ⌜ r ≡ sponsored cable set x j ⌝ }
 {
-    if !is_ring_size(n) {
-        return Found::Refused(Refusal::RingSize);
-    }
-    if !is_sponsor_count(n, k) {
-        return Found::Refused(Refusal::SponsorCount);
-    }
-    if !is_node_number(n, x) {
-        return Found::Refused(Refusal::NodeNumber);
-    }
-    if ks(k, nodeset::size(n, set)) < j {
+    if j == 0 {
         return Found::Nobody;
     }
-    before(n, set, x, j)
+    if sponsors(cable, set) < j {
+        return Found::Nobody;
+    }
+    member_before(cable.n, set, x, j)
 }
 
-// The member that node x decides.
-pub fn decided(n: u32, k: u32, set: u32, x: u32) -> Found
-    ensures { λ r. ⌜ r ≡ decidedOf n k set x ⌝ }
+// The member that node x decides: the last that it sponsors.
+pub fn decided_member(cable: Cable, set: u32, x: u32) -> Found
+    ensures { λ r. ⌜ r ≡ decided cable set x ⌝ }
+{
+    sponsored_member(cable, set, x, sponsors(cable, set))
+}
+
+// ---- The calls
+
+// The sender of the slot that follows `done` slots. Refuses by 1.
+pub fn sender(n: u32, done: u64) -> Speaker
+    ensures { λ r. ⌜ r ≡ senderOf n (done + 1) ⌝ }
 {
     if !is_ring_size(n) {
-        return Found::Refused(Refusal::RingSize);
+        return Speaker::Refused(Refusal::RingSize);
     }
-    if !is_sponsor_count(n, k) {
-        return Found::Refused(Refusal::SponsorCount);
+    let place = done % (n as u64);
+    Speaker::Node(place as u32 + 1)
+}
+
+// The j-th member before node x. Refuses by 1 and 3.
+pub fn before(n: u32, set: u32, x: u32, j: u32) -> Lookup
+    ensures { λ r. ⌜ r ≡ beforeOf n set x j ⌝ }
+{
+    if !is_ring_size(n) {
+        return Lookup::Refused(Refusal::RingSize);
     }
-    before(n, set, x, ks(k, nodeset::size(n, set)))
+    if !is_node_number(n, x) {
+        return Lookup::Refused(Refusal::NodeNumber);
+    }
+    let found = member_before(n, set, x, j);
+    Lookup::Found(found)
+}
+
+// Whether a cable and node x pass the tests: 1, 2 and 3.
+fn tests_of(cable: Cable, x: u32) -> Tests
+    ensures { λ r. ⌜ r ≡ testsOf cable x ⌝ }
+{
+    if !is_ring_size(cable.n) {
+        return Tests::Refused(Refusal::RingSize);
+    }
+    if !is_sponsor_count(cable) {
+        return Tests::Refused(Refusal::SponsorCount);
+    }
+    if !is_node_number(cable.n, x) {
+        return Tests::Refused(Refusal::NodeNumber);
+    }
+    Tests::Passed
+}
+
+// The j-th member that node x sponsors, the nearest first. Refuses by 1, 2 and 3.
+pub fn sponsored(cable: Cable, set: u32, x: u32, j: u32) -> Lookup
+    ensures { λ r. ⌜ r ≡ sponsoredOf cable set x j ⌝ }
+{
+    let tests = tests_of(cable, x);
+    match tests {
+        Tests::Passed => {
+            let found = sponsored_member(cable, set, x, j);
+            Lookup::Found(found)
+        }
+        Tests::Refused(cause) => Lookup::Refused(cause),
+    }
+}
+
+// The member that node x decides. Refuses by 1, 2 and 3.
+pub fn decided(cable: Cable, set: u32, x: u32) -> Lookup
+    ensures { λ r. ⌜ r ≡ decidedOf cable set x ⌝ }
+{
+    let tests = tests_of(cable, x);
+    match tests {
+        Tests::Passed => {
+            let found = decided_member(cable, set, x);
+            Lookup::Found(found)
+        }
+        Tests::Refused(cause) => Lookup::Refused(cause),
+    }
 }

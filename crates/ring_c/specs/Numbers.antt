@@ -6,6 +6,8 @@ use Rattle.ring.specs.declared.Speaker.{Speaker}
 use Rattle.ring.specs.declared.Speaker.the-variants as speaker
 use Rattle.ring.specs.declared.Found.{Found}
 use Rattle.ring.specs.declared.Found.the-variants as found
+use Rattle.ring.specs.declared.Lookup.{Lookup}
+use Rattle.ring.specs.declared.Lookup.the-variants as lookup
 
 -- the node whose slot it is
 abbrev pub speakerNumber : Speaker → ℕ
@@ -16,4 +18,7 @@ speakerNumber (speaker.Refused cause) = numberOf cause
 abbrev pub foundNumber : Found → ℕ
 foundNumber (found.Member x) = 2 ^ 33 + x
 foundNumber found.Nobody = 2 ^ 33 + 2 ^ 32
-foundNumber (found.Refused cause) = numberOf cause
+
+abbrev pub lookupNumber : Lookup → ℕ
+lookupNumber (lookup.Found found) = foundNumber found
+lookupNumber (lookup.Refused cause) = numberOf cause

@@ -1,13 +1,15 @@
 // The functions of nodeset and ring for callers in Rust and C, which take and give numbers alone.
 // Each answers what the function of its name does; an answer that is an enum is one number.
+use ring::Cable;
 use ring::Found;
+use ring::Lookup;
 use ring::Speaker;
 ghost use mathlib.Core.Path.{_≡_};
 ghost use Prim.Native.Nat.{_+_};
 ghost use Rattle.nodeset.specs.Sets.{has, with, without, union, full, within, subset, size, distance, run};
-ghost use Rattle.ring.specs.Ring.{ringSize, nodeNumber, sponsorCount, ks};
-ghost use Rattle.ring.specs.Answers.{senderOf, beforeOf, beforeFound, sponsoredOf, decidedOf};
-ghost use Rattle.ring_c.specs.Numbers.{speakerNumber, foundNumber};
+ghost use Rattle.ring.specs.Ring.{cableOf, ringSize, nodeNumber, sponsorCount, ks};
+ghost use Rattle.ring.specs.Answers.{senderOf, beforeOf, sponsoredOf, decidedOf};
+ghost use Rattle.ring_c.specs.Numbers.{speakerNumber, foundNumber, lookupNumber};
 
 // ---- Sets
 
@@ -99,16 +101,16 @@ pub extern "C" fn ring_is_node_number(n: u32, x: u32) -> bool
 
 #[no_mangle]
 pub extern "C" fn ring_is_sponsor_count(n: u32, k: u32) -> bool
-    ensures { λ r. ⌜ r ≡ sponsorCount n k ⌝ }
+    ensures { λ r. ⌜ r ≡ sponsorCount (cableOf n k) ⌝ }
 {
-    ring::is_sponsor_count(n, k)
+    ring::is_sponsor_count(Cable { n, k })
 }
 
 #[no_mangle]
-pub extern "C" fn ring_ks(k: u32, c: u32) -> u32
-    ensures { λ r. ⌜ r ≡ ks k c ⌝ }
+pub extern "C" fn ring_ks(n: u32, k: u32, c: u32) -> u32
+    ensures { λ r. ⌜ r ≡ ks (cableOf n k) c ⌝ }
 {
-    ring::ks(k, c)
+    ring::ks(Cable { n, k }, c)
 }
 
 // Whose slot follows `done` slots: the refusal's number, or 2^33 and the node.
@@ -122,42 +124,43 @@ pub extern "C" fn ring_sender(n: u32, done: u64) -> u64
     }
 }
 
-// The refusal's number, or 2^33 and the member, or 2^33 and 2^32 for nobody.
+// 2^33 and the member, or 2^33 and 2^32 for nobody.
 fn found_number(found: Found) -> u64
     ensures { λ r. ⌜ r ≡ foundNumber found ⌝ }
 {
     match found {
         Found::Member(x) => 0x2_0000_0000 + x as u64,
         Found::Nobody => 0x3_0000_0000,
-        Found::Refused(cause) => refusal::number(cause) as u64,
+    }
+}
+
+// The refusal's number, or that of what is found.
+fn lookup_number(lookup: Lookup) -> u64
+    ensures { λ r. ⌜ r ≡ lookupNumber lookup ⌝ }
+{
+    match lookup {
+        Lookup::Found(found) => found_number(found),
+        Lookup::Refused(cause) => refusal::number(cause) as u64,
     }
 }
 
 #[no_mangle]
 pub extern "C" fn ring_before(n: u32, set: u32, x: u32, j: u32) -> u64
-    ensures { λ r. ⌜ r ≡ foundNumber (beforeOf n set x j) ⌝ }
+    ensures { λ r. ⌜ r ≡ lookupNumber (beforeOf n set x j) ⌝ }
 {
-    found_number(ring::before(n, set, x, j))
-}
-
-// The nearest member before the j-th one before node x.
-#[no_mangle]
-pub extern "C" fn ring_before_found(n: u32, set: u32, x: u32, j: u32) -> u64
-    ensures { λ r. ⌜ r ≡ foundNumber (beforeFound n set (beforeOf n set x j)) ⌝ }
-{
-    found_number(ring::before_found(n, set, ring::before(n, set, x, j)))
+    lookup_number(ring::before(n, set, x, j))
 }
 
 #[no_mangle]
 pub extern "C" fn ring_sponsored(n: u32, k: u32, set: u32, x: u32, j: u32) -> u64
-    ensures { λ r. ⌜ r ≡ foundNumber (sponsoredOf n k set x j) ⌝ }
+    ensures { λ r. ⌜ r ≡ lookupNumber (sponsoredOf (cableOf n k) set x j) ⌝ }
 {
-    found_number(ring::sponsored(n, k, set, x, j))
+    lookup_number(ring::sponsored(Cable { n, k }, set, x, j))
 }
 
 #[no_mangle]
 pub extern "C" fn ring_decided(n: u32, k: u32, set: u32, x: u32) -> u64
-    ensures { λ r. ⌜ r ≡ foundNumber (decidedOf n k set x) ⌝ }
+    ensures { λ r. ⌜ r ≡ lookupNumber (decidedOf (cableOf n k) set x) ⌝ }
 {
-    found_number(ring::decided(n, k, set, x))
+    lookup_number(ring::decided(Cable { n, k }, set, x))
 }

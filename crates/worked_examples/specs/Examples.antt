@@ -10,7 +10,8 @@ use Rattle.nodeset.specs.Sums.{sum}
 use Rattle.nodeset.specs.Sets.{with}
 use Rattle.ring.specs.declared.Speaker.the-variants as speaker
 use Rattle.ring.specs.declared.Found.the-variants as found
-use Rattle.ring.specs.Answers.{senderOf, sponsoredOf, decidedOf}
+use Rattle.ring.specs.Ring.{cableOf}
+use Rattle.ring.specs.Answers.{finds, senderOf, sponsoredOf, decidedOf}
 use Rattle.message.specs.declared.Reading.{Reading}
 use Rattle.message.specs.declared.Reading.the-variants as reading
 use Rattle.message.specs.declared.Written.the-variants as written
@@ -19,7 +20,7 @@ use Rattle.node_record.specs.declared.Node.{Node}
 use Rattle.node_record.specs.declared.State.{State}
 use Rattle.node_record.specs.declared.State.the-variants as state
 use Rattle.node_record.specs.States.{causeNumber}
-use Rattle.bench.specs.Table.{Table, recordOf, ringOf}
+use Rattle.bench.specs.Table.{Table, recordOf, nodeCount}
 use Rattle.bench.specs.Calls.{setUpOf, greatest}
 use Rattle.bench.specs.Runs.{Call, slot, off, tableAfter, entry}
 use Rattle.plan_line.specs.Words.{bytes}
@@ -83,15 +84,15 @@ miss nodes = slot false (these nodes) 64
 
 -- The table after a plan, over a table that was lent to set-up.
 abbrev pub after : ℕ → ℕ → Table → List Call → Table
-after n k lent plan = tableAfter (setUpOf n k lent .table) (reverse plan)
+after n k lent plan = tableAfter (setUpOf (cableOf n k) lent .table) (reverse plan)
 
 -- The failures in the first m slots of a plan.
 abbrev pub failures : ℕ → ℕ → Table → List Call → ℕ → ℕ
-failures n k lent plan m = sum (λ u. entry (setUpOf n k lent .table) (reverse plan) u .failures) 1 m
+failures n k lent plan m = sum (λ u. entry (setUpOf (cableOf n k) lent .table) (reverse plan) u .failures) 1 m
 
 -- The greatest distance between sets of two members.
 abbrev pub apart : Table → ℕ
-apart t = greatest (ringOf t) t
+apart t = greatest (nodeCount t) t
 
 -- ---- plans, and the listing
 
@@ -129,17 +130,17 @@ examples lent =
     (senderOf 4 4 gives speaker.Node 4)
     ∷ (senderOf 4 5 gives speaker.Node 1)
     -- "set {1,3,4}, k = 2: node 1 sponsors 4, 3 and decides 3."
-    ∷ (sponsoredOf 4 2 (these (1 ∷ 3 ∷ 4 ∷ [])) 1 1 gives found.Member 4)
-    ∷ (sponsoredOf 4 2 (these (1 ∷ 3 ∷ 4 ∷ [])) 1 2 gives found.Member 3)
-    ∷ (sponsoredOf 4 2 (these (1 ∷ 3 ∷ 4 ∷ [])) 1 3 gives found.Nobody)
-    ∷ (decidedOf 4 2 (these (1 ∷ 3 ∷ 4 ∷ [])) 1 gives found.Member 3)
+    ∷ (sponsoredOf (cableOf 4 2) (these (1 ∷ 3 ∷ 4 ∷ [])) 1 1 gives finds (found.Member 4))
+    ∷ (sponsoredOf (cableOf 4 2) (these (1 ∷ 3 ∷ 4 ∷ [])) 1 2 gives finds (found.Member 3))
+    ∷ (sponsoredOf (cableOf 4 2) (these (1 ∷ 3 ∷ 4 ∷ [])) 1 3 gives finds found.Nobody)
+    ∷ (decidedOf (cableOf 4 2) (these (1 ∷ 3 ∷ 4 ∷ [])) 1 gives finds (found.Member 3))
     -- "set {2,5}, k = 3: node 5 sponsors and decides 2."
-    ∷ (sponsoredOf 5 3 (these (2 ∷ 5 ∷ [])) 5 1 gives found.Member 2)
-    ∷ (sponsoredOf 5 3 (these (2 ∷ 5 ∷ [])) 5 2 gives found.Nobody)
-    ∷ (decidedOf 5 3 (these (2 ∷ 5 ∷ [])) 5 gives found.Member 2)
+    ∷ (sponsoredOf (cableOf 5 3) (these (2 ∷ 5 ∷ [])) 5 1 gives finds (found.Member 2))
+    ∷ (sponsoredOf (cableOf 5 3) (these (2 ∷ 5 ∷ [])) 5 2 gives finds found.Nobody)
+    ∷ (decidedOf (cableOf 5 3) (these (2 ∷ 5 ∷ [])) 5 gives finds (found.Member 2))
     -- "set {2}: nobody."
-    ∷ (sponsoredOf 5 3 (these (2 ∷ [])) 2 1 gives found.Nobody)
-    ∷ (decidedOf 5 3 (these (2 ∷ [])) 2 gives found.Nobody)
+    ∷ (sponsoredOf (cableOf 5 3) (these (2 ∷ [])) 2 1 gives finds found.Nobody)
+    ∷ (decidedOf (cableOf 5 3) (these (2 ∷ [])) 2 gives finds found.Nobody)
     -- "k = 2, both yes, no return: 02 03 01 00."
     ∷ (writeOf 2 0b11 false (replicate 4 0xAA) gives (written.Bytes 4, 0x02 ∷ 0x03 ∷ 0x01 ∷ 0x00 ∷ []))
     -- "k = 9, all yes, return: 09 FF 01 01 01."

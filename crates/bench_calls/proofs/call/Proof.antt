@@ -178,7 +178,7 @@ module _ {M : Type 1} (𝓤 : URA M) (H : Heap 𝓤) (A : Atoms 𝓤) (W : Given
         lends ! (fmOf 𝓤 H (W .laws) 𝓣) (UInt w8) (plain (λ _. O.the-row) ∷ plain (λ _. N.the-row) ∷ plain (λ _. Ms.the-row) ∷ []) (yes, (yes, (yes, tt))) (plain (λ _. Rp.the-row)) (tell.clauses 𝓤 H A mem run) known-tell κ′ q′ γ′ b′ o′ out (length out) refl room′
         (λ κs. (order, (notes, (members, tt)))) (λ κs. (w, (m, (ms, tt)))) (λ κs. (g-w, (g-m, (g-ms, tt)))) (λ κs δ. tt) (λ κs δ. id⊢ 𝓤 _) (λ κs ws r. (r ≡ replyBy w m ms) × (ws ≡ writtenBy w m out)) (λ κs δ r ws. id⊢ 𝓤 _)
         (λ ν δ i j. and-then ! (arg ! 4 refl) (and-then ! (arg ! 28 refl) (and-then ! (arg ! 26 refl) (and-then ! (arg ! 22 refl) (no-more !))))) (λ κs. reply) (λ κs Δ. from ! (stop !)) 38 (λ κs. refl) (λ κs ws r g-r same′ is-r.
-        returns ! (look ! 40 refl) $ frees ! 40 refl refl $ frees ! 38 refl refl $ frees ! 36 refl refl $ frees ! 34 refl refl $ frees ! 32 refl refl $ frees ! 30 refl refl $ frees ! 28 refl refl $ frees ! 26 refl refl $ frees ! 24 refl refl $ frees ! 22 refl refl $ frees ! 20 refl refl $ frees ! 18 refl refl $ frees ! 16 refl refl $ frees ! 14 refl refl $ frees ! 12 refl refl $ frees ! 10 refl refl $ frees ! 8 refl refl $ frees ! 6 refl refl $ frees ! 4 refl refl $ free0 ! $
+        returns ! (look ! 40 refl) $ frees ! 40 {τ = reply .mir} refl refl $ frees ! 38 refl refl $ frees ! 36 refl refl $ frees ! 34 {τ = command .mir} refl refl $ frees ! 32 refl refl $ frees ! 30 {τ = survey .mir} refl refl $ frees ! 28 {τ = order .mir} refl refl $ frees ! 26 {τ = notes .mir} refl refl $ frees ! 24 refl refl $ frees ! 22 {τ = members .mir} refl refl $ frees ! 20 refl refl $ frees ! 18 refl refl $ frees ! 16 refl refl $ frees ! 14 refl refl $ frees ! 12 refl refl $ frees ! 10 refl refl $ frees ! 8 refl refl $ frees ! 6 refl refl $ frees ! 4 refl refl $ free0 ! $
         by ! (exits zs ws r g-r (call-run c xs out v w m zs j ms r ws is-v is-w is-m is-j is-ms is-r) same same′))))))))))))))))))))))))))
 
   meets : Meets 𝓤 H A this.signature (WpFn 𝓤 H (𝓣 .C) (𝓣 .Λ) code.function) (this.spec 𝓤 H A mem run)

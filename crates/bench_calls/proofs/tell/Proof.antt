@@ -34,7 +34,7 @@ returns c =
     let count = c .before .before .before .before .before .before .before .pairs-by .ensures in (
       ap₂ {C = Reply} (λ (x : Outcome) (y : ℕ). record { outcome = x; pairs = y }) (c .outcome-by .ensures) count,
       c .before .before .before .before .put-bytes .ensures
-          ∙ ap (λ (j : ℕ). puts (a .notes .told .bytes) j (now (a .pairs))) (c .before .before .before .before .before .before .bytes-told .ensures ∙ ap (λ (k : ℕ). bytesTold k (length (now (a .pairs)))) count),
+          ∙ ap (λ (j : ℕ). puts (a .notes .pairs .bytes) j (now (a .pairs))) (c .before .before .before .before .before .before .bytes-told .ensures ∙ ap (λ (k : ℕ). bytesTold k (length (now (a .pairs)))) count),
     )
 
 pub tell-spec : {M : Type 1} → statement M

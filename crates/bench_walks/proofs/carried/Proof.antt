@@ -46,7 +46,7 @@ returns c = sym (ap (λ (o : Order). carried o (c .before .before .args .i) (c .
 
 returns-2 : tie.Need-returns-2
 unfolding carried
-returns-2 c = c .starting .ensures ∙ ap (starting _ _) (c .before .place-of .ensures) ∙ sym (ap (λ (o : Order). carried o (c .before .before .before .before .before .args .i) (c .before .before .before .before .before .args .v)) (c .before .before .before .order .given .1))
+returns-2 c = c .starting .ensures ∙ ap (starting _) (c .before .place-of .ensures) ∙ sym (ap (λ (o : Order). carried o (c .before .before .before .before .before .args .i) (c .before .before .before .before .before .args .v)) (c .before .before .before .order .given .1))
 
 returns-3 : tie.Need-returns-3
 unfolding carried

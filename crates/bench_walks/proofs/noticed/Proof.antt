@@ -1,24 +1,24 @@
 -- `bench_walks::noticed` meets its contract: its parts are those of the definition. Assumes nothing.
 use borrow.Author.Needs.{needs}
 use mathlib.Core.Path.{ap, _∙_}
-use Rattle.bench_walks.specs.declared.Told.{Told}
-use Rattle.bench_walks.specs.declared.Sight.{Sight}
+use Rattle.bench_walks.specs.declared.Pairs.{Pairs}
+use Rattle.bench_walks.specs.declared.Lists.{Lists}
 use Rattle.bench_walks.specs.declared.Notes.{Notes}
-use Rattle.bench_walks.specs.Orders.{noted, noticed}
+use Rattle.bench_walks.specs.Orders.{withPair, noticed}
 use Rattle.bench_walks.proofs.noticed.Statement.{statement}
 use Rattle.bench_walks.proofs.noticed.Tie as tie
 
-noted-requires : tie.Need-noted-requires
-noted-requires c κs = search needs
+with-pair-requires : tie.Need-with-pair-requires
+with-pair-requires c κs = search needs
 
-sighted-requires : tie.Need-sighted-requires
-sighted-requires c κs = search needs
+lists-with-requires : tie.Need-lists-with-requires
+lists-with-requires c κs = search needs
 
 returns : tie.Need-returns
 unfolding noticed
 returns c =
     let a = c .before .before .before .before .args in
-    ap {B = Notes} (λ (p : Told). record { told = p; sight = c .sighted .result }) (c .before .noted .ensures) ∙ ap {B = Notes} (λ (s : Sight). record { told = noted (a .notes .told) (a .before) (a .after); sight = s }) (c .sighted .ensures)
+    ap {B = Notes} (λ (p : Pairs). record { pairs = p; lists = c .lists-with .result }) (c .before .with-pair .ensures) ∙ ap {B = Notes} (λ (s : Lists). record { pairs = withPair (a .notes .pairs) (a .before) (a .after); lists = s }) (c .lists-with .ensures)
 
 pub noticed-spec : {M : Type 1} → statement M
-noticed-spec = tie.close (tie.spec noted-requires sighted-requires returns)
+noticed-spec = tie.close (tie.spec with-pair-requires lists-with-requires returns)

@@ -50,7 +50,7 @@ unfolding sendOf
 returns-4 c =
     let a = c .before .before .before .before .before .before .before .before .before .before .before .before .before .args in
     c .before .before .write .ensures
-    ∙ ap₂ (λ (bits : ℕ) (b : Bool). writeOf (a .v .k) bits b (now (a .out))) (c .before .before .before .before .before .bits-sent .ensures) (c .before .before .before .before .return-sent .ensures)
+    ∙ ap₂ (λ (bits : ℕ) (b : Bool). writeOf (a .v .cable .k) bits b (now (a .out))) (c .before .before .before .before .before .bits-sent .ensures) (c .before .before .before .before .return-sent .ensures)
     ∙ sym (
     chosen _ _ (passed (c .before .before .before .before .before .before .before .before .before .before .before .is-sound .ensures) (c .before .before .before .before .before .before .before .before .before .before .if1 .left))
     ∙ otherwise _ _ (lt-leb _ _ (c .before .before .before .before .before .before .before .before .if2 .left))

@@ -1,5 +1,5 @@
--- `node::step` meets its contract: its tests are in the table's order; on a ring the sender is never refused; the slot goes by the record's own
--- lesson. Assumes nothing.
+-- `node::step` meets its contract: its tests are in the table's order; on a ring the sender is never refused; the slot goes by the digest of the
+-- record's own set. Assumes nothing.
 use borrow.Author.Needs.{needs}
 use Prim.Native.Nat.{ℕ, _+_}
 use mathlib.Core.Path.{_≡_, refl, sym, ap, _∙_}
@@ -12,21 +12,22 @@ use Rattle.node_record.specs.declared.Node.{Node}
 use Rattle.node_record.specs.Soundness.{sound}
 use Rattle.node_record.proofs.Facts.{clauses}
 use Rattle.node_changes.specs.Changes.{counted}
-use Rattle.node_steps.specs.declared.Lesson.{Lesson}
-use Rattle.node_steps.specs.Lessons.{lessonOf}
-use Rattle.node.specs.Slot.{afterSlot, afterBy}
+use Rattle.node_steps.specs.declared.Digest.{Digest}
+use Rattle.node_steps.specs.Digests.{digestOf}
+use Rattle.node_slot.specs.Slot.{afterSlot}
+use Rattle.node_slot.specs.Inner.{afterBy}
+use Rattle.node_slot.proofs.Digests.{sound-own, sound-marks, after-digest}
 use Rattle.node.specs.Calls.{done, stepOf}
-use Rattle.node.proofs.Taught.{sound-own, sound-marks, after-taught}
 use Rattle.node.proofs.step.Statement.{statement}
 use Rattle.node.proofs.step.Tie as tie
 
--- the record after the slot of x by the record's own lesson, where x is the sender y
-by-own-lesson : (x y : ℕ) (heard : Reading) (v r : Node) (l : Lesson) → sound v ≡ true → r ≡ afterBy l x heard (counted v) → l ≡ lessonOf x heard (counted v) → x ≡ y
+-- the record after the slot of x by the digest of the record's own set, where x is the sender y
+by-own-digest : (x y : ℕ) (heard : Reading) (v r : Node) (d : Digest) → sound v ≡ true → r ≡ afterBy d x heard (counted v) → d ≡ digestOf x heard (v .cable) (v .set) → x ≡ y
     → r ≡ afterSlot y heard (counted v)
-by-own-lesson x y heard v r l good e f g =
+by-own-digest x y heard v r d good e f g =
     e
-    ∙ ap (λ (t : Lesson). afterBy t x heard (counted v)) f
-    ∙ after-taught x heard heard (counted v) (counted v) (λ _. refl) refl refl (sound-own v good) (sound-marks v good)
+    ∙ ap (λ (t : Digest). afterBy t x heard (counted v)) f
+    ∙ after-digest x heard heard (v .cable) (v .set) (counted v) (λ _. refl) refl (sound-own v good) (sound-marks v good)
     ∙ ap (λ (t : ℕ). afterSlot t heard (counted v)) g
 
 is-sound-requires : tie.Need-is-sound-requires
@@ -54,13 +55,13 @@ unfolding stepOf
 returns-3 c =
     let v = c .before .before .before .before .before .before .before .args .v in
     let good = passed (c .before .before .before .before .before .before .is-sound .ensures) (c .before .before .before .before .before .if1 .left) in
-    absurd (no-refusal (v .n) (v .slots + 1) _ (c .before .before .sender .result) (clauses v good .ring) (c .before .before .sender .ensures) (c .enum-told .given .1))
+    absurd (no-refusal (v .cable .n) (v .slots + 1) _ (c .before .before .sender .result) (clauses v good .ring) (c .before .before .sender .ensures) (c .enum-told .given .1))
 
 add-counted : tie.Need-add-counted
 add-counted c = search needs
 
-lesson-of-requires : tie.Need-lesson-of-requires
-lesson-of-requires c κs = search needs
+digest-of-requires : tie.Need-digest-of-requires
+digest-of-requires c κs = search needs
 
 after-slot-requires : tie.Need-after-slot-requires
 after-slot-requires c κs = search needs
@@ -68,12 +69,12 @@ after-slot-requires c κs = search needs
 returns-4 : tie.Need-returns-4
 unfolding stepOf
 returns-4 c =
-    let q = c .before .before .before .before .before .before in
+    let q = c .before .before .before .before .before .before .before in
     let a = q .before .before .before .before .before .args in
     let v = a .v in
     let good = passed (q .before .before .before .before .is-sound .ensures) (q .before .before .before .if1 .left) in
-    let s = is-sender (v .n) (v .slots + 1) _ (q .sender .result) (clauses v good .ring) (q .sender .ensures) (c .before .before .before .before .speaker .given .1) in
-    ap done (by-own-lesson _ _ (a .heard) v _ _ good (c .after-slot .ensures) (c .before .lesson-of .ensures) s)
+    let s = is-sender (v .cable .n) (v .slots + 1) _ (q .sender .result) (clauses v good .ring) (q .sender .ensures) (c .before .before .before .before .before .speaker .given .1) in
+    ap done (by-own-digest _ _ (a .heard) v _ _ good (c .after-slot .ensures) (c .before .digest-of .ensures) s)
     ∙ sym (chosen _ _ good ∙ otherwise _ _ (lt-leb _ _ (q .before .if2 .left)))
 
 pub step-spec : {M : Type 1} → statement M
@@ -88,6 +89,6 @@ step-spec =
     enum-told
     returns-3
     add-counted
-    lesson-of-requires
+    digest-of-requires
     after-slot-requires
     returns-4)

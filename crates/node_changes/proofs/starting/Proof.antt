@@ -9,7 +9,7 @@ full-requires : tie.Need-full-requires
 full-requires c κs = search needs
 
 returns : tie.Need-returns
-returns c = ap (beginning (c .before .args .n) (c .before .args .k) (c .before .args .own)) (c .full .ensures)
+returns c = ap (beginning (c .before .args .cable) (c .before .args .own)) (c .full .ensures)
 
 pub starting-spec : {M : Type 1} → statement M
 starting-spec = tie.close (tie.spec full-requires returns)

@@ -11,7 +11,7 @@ use Rattle.message.specs.declared.Reading.the-variants.{Heard, Refused}
 use Rattle.node_record.specs.declared.Node.{Node}
 use Rattle.node_record.specs.declared.Window.{Window}
 use Rattle.node_changes.specs.Changes.{withWindow}
-use Rattle.node_hearing.specs.Hearing.{overheard, withDone, clean, windowEnd, listeningSlot}
+use Rattle.node_hearing.specs.Hearing.{overheard, withDone, clean, windowEnd, goesOn, listeningBy}
 use Rattle.node_hearing.proofs.listening_slot.Statement.{statement}
 use Rattle.node_hearing.proofs.listening_slot.Tie as tie
 
@@ -30,18 +30,18 @@ unfolding windowEnd clean
 end-any done w v = refl
 
 -- where the window goes on, and where it ends
-goes-on : (s : ℕ) (heard : Reading) (v : Node) → v .listening .done + 1 < v .n
-    → withWindow (withDone (v .listening .done + 1) (overheard s heard (v .listening))) v ≡ listeningSlot s heard v
-unfolding listeningSlot
+goes-on : (s : ℕ) (heard : Reading) (v : Node) → v .listening .done + 1 < v .cable .n
+    → withWindow (withDone (v .listening .done + 1) (overheard s heard (v .listening))) v ≡ listeningBy s heard v
+unfolding listeningBy goesOn
 goes-on s heard v t =
     ap (λ (w : Window). withWindow w v) (counts s heard (v .listening))
-    ∙ sym (chosen _ _ (lt-ltb (overheard s heard (v .listening) .done) (v .n) (omega (arith, done-is s heard (v .listening)))))
+    ∙ sym (chosen _ _ (lt-ltb (overheard s heard (v .listening) .done) (v .cable .n) (omega (arith, done-is s heard (v .listening)))))
 
-ends : (s : ℕ) (heard : Reading) (v : Node) (done : ℕ) → v .n ≤ v .listening .done + 1 → windowEnd (withDone done (overheard s heard (v .listening))) v ≡ listeningSlot s heard v
-unfolding listeningSlot
+ends : (s : ℕ) (heard : Reading) (v : Node) (done : ℕ) → v .cable .n ≤ v .listening .done + 1 → windowEnd (withDone done (overheard s heard (v .listening))) v ≡ listeningBy s heard v
+unfolding listeningBy goesOn
 ends s heard v done t =
     end-any done (overheard s heard (v .listening)) v
-    ∙ sym (otherwise _ _ (le-ltb (overheard s heard (v .listening) .done) (v .n) (omega (arith, done-is s heard (v .listening)))))
+    ∙ sym (otherwise _ _ (le-ltb (overheard s heard (v .listening) .done) (v .cable .n) (omega (arith, done-is s heard (v .listening)))))
 
 overheard-requires : tie.Need-overheard-requires
 overheard-requires c κs = search needs

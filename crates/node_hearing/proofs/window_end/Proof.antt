@@ -25,7 +25,7 @@ returns-2 : tie.Need-returns-2
 unfolding windowEnd
 returns-2 c =
     let d = c .before .before .before in
-    let w = d .before .before .args .w in
+    let w = d .before .before .before .args .w in
     c .following-with .ensures
     ∙ sym (chosen _ _ (passed (d .before .clean .ensures) (d .if1 .left)) ∙ chosen _ _ (eq-eqb (w .last) (w .heard) (c .before .if2 .taken)))
 
@@ -36,7 +36,7 @@ returns-3 : tie.Need-returns-3
 unfolding windowEnd
 returns-3 c =
     let d = c .before .before .before in
-    let w = d .before .before .args .w in
+    let w = d .before .before .before .args .w in
     c .listening-after2 .ensures
     ∙ sym (chosen _ _ (passed (d .before .clean .ensures) (d .if1 .left)) ∙ otherwise _ _ (ne-eqb (w .last) (w .heard) (c .before .if2 .left)))
 

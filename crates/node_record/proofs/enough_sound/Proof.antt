@@ -22,13 +22,13 @@ returns : tie.Need-returns
 returns c =
     let v = c .before .before .before .before .args .v in
     let follows = told (ap₂ _||_ (c .before .before .before .is-following .ensures) (c .before .before .is-knocking .ensures)) (c .before .if1 .taken) in
-    ap (leb 2) (c .size .ensures) ∙ sym (ap (λ (b : Bool). implies b (leb 2 (size (v .n) (v .set)))) follows)
+    ap (leb 2) (c .size .ensures) ∙ sym (ap (λ (b : Bool). implies b (leb 2 (size (v .cable .n) (v .set)))) follows)
 
 returns-2 : tie.Need-returns-2
 returns-2 c =
     let v = c .before .before .before .args .v in
     let follows = told (ap₂ _||_ (c .before .before .is-following .ensures) (c .before .is-knocking .ensures)) (c .if1 .left) in
-    sym (ap (λ (b : Bool). implies b (leb 2 (size (v .n) (v .set)))) follows)
+    sym (ap (λ (b : Bool). implies b (leb 2 (size (v .cable .n) (v .set)))) follows)
 
 pub enough-sound-spec : {M : Type 1} → statement M
 enough-sound-spec =

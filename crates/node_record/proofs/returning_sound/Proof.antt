@@ -12,7 +12,7 @@ has-requires c κs = search needs
 returns : tie.Need-returns
 returns c =
     let v = c .before .before .args .v in
-    ap (λ (b : Bool). leb (v .returning) (v .n) && not b) (c .has .ensures)
+    ap (λ (b : Bool). leb (v .returning) (v .cable .n) && not b) (c .has .ensures)
 
 pub returning-sound-spec : {M : Type 1} → statement M
 returning-sound-spec = tie.close (tie.spec has-requires returns)

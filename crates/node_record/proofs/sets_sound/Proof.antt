@@ -17,7 +17,7 @@ returns : tie.Need-returns
 returns c =
     let v = c .before .before .args .v in
     let small : v .present < 2 ^ 32 = search needs in
-    ap₂ _&&_ (c .before .is-within .ensures) (c .is-subset .ensures) ∙ within-part (v .n) (v .present) (v .set) small
+    ap₂ _&&_ (c .before .is-within .ensures) (c .is-subset .ensures) ∙ within-part (v .cable .n) (v .present) (v .set) small
 
 pub sets-sound-spec : {M : Type 1} → statement M
 sets-sound-spec = tie.close (tie.spec is-within-requires is-subset-requires returns)

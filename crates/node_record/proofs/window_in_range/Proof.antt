@@ -25,13 +25,13 @@ has-requires-2 c κs = search needs
 
 returns : tie.Need-returns
 returns c =
-    let a = c .before .before .before .before .before .before .before .before .before .before .args in
+    let a = c .before .before .before .before .before .before .before .before .before .before .before .before .before .args in
     let w = a .w in
-    ap (λ (b : Bool). ltb (w .done) (a .n) && b)
-    (ap₂ _&&_ (c .before .before .before .before .is-within .ensures)
-    (ap (λ (b : Bool). leb (w .shortest) (a .k) && (implies (eqb (w .heard) 0) (eqb (w .shortest) (a .k)) && b))
+    ap (λ (b : Bool). ltb (w .done) (a .cable .n) && b)
+    (ap₂ _&&_ (c .before .before .before .before .before .is-within .ensures)
+    (ap (λ (b : Bool). leb (w .shortest) (a .cable .k) && (implies (eqb (w .heard) 0) (eqb (w .shortest) (a .cable .k)) && b))
     (ap₂ _&&_ (c .before .before .is-within2 .ensures)
-    (ap₂ _&&_ (ap (λ (m : ℕ). eqb (w .last) 0 || leb 2 m) (c .before .before .before .before .before .before .size .ensures))
+    (ap₂ _&&_ (ap (λ (m : ℕ). eqb (w .last) 0 || leb 2 m) (c .before .before .before .before .before .before .before .before .size .ensures))
     (ap₂ _&&_ (ap not (c .before .has .ensures)) (ap not (c .has2 .ensures)))))))
 
 pub window-in-range-spec : {M : Type 1} → statement M

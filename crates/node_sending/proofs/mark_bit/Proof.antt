@@ -5,17 +5,17 @@ use Rattle.nodeset.proofs.Tests.{told, chosen, otherwise}
 use Rattle.node_sending.proofs.mark_bit.Statement.{statement}
 use Rattle.node_sending.proofs.mark_bit.Tie as tie
 
-has-found-requires : tie.Need-has-found-requires
-has-found-requires c κs = search needs
+has-requires : tie.Need-has-requires
+has-requires c κs = search needs
 
 with-requires : tie.Need-with-requires
 with-requires c κs = search needs
 
 returns : tie.Need-returns
-returns c = c .with .ensures ∙ sym (chosen _ _ (told (c .before .before .has-found .ensures) (c .before .if1 .taken)))
+returns c = c .with .ensures ∙ sym (chosen _ _ (told (c .before .before .has .ensures) (c .before .if1 .taken)))
 
 returns-2 : tie.Need-returns-2
-returns-2 c = sym (otherwise _ _ (told (c .before .has-found .ensures) (c .if1 .left)))
+returns-2 c = sym (otherwise _ _ (told (c .before .has .ensures) (c .if1 .left)))
 
 pub mark-bit-spec : {M : Type 1} → statement M
-mark-bit-spec = tie.close (tie.spec has-found-requires with-requires returns returns-2)
+mark-bit-spec = tie.close (tie.spec has-requires with-requires returns returns-2)

@@ -8,14 +8,14 @@ use Rattle.node_steps.proofs.confirm.Tie as tie
 has-requires : tie.Need-has-requires
 has-requires c κs = search needs
 
-with-found-requires : tie.Need-with-found-requires
-with-found-requires c κs = search needs
+with-requires : tie.Need-with-requires
+with-requires c κs = search needs
 
 returns : tie.Need-returns
-returns c = c .with-found .ensures ∙ sym (chosen _ _ (told (c .before .before .has .ensures) (c .before .if1 .taken)))
+returns c = c .with .ensures ∙ sym (chosen _ _ (told (c .before .before .has .ensures) (c .before .if1 .taken)))
 
 returns-2 : tie.Need-returns-2
 returns-2 c = sym (otherwise _ _ (told (c .before .has .ensures) (c .if1 .left)))
 
 pub confirm-spec : {M : Type 1} → statement M
-confirm-spec = tie.close (tie.spec has-requires with-found-requires returns returns-2)
+confirm-spec = tie.close (tie.spec has-requires with-requires returns returns-2)

@@ -1,7 +1,7 @@
 -- `node_steps::is_found` meets its contract, case by case. Assumes nothing.
 use borrow.Author.Needs.{needs}
 use mathlib.Core.Path.{sym, ap}
-use Rattle.node_steps.specs.Steps.{isFound}
+use Rattle.ring.specs.Ring.{isFound}
 use Rattle.node_steps.proofs.is_found.Statement.{statement}
 use Rattle.node_steps.proofs.is_found.Tie as tie
 
@@ -11,18 +11,12 @@ enum-known-found c = search needs
 enum-told : tie.Need-enum-told
 enum-told c = search needs
 
-enum-told-2 : tie.Need-enum-told-2
-enum-told-2 c = search needs
-
 returns : tie.Need-returns
 returns c = sym (ap (isFound (c .before .before .before .args .x)) (c .before .found .given .1))
 
 returns-2 : tie.Need-returns-2
 returns-2 c = search needs
 
-returns-3 : tie.Need-returns-3
-returns-3 c = search needs
-
 pub is-found-spec : {M : Type 1} → statement M
 is-found-spec =
-    tie.close (tie.spec enum-known-found enum-told enum-told-2 returns returns-2 returns-3)
+    tie.close (tie.spec enum-known-found enum-told returns returns-2)

@@ -14,7 +14,7 @@ size-requires : tie.Need-size-requires
 size-requires c κs = search needs
 
 returns : tie.Need-returns
-returns c = ap (λ (m : ℕ). eqb m 0) (c .size .ensures ∙ ap (size (c .before .before .args .v .n)) (c .before .without .ensures))
+returns c = ap (λ (m : ℕ). eqb m 0) (c .size .ensures ∙ ap (size (c .before .before .args .v .cable .n)) (c .before .without .ensures))
 
 pub nothing-heard-spec : {M : Type 1} → statement M
 nothing-heard-spec = tie.close (tie.spec without-requires size-requires returns)

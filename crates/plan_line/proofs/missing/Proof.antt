@@ -12,7 +12,7 @@ use lib.ListN.{length, take, drop}
 use denote.Ref.{now}
 use Rattle.plan_line.specs.declared.Missed.{Missed}
 use Rattle.plan_line.specs.Words.{allDigits, isNumber, leadingZero, leastAfter, valueOf}
-use Rattle.plan_line.specs.Plan.{joined, missingOf}
+use Rattle.plan_line.specs.Plan.{missedWith, missingOf}
 use Rattle.plan_line.proofs.Numbers.{form}
 use Rattle.plan_line.proofs.Lists.{rest, rest-start, rest-end, rest-stop, rest-next, joined-capped, partsFrom, part-at, part-in, from-place, from-end}
 use Rattle.plan_line.proofs.missing.Statement.{statement}
@@ -95,8 +95,8 @@ part-small-value-end c = ends (c .before .before .before) .1
 small-value-requires : tie.Need-small-value-requires Inv-loop μ-loop
 small-value-requires c κs = and-eq-true-iff (isNumber (word (c .before .before .before .before .before))) (leb (leastAfter (before (c .before .before .before .before .before))) (valueOf (word (c .before .before .before .before .before)))) .0 (passed (c .before)) .0
 
-joined-requires : tie.Need-joined-requires Inv-loop μ-loop
-joined-requires c κs = search needs
+missed-with-requires : tie.Need-missed-with-requires Inv-loop μ-loop
+missed-with-requires c κs = search needs
 
 add-at : tie.Need-add-at Inv-loop μ-loop
 add-at c = omega (arith, ends (c .before .before .before .before .before .before))
@@ -115,8 +115,8 @@ loop-again c =
     let good = passed (c .before .before .before) in
     let shape = form (word at-word) (and-eq-true-iff (isNumber (word at-word)) (leb (leastAfter (before at-word)) (valueOf (word at-word))) .0 good .0) in
     let words = part-at 32 t (loop .at) next (c .before .before .before .before .before .before .before .before .loop-test .taken) (at-word .part-end .ensures) in
-    let missed : c .joined .result ≡ joined (a .n) (loop .missed) (valueOf (word at-word)) =
-    c .joined .ensures ∙ ap (joined (a .n) (loop .missed)) (c .before .small-value .ensures) ∙ joined-capped (a .n) (loop .missed) (valueOf (word at-word)) in (
+    let missed : c .missed-with .result ≡ missedWith (a .n) (loop .missed) (valueOf (word at-word)) =
+    c .missed-with .ensures ∙ ap (missedWith (a .n) (loop .missed)) (c .before .small-value .ensures) ∙ joined-capped (a .n) (loop .missed) (valueOf (word at-word)) in (
       inside .0,
       inside .1,
       omega arith,
@@ -157,7 +157,7 @@ missing-spec =
     part-small-value-start
     part-small-value-end
     small-value-requires
-    joined-requires
+    missed-with-requires
     add-at
     loop-less
     loop-again

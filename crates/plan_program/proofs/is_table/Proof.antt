@@ -3,7 +3,6 @@ use Prim.Native.Nat.{ℕ}
 use mathlib.Core.Path.{_≡_, refl, ap, _∙_}
 use mathlib.Core.Bool.{Bool, true, false, not}
 use borrow.Author.Needs.{needs}
-use Rattle.refusal.specs.declared.Refusal.the-variants.{Unsound}
 use Rattle.bench.specs.declared.Command.the-variants.{Look}
 use Rattle.bench.specs.Table.{tableSound}
 use Rattle.bench.specs.Calls.{done, ifPassed, lookOf}
@@ -18,7 +17,7 @@ look-tells : (n room : ℕ) (rows : Rows) → not (isRefused (callOf n (Look fal
 unfolding callOf endedOf lookOf
 look-tells n room rows = go (tableSound (tableOf n rows))
   where
-    go : (b : Bool) → not (isRefused (ended n rows (endedBy (Look false) (tableOf n rows) (ifPassed b Unsound (tableOf n rows) (done (tableOf n rows)))) .outcome)) ≡ b
+    go : (b : Bool) → not (isRefused (ended n rows (endedBy (Look false) (tableOf n rows) (ifPassed b 4 (tableOf n rows) (done (tableOf n rows)))) .outcome)) ≡ b
     go true = refl
     go false = refl
 

@@ -1,24 +1,21 @@
--- `ring::walk` meets its contract. The slots left are the measure; `more` is what the definition takes off j.
--- Assumes nothing.
+-- `ring::walk` meets its contract. The slots left are the measure. Assumes nothing.
 use Prim.Native.Nat.{ℕ, suc, _-_, _<_}
-use mathlib.Core.Path.{_≡_, refl, sym, ap, _∙_}
-use mathlib.Core.Logic.{_≢_, ⊎-elim}
-use mathlib.Core.Bool.{Bool}
+use mathlib.Core.Path.{_≡_, sym, ap, _∙_}
+use mathlib.Core.Bool.{Bool, true, false, _&&_}
 use native.Mathlib.Omega.{arith}
-use borrow.Author.Tests.{ne-eqb}
+use lib.Dec.{eqb}
 use borrow.Fn.Kinds.{In}
 use borrow.Fn.PlainCycle.{Measures, is, falls, and}
 use Rattle.nodeset.specs.Sums.{num}
 use Rattle.nodeset.specs.Sets.{has}
-use Rattle.ring.specs.declared.Found.the-variants.{Member}
-use Rattle.ring.specs.Answers.{memberIn}
-use Rattle.ring.proofs.Walks.{previous-pos}
-use Rattle.ring.specs.Ring as ring
+use Rattle.ring.specs.Ring.{previous}
+use Rattle.ring.specs.Places.{reach}
 use Rattle.ring.proofs.walk.Reads as walk
 use Rattle.ring.proofs.walk.Kinds as walk-kinds
 use Rattle.ring.proofs.+walk.Lts-walk as walk-lts
 use Rattle.nodeset.proofs.has.Reads as has-reads
 use Rattle.ring.proofs.previous.Reads as previous-reads
+use Rattle.ring.proofs.still.Reads as still-reads
 use Rattle.ring.proofs.+walk.{statement}
 use Rattle.ring.proofs.+walk.Tie.{close}
 
@@ -31,138 +28,140 @@ walk-at t = and 0 walk-kinds.ps (is 0 walk-kinds.ps μ-walk t) walk.Pre
 abbrev walk-below : ℕ → In 0 walk-kinds.ps
 walk-below t = and 0 walk-kinds.ps (falls 0 walk-kinds.ps _<_ μ-walk t) walk.Pre
 
-sub-none : (j : ℕ) → j ≡ j - 0
-sub-none j = omega arith
+-- one slot of the walk, by the test that the code makes
+found-here : (l n set x j p : ℕ) (met : Bool) → p ≡ previous n x → met ≡ has set p → (met && eqb j 1) ≡ true → record { node = p; left = l } ≡ reach (suc l) n set x j
+unfolding reach
+found-here l n set x j p met e m t =
+    let q : (has set (previous n x) && eqb j 1) ≡ true = ap (λ (b : Bool). b && eqb j 1) (sym (m ∙ ap (has set) e)) ∙ t in
+    rw q (ap (λ (y : ℕ). record { node = y; left = l }) e)
 
--- what the walk of suc l slots is, once the number still to meet after this slot is known
-found-here : (l n set x j more : ℕ) → more ≡ j - num (has set (ring.previous n x)) → more ≡ 0 → ring.walk (suc l) n set x j ≡ Member (ring.previous n x)
-unfolding ring.walk
-found-here l n set x j more e z = rw (← e, z) refl
-
-found-later : (l n set x j more : ℕ) → more ≡ j - num (has set (ring.previous n x)) → more ≢ 0 → ring.walk (suc l) n set x j ≡ ring.walk l n set (ring.previous n x) more
-unfolding ring.walk
-found-later l n set x j more e z = rw (← e, ne-eqb more 0 z) refl
+found-later : (l n set x j p more : ℕ) (met : Bool) → p ≡ previous n x → met ≡ has set p → (met && eqb j 1) ≡ false → more ≡ j - num met
+    → reach l n set p more ≡ reach (suc l) n set x j
+unfolding reach
+found-later l n set x j p more met e m t o =
+    let m′ : met ≡ has set (previous n x) = m ∙ ap (has set) e in
+    let q : (has set (previous n x) && eqb j 1) ≡ false = ap (λ (b : Bool). b && eqb j 1) (sym m′) ∙ t in
+    rw q (ap (λ (y : ℕ). reach l n set y more) e ∙ ap (reach l n set (previous n x)) (o ∙ ap (λ (b : Bool). j - num b) m′))
 
 walk-returns : (t : ℕ) → walk-lts.Need-returns (
   previous-reads.Asked,
   previous-reads.Learnt,
   has-reads.Asked,
   has-reads.Learnt,
+  still-reads.Asked,
+  still-reads.Learnt,
   walk-below t,
   walk.Post,
 ) (walk-at t) walk.Post
-unfolding ring.walk
-walk-returns t c =
-    let a = c .before .args in
-    sym (ap (λ (l : ℕ). memberIn (ring.walk l (a .n) (a .set) (a .x) (a .j))) (c .if1 .taken))
+unfolding reach
+walk-returns t c = let a = c .before .args in sym (ap (λ (l : ℕ). reach l (a .n) (a .set) (a .x) (a .j)) (c .if1 .taken))
 
 walk-previous-requires : (t : ℕ) → walk-lts.Need-previous-requires (
   previous-reads.Asked,
   previous-reads.Learnt,
   has-reads.Asked,
   has-reads.Learnt,
+  still-reads.Asked,
+  still-reads.Learnt,
   walk-below t,
   walk.Post,
 ) (walk-at t) walk.Post
-walk-previous-requires t c κs = omega (arith, c .before .pre .1)
+walk-previous-requires t c κs = tt
 
 walk-has-requires : (t : ℕ) → walk-lts.Need-has-requires (
   previous-reads.Asked,
   previous-reads.Learnt,
   has-reads.Asked,
   has-reads.Learnt,
+  still-reads.Asked,
+  still-reads.Learnt,
   walk-below t,
   walk.Post,
 ) (walk-at t) walk.Post
 walk-has-requires t c κs = tt
 
-walk-sub-more : (t : ℕ) → walk-lts.Need-sub-more (
+walk-sub-t10 : (t : ℕ) → walk-lts.Need-sub-t10 (
   previous-reads.Asked,
   previous-reads.Learnt,
   has-reads.Asked,
   has-reads.Learnt,
+  still-reads.Asked,
+  still-reads.Learnt,
   walk-below t,
   walk.Post,
 ) (walk-at t) walk.Post
-walk-sub-more t c = omega (arith, c .before .before .before .before .pre .1)
-
--- after the test, `more` is what the definition has
-more-is : (t : ℕ) (c : walk-lts.Joined2 (
-  previous-reads.Asked,
-  previous-reads.Learnt,
-  has-reads.Asked,
-  has-reads.Learnt,
-  walk-below t,
-  walk.Post,
-) (walk-at t) walk.Post) → c .if2 .more ≡ c .before .before .before .before .args .j - num (has (c .before .before .before .before .args .set) (ring.previous (c .before .before .before .before .args .n) (c .before .before .before .before .args .x)))
-more-is t c =
-    let a = c .before .before .before .before .args in
-    let p : c .before .before .previous .result ≡ ring.previous (a .n) (a .x) = c .before .before .previous .ensures in
-    let h : c .before .has .result ≡ has (a .set) (ring.previous (a .n) (a .x)) = c .before .has .ensures ∙ ap (has (a .set)) p in
-    ⊎-elim
-    (λ w. w .1 ∙ ap (λ (b : Bool). a .j - num b) (sym (w .0 .taken) ∙ h))
-    (λ w. w .1 ∙ sub-none (a .j) ∙ ap (λ (b : Bool). a .j - num b) (sym (w .0 .left) ∙ h))
-    (c .if2 .came)
+walk-sub-t10 t c = omega (arith, c .before .before .before .if1 .left)
 
 walk-returns-2 : (t : ℕ) → walk-lts.Need-returns-2 (
   previous-reads.Asked,
   previous-reads.Learnt,
   has-reads.Asked,
   has-reads.Learnt,
+  still-reads.Asked,
+  still-reads.Learnt,
   walk-below t,
   walk.Post,
 ) (walk-at t) walk.Post
 walk-returns-2 t c =
-    let a = c .before .before .before .before .before .args in
-    let some : a .left ≡ suc (a .left - 1) = omega (arith, c .before .before .before .before .if1 .left) in
-    c .before .before .before .previous .ensures
-    ∙ sym (ap memberIn (found-here (a .left - 1) (a .n) (a .set) (a .x) (a .j) (c .before .if2 .more) (more-is t (c .before)) (c .if3 .taken)))
-    ∙ ap (λ (l : ℕ). memberIn (ring.walk l (a .n) (a .set) (a .x) (a .j))) (sym some)
+    let a = c .before .before .before .before .args in
+    let some : a .left ≡ suc (a .left - 1) = omega (arith, c .before .before .before .if1 .left) in
+    found-here (a .left - 1) (a .n) (a .set) (a .x) (a .j) (c .before .before .previous .result) (c .before .has .result) (c .before .before .previous .ensures) (c .before .has .ensures) (c .if2 .taken)
+    ∙ ap (λ (l : ℕ). reach l (a .n) (a .set) (a .x) (a .j)) (sym some)
 
 walk-sub-walk : (t : ℕ) → walk-lts.Need-sub-walk (
   previous-reads.Asked,
   previous-reads.Learnt,
   has-reads.Asked,
   has-reads.Learnt,
+  still-reads.Asked,
+  still-reads.Learnt,
   walk-below t,
   walk.Post,
 ) (walk-at t) walk.Post
-walk-sub-walk t c = omega (arith, c .before .before .before .before .if1 .left)
+walk-sub-walk t c = omega (arith, c .before .before .before .if1 .left)
+
+walk-still-requires : (t : ℕ) → walk-lts.Need-still-requires (
+  previous-reads.Asked,
+  previous-reads.Learnt,
+  has-reads.Asked,
+  has-reads.Learnt,
+  still-reads.Asked,
+  still-reads.Learnt,
+  walk-below t,
+  walk.Post,
+) (walk-at t) walk.Post
+walk-still-requires t c κs = tt
 
 walk-walk-requires : (t : ℕ) → walk-lts.Need-walk-requires (
   previous-reads.Asked,
   previous-reads.Learnt,
   has-reads.Asked,
   has-reads.Learnt,
+  still-reads.Asked,
+  still-reads.Learnt,
   walk-below t,
   walk.Post,
 ) (walk-at t) walk.Post
 walk-walk-requires t c κs =
-    let s = c .before .before .before .before .before in (
-      omega (arith, s .pre .0, c .before .before .before .before .if1 .left),
-      (
-        omega (arith, s .pre .1),
-        omega (arith, s .pre .1, c .before .before .before .previous .ensures, previous-pos (s .args .n) (s .args .x) (omega (arith, s .pre .1)) (omega (arith, s .pre .1))),
-        omega (arith, c .if3 .left),
-      ),
-    )
+    let s = c .before .before .before .before .before in (omega (arith, s .pre .0, c .before .before .before .before .if1 .left), tt)
 
 walk-returns-3 : (t : ℕ) → walk-lts.Need-returns-3 (
   previous-reads.Asked,
   previous-reads.Learnt,
   has-reads.Asked,
   has-reads.Learnt,
+  still-reads.Asked,
+  still-reads.Learnt,
   walk-below t,
   walk.Post,
 ) (walk-at t) walk.Post
 walk-returns-3 t c =
-    let a = c .before .before .before .before .before .before .args in
-    let more = c .before .before .if2 .more in
-    let some : a .left ≡ suc (a .left - 1) = omega (arith, c .before .before .before .before .before .if1 .left) in
+    let d = c .before .before .before in
+    let a = d .before .before .before .args in
+    let some : a .left ≡ suc (a .left - 1) = omega (arith, d .before .before .if1 .left) in
     c .walk .ensures
-    ∙ ap (λ (p : ℕ). memberIn (ring.walk (a .left - 1) (a .n) (a .set) p more)) (c .before .before .before .before .previous .ensures)
-    ∙ sym (ap memberIn (found-later (a .left - 1) (a .n) (a .set) (a .x) (a .j) more (more-is t (c .before .before)) (c .before .if3 .left)))
-    ∙ ap (λ (l : ℕ). memberIn (ring.walk l (a .n) (a .set) (a .x) (a .j))) (sym some)
+    ∙ found-later (a .left - 1) (a .n) (a .set) (a .x) (a .j) (d .before .previous .result) (c .before .still .result) (d .has .result) (d .before .previous .ensures) (d .has .ensures) (c .before .before .if2 .left) (c .before .still .ensures)
+    ∙ ap (λ (l : ℕ). reach l (a .n) (a .set) (a .x) (a .j)) (sym some)
 
 pub +walk-spec : {M : Type 1} → statement M
 +walk-spec = close μ-walk λ t. walk-lts.spec (
@@ -170,6 +169,8 @@ pub +walk-spec : {M : Type 1} → statement M
   previous-reads.Learnt,
   has-reads.Asked,
   has-reads.Learnt,
+  still-reads.Asked,
+  still-reads.Learnt,
   walk-below t,
   walk.Post,
 )
@@ -178,8 +179,9 @@ pub +walk-spec : {M : Type 1} → statement M
     (walk-returns t)
     (walk-previous-requires t)
     (walk-has-requires t)
-    (walk-sub-more t)
+    (walk-sub-t10 t)
     (walk-returns-2 t)
     (walk-sub-walk t)
+    (walk-still-requires t)
     (walk-walk-requires t)
     (walk-returns-3 t)

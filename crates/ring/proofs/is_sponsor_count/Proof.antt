@@ -6,10 +6,11 @@ use Rattle.ring.proofs.is_sponsor_count.Statement.{statement}
 use Rattle.ring.proofs.is_sponsor_count.Tie as tie
 
 returns : tie.Need-returns
-returns c = simp (le-leb 2 (c .before .args .k) (c .if1 .taken)) (to-before (c .before .args .n) (c .before .args .k) (omega arith))
+returns c =
+    let a = c .before .before .before .args .cable in simp (le-leb 2 (a .k) (c .before .if1 .taken)) (to-before (a .n) (a .k) (omega arith))
 
 returns-2 : tie.Need-returns-2
-returns-2 c = simp (lt-leb 2 (c .before .args .k) (c .if1 .left))
+returns-2 c = simp (lt-leb 2 (c .before .before .args .cable .k) (c .if1 .left))
 
 pub is-sponsor-count-spec : {M : Type 1} → statement M
 is-sponsor-count-spec = tie.close (tie.spec returns returns-2)

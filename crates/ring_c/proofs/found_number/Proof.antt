@@ -15,25 +15,11 @@ add-result c = search needs
 enum-told : tie.Need-enum-told
 enum-told c = search needs
 
-enum-known-found-2 : tie.Need-enum-known-found-2
-enum-known-found-2 c = search needs
-
-number-requires : tie.Need-number-requires
-number-requires c κs = search needs
-
-cast-result-2 : tie.Need-cast-result-2
-cast-result-2 c = search needs
-
 returns : tie.Need-returns
 returns c = cc
 
 returns-2 : tie.Need-returns-2
 returns-2 c = search needs
 
-returns-3 : tie.Need-returns-3
-returns-3 c = search needs
-
 pub found-number-spec : {M : Type 1} → statement M
-found-number-spec =
-    tie.close
-    (tie.spec enum-known-found cast-result add-result enum-told enum-known-found-2 number-requires cast-result-2 returns returns-2 returns-3)
+found-number-spec = tie.close (tie.spec enum-known-found cast-result add-result enum-told returns returns-2)

@@ -73,7 +73,7 @@ fn pair(count: &mut Count, a: u32, b: u32) -> Result<(), String> {
     for (name, got, expected) in truths {
         count.check(got == expected, || format!("{name} {a}, {b}: library {got}, model {expected}"))?;
     }
-    let (got, expected) = (library::ring_ks(a, b), ring::ks(a, b));
+    let (got, expected) = (library::ring_ks(3, a, b), ring::ks(a, b));
     count.check(got == expected, || format!("ks k = {a}, {b} members: library {got}, model {expected}"))
 }
 

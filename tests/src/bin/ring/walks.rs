@@ -30,12 +30,10 @@ fn jth(mut members: impl Iterator<Item = u32>, j: u32) -> Option<u32> {
 }
 
 fn before(count: &mut Count, n: u32, set: u32, x: u32, j: u32) -> Result<(), String> {
-    let nearest = |x| ring::members_before(n, Set(set), x);
-    let one = ring::check(n, None, x).map(|()| jth(nearest(x), j));
-    let call = |name| move || format!("{name} n = {n}, set = {set:#X}, node {x}, j = {j}");
-    same(count, one, library::before(n, set, x, j), call("before"))?;
-    let next = one.map(|found| found.and_then(|y| nearest(y).next()));
-    same(count, next, library::before_found(n, set, x, j), call("before_found"))
+    let expected = ring::check(n, None, x).map(|()| jth(ring::members_before(n, Set(set), x), j));
+    same(count, expected, library::before(n, set, x, j), || {
+        format!("before n = {n}, set = {set:#X}, node {x}, j = {j}")
+    })
 }
 
 /// Numbers above n in the set are no members.

@@ -4,39 +4,39 @@ use Prim.Native.Nat.{ℕ, _+_}
 use mathlib.Core.Path.{ap, _∙_}
 use Rattle.bench.specs.declared.Fate.{Fate}
 use Rattle.message.specs.declared.Reading.{Reading}
-use Rattle.node_steps.specs.declared.Lesson.{Lesson}
-use Rattle.node_steps.specs.Lessons.{lessonOf}
+use Rattle.node_steps.specs.declared.Digest.{Digest}
+use Rattle.node_steps.specs.Digests.{digestOf}
 use Rattle.bench_walks.specs.declared.Turn.{Turn}
 use Rattle.bench_walks.specs.Orders.{fateBy}
 use Rattle.bench_walks.proofs.orders.turn_of.Statement.{statement}
 use Rattle.bench_walks.proofs.orders.turn_of.Tie as tie
 
-abbrev made : ℕ → ℕ → ℕ → Fate → Reading → Lesson → Turn
-made slots sender missed fate heard lesson = record { slot = slots + 1; sender = sender; fate = fate; heard = heard; missed = missed; lesson = lesson }
+abbrev made : ℕ → ℕ → ℕ → Fate → Reading → Digest → Turn
+made slots sender missed fate heard digest = record { slot = slots + 1; sender = sender; fate = fate; heard = heard; missed = missed; digest = digest }
 
 fate-of-requires : tie.Need-fate-of-requires
 fate-of-requires c κs = search needs
 
-said-by-requires : tie.Need-said-by-requires
-said-by-requires c κs = search needs
+spoken-by-requires : tie.Need-spoken-by-requires
+spoken-by-requires c κs = search needs
 
-lesson-of-requires : tie.Need-lesson-of-requires
-lesson-of-requires c κs = search needs
+digest-of-requires : tie.Need-digest-of-requires
+digest-of-requires c κs = search needs
 
-add-t8 : tie.Need-add-t8
-add-t8 c = search needs
+add-t9 : tie.Need-add-t9
+add-t9 c = search needs
 
 returns : tie.Need-returns
 returns c =
-    let a = c .before .before .before .before .before .args in
+    let a = c .before .before .before .before .before .before .args in
     let s = a .s in
-    let fate = c .before .before .before .fate-of in
-    let said = c .before .before .said-by in
-    let told = c .before .lesson-of in
+    let fate = c .before .before .before .before .fate-of in
+    let said = c .before .before .before .spoken-by in
+    let told = c .before .digest-of in
     ap (λ (f : Fate). made (s .slots) (s .sender) (a .missed) f (said .result) (told .result)) (fate .ensures)
-    ∙ ap (λ (l : Lesson). made (s .slots) (s .sender) (a .missed) (fateBy (a .lost) (s .speaker)) (said .result) l) (told .ensures)
-    ∙ ap (λ (h : Reading). made (s .slots) (s .sender) (a .missed) (fateBy (a .lost) (s .speaker)) h (lessonOf (s .sender) h (s .speaker))) (said .ensures)
+    ∙ ap (λ (l : Digest). made (s .slots) (s .sender) (a .missed) (fateBy (a .lost) (s .speaker)) (said .result) l) (told .ensures)
+    ∙ ap (λ (h : Reading). made (s .slots) (s .sender) (a .missed) (fateBy (a .lost) (s .speaker)) h (digestOf (s .sender) h (s .speaker .cable) (s .speaker .set))) (said .ensures)
 
 pub turn-of-spec : {M : Type 1} → statement M
 turn-of-spec =
-    tie.close (tie.spec fate-of-requires said-by-requires lesson-of-requires add-t8 returns)
+    tie.close (tie.spec fate-of-requires spoken-by-requires digest-of-requires add-t9 returns)

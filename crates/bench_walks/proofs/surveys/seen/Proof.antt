@@ -11,7 +11,7 @@ use Rattle.bench_walks.proofs.surveys.seen.Statement.{statement}
 use Rattle.bench_walks.proofs.surveys.seen.Tie as tie
 
 abbrev with-parts : Survey → Bool → Node → ℕ → Survey
-with-parts s fine v out = record { fine = fine; n = s .n; k = s .k; slots = s .slots; sender = s .sender; speaker = v; out = out }
+with-parts s fine v out = record { fine = fine; cable = s .cable; slots = s .slots; sender = s .sender; speaker = v; out = out }
 
 same-parts : (s : Survey) {f f′ : Bool} {v v′ : Node} {x x′ : ℕ} → f ≡ f′ → v ≡ v′ → x ≡ x′ → with-parts s f v x ≡ with-parts s f′ v′ x′
 same-parts s {f} {f′} {v} {v′} {x} {x′} p q r =

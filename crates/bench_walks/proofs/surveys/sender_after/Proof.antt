@@ -1,7 +1,7 @@
 -- `bench_walks::surveys::sender_after` meets its contract: it takes the number out of the answer. Assumes nothing.
 use borrow.Author.Needs.{needs}
 use mathlib.Core.Path.{sym, ap, _∙_}
-use Rattle.bench_walks.specs.Survey.{numberOf, senderAfter}
+use Rattle.bench_walks.specs.Survey.{nodeIn, senderAfter}
 use Rattle.bench_walks.proofs.surveys.sender_after.Statement.{statement}
 use Rattle.bench_walks.proofs.surveys.sender_after.Tie as tie
 
@@ -16,11 +16,11 @@ enum-told c = search needs
 
 returns : tie.Need-returns
 unfolding senderAfter
-returns c = ap numberOf (sym (c .before .speaker .given .1) ∙ c .before .before .before .sender .ensures)
+returns c = ap nodeIn (sym (c .before .speaker .given .1) ∙ c .before .before .before .sender .ensures)
 
 returns-2 : tie.Need-returns-2
 unfolding senderAfter
-returns-2 c = ap numberOf (sym (c .enum-told .given .1) ∙ c .before .before .sender .ensures)
+returns-2 c = ap nodeIn (sym (c .enum-told .given .1) ∙ c .before .before .sender .ensures)
 
 pub sender-after-spec : {M : Type 1} → statement M
 sender-after-spec =

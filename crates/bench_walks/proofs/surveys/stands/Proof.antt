@@ -9,11 +9,17 @@ use Rattle.bench_walks.proofs.surveys.stands.Tie as tie
 is-sound-requires : tie.Need-is-sound-requires
 is-sound-requires c κs = search needs
 
+is-same-cable-requires : tie.Need-is-same-cable-requires
+is-same-cable-requires c κs = search needs
+
 is-place-requires : tie.Need-is-place-requires
 is-place-requires c κs = search needs
 
 returns : tie.Need-returns
-returns c = ap₂ _&&_ (c .before .before .before .before .before .before .before .is-sound .ensures) (ap (λ (b : Bool). eqb (c .before .before .before .before .before .before .before .before .args .v .n) (c .before .before .before .before .before .before .before .before .args .s .n) && (eqb (c .before .before .before .before .before .before .before .before .args .v .k) (c .before .before .before .before .before .before .before .before .args .s .k) && (eqb (c .before .before .before .before .before .before .before .before .args .v .slots) (c .before .before .before .before .before .before .before .before .args .s .slots) && b))) (c .is-place .ensures))
+returns c =
+    let q = c .before .before .before in
+    let a = q .before .before .before .before .args in
+    ap₂ _&&_ (q .before .is-sound .ensures) (ap₂ _&&_ (q .is-same-cable .ensures) (ap (λ (b : Bool). eqb (a .v .slots) (a .s .slots) && b) (c .is-place .ensures)))
 
 pub stands-spec : {M : Type 1} → statement M
-stands-spec = tie.close (tie.spec is-sound-requires is-place-requires returns)
+stands-spec = tie.close (tie.spec is-sound-requires is-same-cable-requires is-place-requires returns)

@@ -1,0 +1,248 @@
+-- The entries of a run, and what the list has to do with them (K). Slots are counted from n + 1 here: a round in which every node was listed,
+-- spoke and was heard by all stands before the first. Assumes nothing.
+use Prim.Native.Nat.{ℕ, zero, suc, _+_, _-_, _≤_, _<_}
+use mathlib.Core.Path.{_≡_, refl, sym, ap, _∙_}
+use mathlib.Core.Bool.{Bool, true, false}
+use native.Mathlib.Omega.{arith}
+use Rattle.nodeset.specs.Sums.{sum, num}
+use Rattle.nodeset.specs.Sets.{has, size}
+use Rattle.nodeset.proofs.Tests.{by-cases}
+use Rattle.nodeset.proofs.Sums.{sum-le, sum-first, sum-add, sum-split, sum-at, one-place, num-le}
+use Rattle.ring.specs.declared.Cable.{Cable}
+use Rattle.ring.specs.declared.Found.the-variants.{Member}
+use Rattle.ring.specs.Ring.{sender, walk, memberBefore, sponsors, sponsored, decided}
+use Rattle.ring.proofs.Senders.{sender-range, round, size-round}
+use Rattle.ring.proofs.Walks as walks
+use Rattle.ring.proofs.Walks.{Met, walk-meets, before-is, others}
+use Rattle.ring.proofs.Members.{sponsored-before, decided-before}
+use Rattle.agreement.proofs.Past.{Past, noPast}
+
+-- a longer window has no smaller sum
+pub sum-more : (f : ℕ → ℕ) (a m d : ℕ) → sum f a m ≤ sum f a (m + d)
+sum-more f a m d = omega (arith, sum-split f a m d)
+
+-- Counting lemma 2 of the paper proof: where nobody has told those who missed slot u what it was, fewer than k listed slots have been since.
+module _ (n k : ℕ) (speaks : ℕ → ℕ) (listed failures : ℕ → ℕ) (missed : ℕ → ℕ → ℕ) where
+  told : (u m : ℕ) → m < n
+      → ((t : ℕ) → u < t → t ≤ u + m → listed t ≤ failures t + missed u (speaks t))
+      → sum (λ t. missed u (speaks t)) (suc u) n ≤ failures u
+      → sum failures u n < k
+      → sum listed (suc u) m < k
+  told u m hm un cm hf =
+      let d : ℕ = n - suc m in
+      let e₁ : m + suc d ≡ n = omega arith in
+      let e₂ : suc m + d ≡ n = omega arith in
+      let miss : ℕ → ℕ = λ t. missed u (speaks t) in
+      let a₁ : sum listed (suc u) m ≤ sum (λ t. failures t + miss t) (suc u) m = sum-le listed (λ t. failures t + miss t) (suc u) m (λ t p q. un t (omega arith) (omega arith)) in
+      let a₂ : sum miss (suc u) m ≤ sum miss (suc u) n = rw (← e₁) (sum-more miss (suc u) m (suc d)) in
+      let a₃ : sum failures u (suc m) ≤ sum failures u n = rw (← e₂) (sum-more failures u (suc m) d) in
+      omega (arith, a₁, a₂, a₃, sum-add failures miss (suc u) m, sum-first failures u m, cm)
+
+pub record Fair (n : ℕ) (e : Past) : Type 0 where
+  pub count : e .sent ≡ true → sum (λ i. num (e .missed i)) 1 n ≤ e .failures
+  pub unsent : e .sent ≡ false → e .listed ≡ true → 1 ≤ e .failures
+  pub outer : e .sent ≡ true → e .listed ≡ false → e .outside ≡ true
+
+-- a run that keeps to the premises on failures and on transmissions from outside the list
+pub record World : Type 0 where
+  pub cable : Cable
+  pub n-pos : 1 ≤ cable .n
+  pub n-most : cable .n ≤ 32
+  pub k-two : 2 ≤ cable .k
+  pub k-lt : cable .k < cable .n
+  pub E : ℕ → Past
+  pub fair : (q : ℕ) → Fair (cable .n) (E q)
+  pub early : (q : ℕ) → q ≤ cable .n → E q ≡ noPast
+  pub few : (a : ℕ) → sum (λ u. E u .failures) (suc a) (cable .n) < cable .k
+  pub once : (a : ℕ) → sum (λ u. num (E u .outside)) (suc a) (cable .n) ≤ 1
+
+pub num-is : {b : Bool} → b ≡ true → num b ≡ 1
+num-is e = ap num e
+
+pub num-isnt : {b : Bool} → b ≡ false → num b ≡ 0
+num-isnt e = ap num e
+
+module _ (W : World) where
+  open World W using (cable, n-pos, n-most, k-two, E, fair, few, once)
+  open Cable cable using (n, k)
+
+  -- senders are among the 32 nodes that a set can hold
+  pub sender-most : (u : ℕ) → sender n u ≤ 32
+  sender-most u = omega (arith, sender-range n n-pos u, n-most)
+
+  abbrev pub lst : ℕ → ℕ
+  lst q = num (E q .listed)
+
+  -- nobody told those who missed slot u what it was, up to slot N
+  abbrev pub Untold : ℕ → ℕ → Type 0
+  Untold u N = (t : ℕ) → u < t → t ≤ N → lst t ≤ E t .failures + num (E u .missed (sender n t))
+
+  pub told-in-time : (u e : ℕ) → 1 ≤ u → e < n → E u .sent ≡ true → Untold u (u + e) → sum lst (suc u) e < k
+  told-in-time u e hu he s un =
+      let z : suc (u - 1) ≡ u = omega arith in
+      let f : sum (λ q. E q .failures) u n < k = rw z at (few (u - 1)) in
+      told n k (sender n) lst (λ q. E q .failures) (λ q x. num (E q .missed x)) u e he un
+      (omega (arith, round n n-pos (λ x. num (E u .missed x)) u, fair u .count s)) f
+
+  -- two transmissions from outside the list in one round
+  pub one-knock : (w e q : ℕ) → 1 ≤ w → 1 ≤ e → e < n → w + e ≡ q → E w .outside ≡ true → E q .outside ≡ true → ⊥
+  one-knock w e q hw he hn z a b =
+      let f : ℕ → ℕ = λ u. num (E u .outside) in
+      let y : suc (w - 1) ≡ w = omega arith in
+      let o : sum f w n ≤ 1 = rw y at (once (w - 1)) in
+      let x : suc (n - 1) ≡ n = omega arith in
+      let p : sum f w (suc (n - 1)) ≡ sum f w n = ap (sum f w) x in
+      omega (arith, sum-first f w (n - 1), sum-at f (suc w) (n - 1) q (omega arith) (omega arith), num-is a, num-is b)
+
+  -- what the list says of the sender of slot u, e slots ago
+  pub record KFact (L u e : ℕ) : Type 0 where
+    pub spoke : E u .listed ≡ true → E u .sent ≡ true → has L (sender n u) ≡ true
+    pub waits : E u .listed ≡ true → E u .sent ≡ false → sum lst (suc u) e < k → has L (sender n u) ≡ true
+    pub dropped : E u .listed ≡ true → E u .sent ≡ false → k ≤ sum lst (suc u) e → has L (sender n u) ≡ false
+    pub came : E u .listed ≡ false → has L (sender n u) ≡ true → (E u .sent ≡ true) × (k ≤ sum lst (suc u) e)
+
+  abbrev pub K : ℕ → ℕ → Type 0
+  K N L = (u e : ℕ) → u + e ≡ N → e < n → KFact L u e
+
+  -- with fewer than k listed slots since, the sender of u is on the list exactly if it was listed
+  pub near : (N L : ℕ) → K N L → (u e : ℕ) → u + e ≡ N → e < n → sum lst (suc u) e < k → has L (sender n u) ≡ E u .listed
+  near N L κ u e z h l = go (E u .listed) (E u .sent) refl refl
+    where
+      go : (a b : Bool) → E u .listed ≡ a → E u .sent ≡ b → has L (sender n u) ≡ a
+      go true true p q = κ u e z h .spoke p q
+      go true false p q = κ u e z h .waits p q l
+      go false b p q = by-cases (has L (sender n u))
+          (λ y. let f : ⊥ = omega (arith, κ u e z h .came p y) in absurd f)
+          (λ y. y)
+
+  pub span : (N L : ℕ) → K N L → (e u : ℕ) → u + e ≡ N → e ≤ n → sum lst (suc u) e < k → sum (walks.member n n-pos L) (suc u) e ≡ sum lst (suc u) e
+  unfolding sum
+  span N L κ zero u z h l = refl
+  span N L κ (suc e) u z h l =
+      let m : ℕ → ℕ = walks.member n n-pos L in
+      let y : suc u + e ≡ N = omega arith in
+      let l′ : sum lst (suc (suc u)) e < k = omega (arith, sum-first lst (suc u) e) in
+      omega (
+        arith,
+        sum-first lst (suc u) e,
+        sum-first m (suc u) e,
+        span N L κ e (suc u) y (omega arith) l′,
+        ap num (near N L κ (suc u) e y (omega arith) l′),
+      )
+
+  pub span-mem : (N L : ℕ) → K N L → (e u : ℕ) → u + e ≡ N → e ≤ n → sum (walks.member n n-pos L) (suc u) e < k → sum (walks.member n n-pos L) (suc u) e ≡ sum lst (suc u) e
+  unfolding sum
+  span-mem N L κ zero u z h l = refl
+  span-mem N L κ (suc e) u z h l =
+      let m : ℕ → ℕ = walks.member n n-pos L in
+      let y : suc u + e ≡ N = omega arith in
+      let r : sum m (suc (suc u)) e ≡ sum lst (suc (suc u)) e = span-mem N L κ e (suc u) y (omega arith) (omega (arith, sum-first m (suc u) e)) in
+      let l′ : sum lst (suc (suc u)) e < k = omega (arith, sum-first m (suc u) e) in
+      omega (arith, sum-first lst (suc u) e, sum-first m (suc u) e, r, ap num (near N L κ (suc u) e y (omega arith) l′))
+
+  pub size-from : (L a : ℕ) → 1 ≤ a → sum (walks.member n n-pos L) a n ≡ size n L
+  size-from L a h = let z : suc (a - 1) ≡ a = omega arith in rw z at (size-round n n-pos L (a - 1))
+
+  -- after n - 1 slots k listed ones have been
+  pub full-round : (N L : ℕ) → K N L → k < size n L → (w e : ℕ) → 1 ≤ w → w + e ≡ N → suc e ≡ n → k ≤ sum lst (suc w) e
+  full-round N L κ hs w e hw z h = go (native.Mathlib.Decide.decLe k (sum lst (suc w) e))
+    where
+      go : Dec (k ≤ sum lst (suc w) e) → k ≤ sum lst (suc w) e
+      go (yes p) = p
+      go (no p) =
+          let m : ℕ → ℕ = walks.member n n-pos L in
+          let f : ⊥ = omega (arith, span N L κ e w z (omega arith) (omega arith), size-from L w hw, ap (sum m w) h, sum-first m w e, num-le (has L (sender n w))) in
+          absurd f
+
+  -- ---- the walk back, on the list as the slot after N begins
+
+  -- with k + 1 members or more a member sponsors k of them
+  pub sponsors-are : (L : ℕ) → k < size n L → sponsors cable L ≡ k
+  unfolding sponsors
+  sponsors-are L h = omega arith
+
+  -- The j-th member before the sender of slot N + 1: it spoke in slot u, and with it j members have spoken since.
+  pub record Before (N L j : ℕ) : Type 0 where
+    pub u : ℕ
+    pub e : ℕ
+    pub ago : u + e ≡ N
+    pub recent : suc e < n
+    pub listed : has L (sender n u) ≡ true
+    pub count : sum (walks.member n n-pos L) u (suc e) ≡ j
+    pub it : memberBefore n L (sender n (suc N)) j ≡ Member (sender n u)
+
+  pub before : (N L j : ℕ) → n ≤ N → 1 ≤ j → j < size n L → Before N L j
+  before N L j hn hj hs = go (walk-meets n n-pos L (n - 1) a j (omega arith) hj (omega (arith, others n n-pos L a (omega arith), num-le (has L (sender n (a + (n - 1)))))))
+    where
+      a : ℕ
+      a = suc (suc N - n)
+
+      z : a + (n - 1) ≡ suc N
+      z = omega (arith, n-pos)
+
+      go : Met n n-pos L (n - 1) a j → Before N L j
+      go m =
+          let y : suc (m .e - 1) ≡ m .e = omega (arith, m .back) in
+          record {
+            u = m .u;
+            e = m .e - 1;
+            ago = omega (arith, m .upto, m .back, z);
+            recent = omega (arith, m .from, m .upto, m .back, z);
+            listed = m .listed;
+            count = ap (sum (walks.member n n-pos L) (m .u)) y ∙ m .count;
+            it = before-is n n-pos L (sender n (suc N)) j ∙ ap (λ (x : ℕ). walk (n - 1) n L (sender n x) j) (sym z) ∙ m .found;
+          }
+
+  -- the member that the sender of the next slot decides
+  pub record Decision (N L : ℕ) : Type 0 where
+    pub u : ℕ
+    pub e : ℕ
+    pub ago : u + e ≡ N
+    pub recent : suc e < n
+    pub listed : E u .listed ≡ true
+    pub member : has L (sender n u) ≡ true
+    pub exact : suc (sum lst (suc u) e) ≡ k
+    pub it : decided cable L (sender n (suc N)) ≡ Member (sender n u)
+
+  pub decision : (N L : ℕ) → n ≤ N → K N L → k < size n L → Decision N L
+  decision N L hn κ hs = go (before N L k hn (omega (arith, k-two)) hs)
+    where
+      go : Before N L k → Decision N L
+      go b =
+          let m : ℕ → ℕ = walks.member n n-pos L in
+          let c₂ : suc (sum m (suc (b .u)) (b .e)) ≡ k = omega (arith, sum-first m (b .u) (b .e), num-is (b .listed), b .count) in
+          let c₃ : sum m (suc (b .u)) (b .e) ≡ sum lst (suc (b .u)) (b .e) = span-mem N L κ (b .e) (b .u) (b .ago) (omega (arith, b .recent)) (omega arith) in
+          record {
+            u = b .u;
+            e = b .e;
+            ago = b .ago;
+            recent = b .recent;
+            listed = sym (near N L κ (b .u) (b .e) (b .ago) (omega (arith, b .recent)) (omega arith)) ∙ b .listed;
+            member = b .listed;
+            exact = omega arith;
+            it = decided-before cable L (sender n (suc N)) (omega (arith, sponsors-are L hs, k-two)) ∙ ap (memberBefore n L (sender n (suc N))) (sponsors-are L hs) ∙ b .it;
+          }
+
+  -- who is among the last k listed senders and on the list is sponsored in the next slot
+  pub record Sponsored (N L u : ℕ) : Type 0 where
+    pub j : ℕ
+    pub few : j < k
+    pub it : sponsored cable L (sender n (suc N)) (suc j) ≡ Member (sender n u)
+
+  pub sponsored-since : (N L : ℕ) → n ≤ N → K N L → k < size n L → (u e : ℕ) → u + e ≡ N → suc e < n → has L (sender n u) ≡ true → sum lst (suc u) e < k → Sponsored N L u
+  sponsored-since N L hn κ hs u e z he hm l = go (before N L (suc j) hn (omega arith) (omega (arith, c)))
+    where
+      m : ℕ → ℕ
+      m = walks.member n n-pos L
+
+      j : ℕ
+      j = sum m (suc u) e
+
+      c : j ≡ sum lst (suc u) e
+      c = span N L κ e u z (omega arith) l
+
+      go : Before N L (suc j) → Sponsored N L u
+      go b =
+          let c′ : sum m u (suc e) ≡ suc j = omega (arith, sum-first m u e, num-is hm) in
+          let same : b .u ≡ u = one-place m (suc j) (b .u) (suc (b .e)) u (suc e) (omega (arith, b .ago)) (b .count) c′ (omega (arith, num-is (b .listed))) (omega (arith, num-is hm)) in
+          record { j = j; few = omega (arith, c); it = sponsored-before cable L (sender n (suc N)) (suc j) (omega arith) (omega (arith, c, sponsors-are L hs)) ∙ b .it ∙ ap (λ (q : ℕ). Member (sender n q)) same }

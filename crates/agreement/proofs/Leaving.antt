@@ -1,0 +1,81 @@
+-- The leaving time: the slot of the k-th member after a failed sender is the one in which k listed slots have been since. Assumes nothing.
+use Prim.Native.Nat.{ℕ, suc, _+_, _-_, _≤_, _<_}
+use mathlib.Core.Path.{_≡_, refl, sym, ap, _∙_}
+use mathlib.Core.Logic.{_≢_}
+use mathlib.Core.Bool.{false, true≢false}
+use native.Mathlib.Omega.{arith}
+use native.Mathlib.Decide.{decLt}
+use borrow.Author.Tests.{eq-eqb}
+use Rattle.nodeset.specs.Sums.{sum, num}
+use Rattle.nodeset.specs.Sets.{has, size}
+use Rattle.nodeset.proofs.Sums.{sum-next}
+use Rattle.ring.specs.declared.Cable.{Cable}
+use Rattle.ring.specs.declared.Found.{Found}
+use Rattle.ring.specs.declared.Found.the-variants.{Member}
+use Rattle.ring.specs.Ring.{sender, isFound}
+use Rattle.ring.proofs.Senders.{same-slot, size-round}
+use Rattle.ring.proofs.Walks.{member}
+use Rattle.agreement.specs.Demand.{memberAfter}
+use Rattle.agreement.proofs.History.{World, K, lst, span, num-is, sum-more}
+use Rattle.agreement.proofs.Depart.{since-next}
+use Rattle.agreement.proofs.Onwards.{Ahead, onwards-meets}
+
+same-member : (x y : ℕ) → Member x ≡ Member y → x ≡ y
+same-member x y e = cc
+
+-- the test of the found member says no
+pub not-found : (x : ℕ) (f : Found) → isFound x f ≡ false → f ≢ Member x
+not-found x f e q = true≢false (sym (ap (isFound x) q ∙ eq-eqb x x refl) ∙ e)
+
+module _ (W : World) where
+  open World W using (cable, n-pos, k-two, E)
+  open Cable cable using (n, k)
+
+  module _ (N L : ℕ) (κ : K W N L) (enough : k < size n L) (listed-is : E (suc N) .listed ≡ has L (sender n (suc N)))
+      (u e : ℕ) (u-pos : 1 ≤ u) (ago : u + e ≡ N) (recent : suc e < n) (waits : sum (lst W) (suc u) e < k) where
+    abbrev m : ℕ → ℕ
+    m = member n n-pos L
+
+    ahead : Ahead n n-pos L n u k
+    ahead = onwards-meets n n-pos L n u k u-pos (omega (arith, k-two)) (omega (arith, size-round n n-pos L u))
+
+    -- the members and the listed slots since u, this slot included
+    counts : sum m (suc u) (suc e) ≡ sum (lst W) (suc u) (suc e)
+    counts =
+        let z : suc u + e ≡ suc N = omega arith in
+        omega (arith, sum-next m (suc u) e, ap m z, span W N L κ e u ago (omega arith) waits, since-next W N u e ago, ap num listed-is)
+
+    pub deciding : memberAfter n L (sender n u) k ≡ Member (sender n (suc N)) → k ≤ sum (lst W) (suc u) (suc e)
+    deciding q = go ahead
+      where
+        go : Ahead n n-pos L n u k → k ≤ sum (lst W) (suc u) (suc e)
+        go r =
+            let same : sender n (u + r .e) ≡ sender n (suc N) = same-member (sender n (u + r .e)) (sender n (suc N)) (sym (r .found) ∙ q) in
+            let at : u + r .e ≡ suc N = same-slot n n-pos u (u + r .e) (suc N) (omega (arith, r .on)) (omega (arith, r .within)) (omega arith) (omega arith) same in
+            let z : r .e ≡ suc e = omega arith in
+            omega (arith, ap (sum m (suc u)) z, r .count, counts)
+
+    pub undecided : memberAfter n L (sender n u) k ≢ Member (sender n (suc N)) → sum (lst W) (suc u) (suc e) < k
+    undecided q = go ahead (decLt (sum (lst W) (suc u) (suc e)) k)
+      where
+        before : (r : Ahead n n-pos L n u k) → r .e < suc e → ⊥
+        before r h =
+            let z : r .e + (e - r .e) ≡ e = omega arith in
+            omega (arith, sum-more m (suc u) (r .e) (e - r .e), ap (sum m (suc u)) z, r .count, span W N L κ e u ago (omega arith) waits)
+
+        after : (r : Ahead n n-pos L n u k) → k ≤ sum (lst W) (suc u) (suc e) → suc e < r .e → ⊥
+        after r c h =
+            let d : ℕ = r .e - 1 in
+            let z : suc d ≡ r .e = omega arith in
+            let y : suc e + (d - suc e) ≡ d = omega arith in
+            let x : suc u + d ≡ u + r .e = omega arith in
+            omega (arith, sum-more m (suc u) (suc e) (d - suc e), ap (sum m (suc u)) y, sum-next m (suc u) d, ap (sum m (suc u)) z, ap m x, num-is (r .listed), r .count, counts)
+
+        go : Ahead n n-pos L n u k → Dec (sum (lst W) (suc u) (suc e) < k) → sum (lst W) (suc u) (suc e) < k
+        go r (yes h) = h
+        go r (no h) = absurd (q (r .found ∙ ap (λ (x : ℕ). Member (sender n x)) (here (decLt (r .e) (suc e)) (decLt (suc e) (r .e)))))
+          where
+            here : Dec (r .e < suc e) → Dec (suc e < r .e) → u + r .e ≡ suc N
+            here (yes b) a = absurd (before r b)
+            here (no b) (yes a) = absurd (after r (omega arith) a)
+            here (no b) (no a) = omega arith

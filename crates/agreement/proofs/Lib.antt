@@ -1,0 +1,25 @@
+-- The proof of demand 3: `Demanded` has `demand3 : Demand3`. It is mathematics about the rules, over laws of the sender, the sets, the walk, the step and the table.
+pub mod Past
+pub mod History
+pub mod Invariant
+pub mod Marks
+pub mod Outcome
+pub mod Listed
+pub mod Depart
+pub mod Returns
+pub mod Join
+pub mod Rounds
+pub mod Outside
+pub mod Hearing
+pub mod Alike
+pub mod Nodes
+pub mod Tables
+pub mod Reached
+pub mod Slots
+pub mod Entries
+pub mod Onwards
+pub mod Leaving
+pub mod Beginnings
+pub mod Kept
+pub mod Demanded
+pub mod Throughout

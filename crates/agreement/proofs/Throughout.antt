@@ -1,0 +1,117 @@
+-- The distance that the bench's call tells, of a look and of a slot, is 0 after each call of a sequence that keeps the premises. Assumes nothing.
+use Prim.Native.Nat.{ℕ, suc, _-_, _≤_, _<_}
+use mathlib.Core.Path.{_≡_, refl, sym, ap, _∙_}
+use mathlib.Core.Bool.{true, false≢true}
+use mathlib.Core.List.{List, [], _∷_}
+use native.Mathlib.Omega.{arith}
+use lib.ListN.{length, getD}
+use Rattle.nodeset.specs.Sets.{distance}
+use Rattle.nodeset.proofs.Tests.{by-cases}
+use Rattle.ring.specs.declared.Cable.{Cable}
+use Rattle.ring.proofs.Ranges.{ring-size}
+use Rattle.node_record.specs.declared.Node.{Node}
+use Rattle.node_record.specs.States.{isMember}
+use Rattle.node.specs.declared.Answer.{Answer}
+use Rattle.node.specs.declared.Answer.the-variants.{Done, Refused}
+use Rattle.node.specs.Calls.{noNode}
+use Rattle.bench.specs.Table.{Table, recordOf, nodeCount}
+use Rattle.bench.specs.Calls.{setUpOf, slotOf, lookOf, farthest, greatest}
+use Rattle.bench.specs.Outcomes.{slotOutcome, endedOf}
+use Rattle.bench.specs.Runs.{Call, slot, off, restart, callOf, tableAfter, isDone, isSlot}
+use Rattle.agreement.specs.Demand.{AtEach, AfterEach, MemberAt, Agree, EverySequence}
+use Rattle.agreement.specs.Distance.{NoDistance, LookTells, SlotTells, NoDistanceTold}
+use Rattle.bench.proofs.Places.{Placed}
+use Rattle.bench.proofs.Runs.{start-placed, never-unsound, run-length}
+use Rattle.agreement.proofs.Demanded.{demand3}
+
+-- ---- the distance of tables whose lists agree
+
+no-farther : (n set : ℕ) (t : Table)
+    → ((j : ℕ) → j < length t → isMember (getD t j noNode .state) ≡ true → distance n set (getD t j noNode .set) ≡ 0)
+    → farthest n set t ≡ 0
+unfolding farthest
+no-farther n set [] h = refl
+no-farther n set (v ∷ t) h = by-cases (isMember (v .state))
+    (λ e. rw (e, h 0 (omega arith) e, no-farther n set t (λ j l m. h (suc j) (omega arith) m)))
+    (λ e. rw (e, no-farther n set t (λ j l m. h (suc j) (omega arith) m)))
+
+no-greater : (n : ℕ) (t : Table)
+    → ((i j : ℕ) → i < length t → j < length t → isMember (getD t i noNode .state) ≡ true → isMember (getD t j noNode .state) ≡ true
+    → distance n (getD t i noNode .set) (getD t j noNode .set) ≡ 0)
+    → greatest n t ≡ 0
+unfolding greatest
+no-greater n [] h = refl
+no-greater n (v ∷ t) h = by-cases (isMember (v .state))
+    (λ e. rw (e, no-farther n (v .set) t (λ j l m. h 0 (suc j) (omega arith) (omega arith) e m), no-greater n t rest))
+    (λ e. rw (e, no-greater n t rest))
+  where
+    rest : (i j : ℕ) → i < length t → j < length t → isMember (getD t i noNode .state) ≡ true → isMember (getD t j noNode .state) ≡ true → distance n (getD t i noNode .set) (getD t j noNode .set) ≡ 0
+    rest i j p q a b = h (suc i) (suc j) (omega arith) (omega arith) a b
+
+record-at : (t : Table) (i : ℕ) → recordOf t (suc i) ≡ getD t i noNode
+unfolding recordOf
+record-at t i = let z : suc i - 1 ≡ i = omega arith in ap (λ (x : ℕ). getD t x noNode) z
+
+-- "all lists of member-state nodes are equal" as the bench tells it
+pub nothing-apart : (n : ℕ) (t : Table) → length t ≡ n
+    → ((i j : ℕ) → MemberAt n t i → MemberAt n t j → distance n (recordOf t i .set) (recordOf t j .set) ≡ 0)
+    → greatest n t ≡ 0
+nothing-apart n t l h = no-greater n t (λ i j p q a b.
+    ap (λ (v : Node). distance n (v .set) (getD t j noNode .set)) (sym (at i))
+    ∙ ap (λ (v : Node). distance n (recordOf t (suc i) .set) (v .set)) (sym (at j))
+    ∙ h (suc i) (suc j) (member i p a) (member j q b))
+  where
+    at : (i : ℕ) → recordOf t (suc i) ≡ getD t i noNode
+    at i = record-at t i
+
+    member : (i : ℕ) → i < length t → isMember (getD t i noNode .state) ≡ true → MemberAt n t (suc i)
+    member i p a = (omega arith, omega arith, ap (λ (v : Node). isMember (v .state)) (at i) ∙ a)
+
+-- ---- after each call
+
+also-each : (P Q : Call → List Call → Type 0) → ((c : Call) (cs : List Call) → P c cs → Q c cs) → (cs : List Call) → AtEach P cs → AtEach Q cs
+unfolding AtEach
+also-each P Q h [] a = tt
+also-each P Q h (c ∷ cs) a = (also-each P Q h cs (a .0), h c cs (a .1))
+
+module _ (cable : Cable) (pos : 1 ≤ cable .n) (start : Table) (begins : Placed cable 0 start) where
+  open Cable cable using (n)
+
+  -- as the bench's call works it out
+  told-zero : (cs : List Call) → Agree cable start cs → greatest (nodeCount (tableAfter start cs)) (tableAfter start cs) ≡ 0
+  told-zero cs h =
+      let l : nodeCount (tableAfter start cs) ≡ n = run-length cable pos start begins cs in
+      ap (λ (m : ℕ). greatest m (tableAfter start cs)) l ∙ nothing-apart n (tableAfter start cs) l h
+
+  look-tells : (cs : List Call) → Agree cable start cs → LookTells cable start cs
+  unfolding endedOf lookOf
+  look-tells cs h lost room = rw (never-unsound cable pos start begins cs) (told-zero cs h)
+
+  slot-tells : (c : Call) (cs : List Call) → Agree cable start (c ∷ cs) → SlotTells cable start c cs
+  unfolding endedOf tableAfter callOf isSlot
+  slot-tells (slot lost missed room) cs h = go (slotOf lost missed room (tableAfter start cs) .answer)
+    where
+      go : (a : Answer) → isDone a ≡ true → NoDistance (slotOutcome lost (tableAfter start cs) (slotOf lost missed room (tableAfter start cs) .table) a)
+      go Done e = told-zero (slot lost missed room ∷ cs) h
+      go (Refused cause) e = absurd (false≢true e)
+  slot-tells (off a) cs h = tt
+  slot-tells (restart a) cs h = tt
+
+pub distance-throughout : NoDistanceTold
+unfolding EverySequence
+distance-throughout cable ring sponsors lent one-each cs p = record {
+  looks = (look-tells cable pos first placed [] (agree .0), also-each _ _ (λ c x h. look-tells cable pos first placed (c ∷ x) h) cs (agree .1));
+  slots = also-each _ _ (λ c x h. slot-tells cable pos first placed c x h) cs (agree .1);
+}
+  where
+    first : Table
+    first = setUpOf cable lent .table
+
+    placed : Placed cable 0 first
+    placed = start-placed cable ring sponsors lent one-each
+
+    pos : 1 ≤ cable .n
+    pos = omega (arith, ring-size (cable .n) ring)
+
+    agree : AfterEach (Agree cable first) cs
+    agree = demand3 cable ring sponsors lent one-each cs p .agree

@@ -1,0 +1,20 @@
+-- One slot, for a sound record in any state: s is the slot's sender.
+use Prim.Native.Nat.{ℕ}
+use Rattle.message.specs.declared.Reading.{Reading}
+use Rattle.node_record.specs.declared.Node.{Node}
+use Rattle.node_record.specs.declared.State.{State}
+use Rattle.node_record.specs.declared.State.the-variants.{Member, Listening, Following, Knocking, Out}
+use Rattle.node_steps.specs.Steps.{trackingSlot}
+use Rattle.node_hearing.specs.Hearing.{listeningSlot}
+
+-- The rules of each state; "an out node only counts slots".
+abbrev pub slotIn : State → ℕ → Reading → Node → Node
+slotIn Member s heard v = trackingSlot s heard v
+slotIn Listening s heard v = listeningSlot s heard v
+slotIn Following s heard v = trackingSlot s heard v
+slotIn Knocking s heard v = trackingSlot s heard v
+slotIn (Out cause) s heard v = v
+
+-- The record after the slot; its slot count is the slot's number already.
+unfoldable pub afterSlot : ℕ → Reading → Node → Node
+afterSlot s heard v = slotIn (v .state) s heard v

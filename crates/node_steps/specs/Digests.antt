@@ -1,0 +1,91 @@
+-- Inner: one slot by what it means to all who hold one set, which is worked out once for all of them. The law in proofs/Digests ties it to specs/Steps.
+use Prim.Native.Nat.{ℕ, zero, suc}
+use mathlib.Core.Bool.{Bool, true, false, cond, not, _&&_, _||_}
+use lib.Dec.{eqb}
+use Rattle.nodeset.specs.Sets.{has, with, without, union}
+use Rattle.ring.specs.declared.Cable.{Cable}
+use Rattle.ring.specs.Ring.{sponsors, sponsored, decided, memberIn}
+use Rattle.message.specs.declared.Reading.{Reading}
+use Rattle.message.specs.declared.Reading.the-variants as reading
+use Rattle.node_record.specs.declared.Node.{Node}
+use Rattle.node_record.specs.declared.State.the-variants.{Knocking}
+use Rattle.node_record.specs.declared.Cause.the-variants.{Unconfirmed, MissedReturn}
+use Rattle.node_record.specs.States.{isFollowing, isKnocking}
+use Rattle.node_record.specs.Sponsoring.{decidedIn}
+use Rattle.node_changes.specs.Changes.{leave, withSet, withMarks, withReturning}
+use Rattle.node_steps.specs.declared.Digest.{Digest}
+use Rattle.node_steps.specs.declared.Effect.{Effect}
+use Rattle.node_steps.specs.Steps.{settle}
+
+-- ---- the digest
+
+-- The acknowledgements heard.
+abbrev pub bitsHeard : Reading → ℕ
+bitsHeard (reading.Heard bits returnBit) = bits
+bitsHeard (reading.Refused r) = 0
+
+-- The marks that a message of s sets: its own, and those of the first j of the members that it sponsors.
+unfoldable pub marksFor : ℕ → ℕ → ℕ → Cable → ℕ → ℕ
+marksFor zero s bits cable set = with 0 s
+marksFor (suc j) s bits cable set =
+    let marks = marksFor j s bits cable set in
+    cond (has bits (suc j)) (with marks (memberIn (sponsored cable set s (suc j)))) marks
+
+abbrev pub marksSet : ℕ → ℕ → Cable → ℕ → ℕ
+marksSet s bits cable set = marksFor (sponsors cable set) s bits cable set
+
+unfoldable pub digestOf : ℕ → Reading → Cable → ℕ → Digest
+digestOf s heard cable set = record {
+  set = set;
+  marks = marksSet s (bitsHeard heard) cable set;
+  decided = memberIn (decided cable set s);
+}
+
+-- It is taken by one who holds its set; any other works it out.
+abbrev pub marksBy : Digest → ℕ → ℕ → Node → ℕ
+marksBy d s bits v = cond (eqb (d .set) (v .set)) (d .marks) (marksSet s bits (v .cable) (v .set))
+
+abbrev pub decidedBy : Digest → ℕ → Node → ℕ
+decidedBy d s v = cond (eqb (d .set) (v .set)) (d .decided) (memberIn (decidedIn s v))
+
+-- ---- the slot
+
+-- What the message does, where it is heard and where it is not.
+abbrev pub effectOf : Digest → ℕ → Reading → Node → Effect
+effectOf d s (reading.Heard bits returnBit) v = record { heard = true; marks = union (v .present) (marksBy d s bits v); returned = returnBit }
+effectOf d s (reading.Refused r) v = record { heard = false; marks = without (v .present) s; returned = false }
+
+-- Steps 1 and 2.
+abbrev pub markedBy : Effect → Node → Node
+markedBy e v = withMarks (e .marks) (v .«return_heard» || (isKnocking (v .state) && e .returned)) v
+
+unfoldable pub notedBy : ℕ → Bool → Node → Node
+notedBy s heard v =
+    cond (eqb s (v .own))
+    (cond (isFollowing (v .state) && eqb (v .returning) 0) (withReturning Knocking (v .own) v) v)
+    (cond (heard && eqb (v .returning) 0) (withReturning (v .state) s v) v)
+
+abbrev pub takenBy : Bool → ℕ → Effect → Node → Node
+takenBy inside s e v = cond inside (markedBy e v) (notedBy s (e .heard) v)
+
+-- Step 3: the decided member, 0 where the sender is outside the set, and what comes of it.
+abbrev pub decidedWhere : Bool → ℕ → ℕ
+decidedWhere inside m = cond inside m 0
+
+abbrev pub isStruck : ℕ → Node → Bool
+isStruck m v = eqb (v .own) m && not (has (v .present) m)
+
+abbrev pub setAfter : ℕ → Node → ℕ
+setAfter m v = cond (has (v .present) m) (v .set) (without (v .set) m)
+
+abbrev pub departingBy : Bool → ℕ → ℕ → Node → Node
+departingBy inside m s v = cond (isStruck m v) (leave Unconfirmed v) (settle inside s (withSet (setAfter m v) v))
+
+-- Any slot of a member, following or knocking node.
+abbrev pub trackingWith : Bool → Effect → ℕ → ℕ → Node → Node
+trackingWith inside e m s v =
+    cond (inside && (e .returned && eqb (v .returning) 0)) (leave MissedReturn v)
+    (departingBy inside (decidedWhere inside m) s (takenBy inside s e v))
+
+unfoldable pub trackingBy : Digest → ℕ → Reading → Node → Node
+trackingBy d s heard v = trackingWith (has (v .set) s) (effectOf d s heard v) (decidedBy d s v) s v
