@@ -186,7 +186,7 @@ pub record Said (t : Table) : Type 0 where
   pub out : (a : ℕ) → nodeNumber (length t) a ≡ true → has (surveyOf t .out) a ≡ isOut (recordOf t a .state)
 
 -- the sender of a record of a ring
-sender-after : (v : Node) → ringSize (v .cable .n) ≡ true → senderAfter v ≡ sender (v .cable .n) (v .slots + 1)
+pub sender-after : (v : Node) → ringSize (v .cable .n) ≡ true → senderAfter v ≡ sender (v .cable .n) (v .slots + 1)
 unfolding senderAfter
 sender-after v e = ap nodeIn (chosen _ _ e)
 

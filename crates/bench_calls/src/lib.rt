@@ -13,7 +13,8 @@ ghost use mathlib.Core.Path.{_≡_};
 ghost use Prim.Native.Nat.{_≤_};
 ghost use lib.ListN.{length};
 ghost use Rattle.bench.specs.Outcomes.{endedOf, BytesAfter};
-ghost use Rattle.bench_walks.specs.Orders.{reachOf, outcomeBy, pairsBy, replyBy, bytesTold, puts, writtenBy};
+ghost use Rattle.bench_calls.specs.Work.{workOf};
+ghost use Rattle.bench_walks.specs.Orders.{carriedFrom, reachOf, outcomeBy, pairsBy, replyBy, bytesTold, puts, writtenBy};
 
 // How many records are to be looked through for the distance.
 fn reach_of(notes: Notes) -> usize
@@ -78,6 +79,44 @@ fn put_bytes(bytes: [u8; 64], end: usize, pairs: &mut [u8])
         pairs[i] = bytes[i];
         i += 1;
     }
+}
+
+// What an order that was carried out leaves to tell: what was noted, and the sets of the members where
+// they differ.
+pub struct Work {
+    pub notes: Notes,
+    pub members: Members,
+}
+
+fn worked(notes: Notes, members: Members) -> Work
+    ensures { λ r. ⌜ r ≡ record { notes = notes; members = members } ⌝ }
+{
+    Work { notes, members }
+}
+
+// Inner: what is answered to an order that was carried out.
+pub fn reply_of(order: Order, work: Work) -> Reply
+    ensures { λ r. ⌜ r ≡ replyBy order (work .notes) (work .members) ⌝ }
+{
+    let notes = work.notes;
+    let members = work.members;
+    let lists = notes.lists;
+    let list = lists.list;
+    let outcome = outcome_by(order, list, members.greatest);
+    Reply {
+        outcome,
+        pairs: pairs_by(order, notes),
+    }
+}
+
+// Inner: has each record of any table do what is ordered. Nothing is tested.
+pub fn carry(table: &mut [Node], order: Order) -> Work
+    ensures { λ r. ⌜ (now (table .exit) ≡ carriedFrom order 0 (now (table .entry))) × (r ≡ workOf order (now (table .entry))) ⌝ }
+{
+    let notes = bench_walks::carry_out(table, order);
+    let reach = reach_of(notes);
+    let members = bench_walks::look_through(table, reach);
+    worked(notes, members)
 }
 
 // Writes the pairs to the buffer, and answers.

@@ -4,7 +4,7 @@
 mod kinds;
 pub mod orders;
 mod records;
-mod surveys;
+pub mod surveys;
 
 use bench::Command;
 use bench::Fate;

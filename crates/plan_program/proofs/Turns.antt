@@ -2,6 +2,7 @@
 -- Assumes nothing.
 use Prim.Native.Nat.{ℕ, _+_, _-_, _*_, _≤_, _<_}
 use mathlib.Core.Path.{_≡_, refl, sym, ap, _∙_}
+use mathlib.Core.Bool.{true}
 use mathlib.Core.List.{List, [], _++_, append-nil, append-assoc}
 use native.Mathlib.Omega.{arith}
 use lib.ListN.{length, take, drop}
@@ -12,9 +13,10 @@ use Rattle.plan_line.proofs.Lists.{part-in}
 use Rattle.plan_program.specs.declared.Plan.{Plan}
 use Rattle.plan_program.specs.declared.Ahead.{Ahead}
 use Rattle.plan_program.specs.Program.{afterLine, lineText, linesIn, runOf, textThen, Run}
-use Rattle.plan_program.specs.Calls.{begunWith, bytesIn, runPiece}
+use Rattle.plan_program.specs.Calls.{begunWith, bytesIn, planSound, runPiece}
 use Rattle.plan_program.specs.Inner.{Goes}
 use Rattle.plan_program.proofs.Chunks.{fed-line, begun-none, parts-some}
+use Rattle.plan_program.proofs.Sound.{sound-line}
 use Rattle.plan_program.proofs.Lines.{enough, line-at, last-at, text-short}
 
 -- Of a piece that begins at plan `p₀` with `x₀` of a line, the bytes before `at` were run, and came to plan `p` with `x` of a line.
@@ -24,9 +26,10 @@ pub record Sofar (p₀ : Plan) (x₀ input out₀ : List ℕ) (p : Plan) (x : Li
   pub is : runPiece p₀ x₀ input ≡ textThen text (runPiece p x (drop at input))
   pub few : held ≤ 80 * at
   pub same : length out ≡ length out₀
+  pub sound : planSound p ≡ true
 
-pub begin : (p : Plan) (x input out : List ℕ) → Sofar p x input out p x 0 0 out
-begin p x input out = record { text = []; put = nothing 0 out .put; is = refl; few = omega arith; same = refl }
+pub begin : (p : Plan) (x input out : List ℕ) → planSound p ≡ true → Sofar p x input out p x 0 0 out
+begin p x input out sound = record { text = []; put = nothing 0 out .put; is = refl; few = omega arith; same = refl; sound = sound }
 
 module _ {p₀ : Plan} {x₀ input out₀ : List ℕ} {p : Plan} {x : List ℕ} {held at : ℕ} {out : List ℕ} (so : Sofar p₀ x₀ input out₀ p x held at out) (e : ℕ) (ends : e ≡ at + gap 10 (drop at input)) (inside : at ≤ length input) where
   one-line : (t : Plan) (x′ : List ℕ) → e < length input → t ≡ afterLine p (take 121 (x ++ take (e - at) (drop at input))) → x′ ≡ []
@@ -52,6 +55,7 @@ module _ {p₀ : Plan} {x₀ input out₀ : List ℕ} {p : Plan} {x : List ℕ} 
             ∙ ap (λ (l : List ℕ). record { plan = after .plan; rest = after .rest; text = l }) (sym (append-assoc (so .text) (lineText t) (after .text)));
         few = omega (arith, wrote .end, so .few, text-short (t .lines) (t .outcome), part-in 10 input at e inside ends);
         same = kept ∙ so .same;
+        sound = ap planSound told ∙ sound-line p (take 121 (x ++ take (e - at) (drop at input))) (so .sound);
       }
 
   pub done : (r : Ahead) → length input ≤ e → r .plan ≡ p → bytesIn (r .part) ≡ take 121 (x ++ take (e - at) (drop at input)) → r .count ≡ held

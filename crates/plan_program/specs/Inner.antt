@@ -17,12 +17,16 @@ use Rattle.plan_run.specs.Run.{openedOf, ranOf}
 use Rattle.plan_program.specs.declared.Plan.{Plan}
 use Rattle.plan_program.specs.declared.Ahead.{Ahead}
 use Rattle.plan_program.specs.Program.{Run, counted, isRefused}
-use Rattle.plan_program.specs.Calls.{bytesIn}
+use Rattle.plan_program.specs.Calls.{bytesIn, planSound}
 
 -- ---- a line in parts (`assembled`, proofs/Lines)
 
 abbrev pub planOf : ℕ → ℕ → Rows → Bool → Outcome → Plan
 planOf lines n rows over o = record { lines = lines; n = n; rows = rows; over = over; outcome = o }
+
+-- The plan can go on.
+abbrev pub soundIn : ℕ → ℕ → Rows → Bool → Bool
+soundIn lines n rows over = planSound (planOf lines n rows over outcome.Quiet)
 
 abbrev pub openedRan : Opened → Ran
 openedRan o = record { rows = o .rows; outcome = o .outcome; pairs = 0 }

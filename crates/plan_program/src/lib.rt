@@ -8,6 +8,7 @@ use node_record::Node;
 use plan_text::Written;
 use refusal::Refusal;
 ghost use mathlib.Core.Path.{_≡_};
+ghost use mathlib.Core.Bool.{true, false};
 ghost use mathlib.Core.List.{_++_, []};
 ghost use Prim.Native.Nat.{_+_, _≤_, _*_};
 ghost use lib.Dec.{leb};
@@ -18,7 +19,7 @@ ghost use Rattle.plan_run.specs.Run.{openedOf};
 ghost use Rattle.plan_text.specs.Text.{PutAt};
 ghost use Rattle.plan_program.specs.Program.{counted, endText, isRefused, mayEnd, noPlan, textOf};
 ghost use Rattle.plan_program.specs.Calls.{bytesIn, fedAs, fedOf, finishedOf, planSound, printedIn, runPiece};
-ghost use Rattle.plan_program.specs.Inner.{endOf, lineRan, linesAfter, openedRan, overAfter, runRan, sizeAfter, Goes};
+ghost use Rattle.plan_program.specs.Inner.{endOf, lineRan, linesAfter, openedRan, overAfter, runRan, sizeAfter, soundIn, Goes};
 
 // A plan as far as its lines have been run: how many, the bench (the first n rows are its table),
 // whether a line was refused, and what came of the last one.
@@ -120,8 +121,9 @@ fn first_line(text: &[u8]) -> Ran
     }
 }
 
-// A line, given as its bytes.
+// A line, given as its bytes. Requires a bench that is sound, if there is one.
 fn run_text(lines: u64, n: u32, rows: [Node; 32], text: &[u8]) -> Ran
+    requires { ⌜ soundIn lines n rows false ≡ true ⌝ }
     ensures { λ r. ⌜ r ≡ runRan lines n rows (now (text .entry)) ⌝ }
 {
     if lines == 0 {
@@ -130,8 +132,10 @@ fn run_text(lines: u64, n: u32, rows: [Node; 32], text: &[u8]) -> Ran
     plan_run::run(n, rows, text)
 }
 
-// The rows and the outcome after the line that has ended.
+// The rows and the outcome after the line that has ended. Requires a bench that is sound, if lines run
+// on one.
 fn line(lines: u64, n: u32, rows: [Node; 32], over: bool, part: Part) -> Ran
+    requires { ⌜ soundIn lines n rows over ≡ true ⌝ }
     ensures { λ r. ⌜ r ≡ lineRan lines n rows over (bytesIn part) ⌝ }
 {
     if over {
@@ -223,9 +227,9 @@ fn put(out: &mut [u8], at: usize, number: u64, outcome: Outcome) -> usize
     }
 }
 
-// Runs the lines that end in the input.
+// Runs the lines that end in the input. Requires a plan that can go on, and room.
 fn run_lines(plan: Plan, part: Part, input: &[u8], out: &mut [u8]) -> Ahead
-    requires { ⌜ 80 * length (now input) ≤ length (now out) ⌝ }
+    requires { ⌜ (planSound plan ≡ true) × (80 * length (now input) ≤ length (now out)) ⌝ }
     ensures { λ r. ⌜ Goes (runPiece plan (bytesIn part) (now (input .entry))) (length (now (input .entry))) (now (out .entry)) r (now (out .exit)) ⌝ }
 {
     let mut lines = plan.lines;

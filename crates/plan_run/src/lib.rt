@@ -1,5 +1,6 @@
-// What a plan line does to a plan's bench (document 01, "The bench program"): the bench is 32 rows
-// by value, of which the first n are its table; the call is that of `bench_by_value`.
+// Inner: what a plan line does to a plan's bench (document 01, "The bench program"): the bench is 32
+// rows by value, of which the first n are its table; the calls are those of `bench_by_value`. The table
+// is tested where a piece of the plan begins (`plan_program`), and not again for each slot.
 use bench::Command;
 use bench::Outcome;
 use bench_by_value::Ran;
@@ -8,6 +9,9 @@ use plan_line::Line;
 use plan_line::Opening;
 use refusal::Refusal;
 ghost use mathlib.Core.Path.{_≡_};
+ghost use mathlib.Core.Bool.{true};
+ghost use Rattle.bench.specs.Table.{tableSound};
+ghost use Rattle.bench_by_value.specs.ByValue.{callOf, tableOf};
 ghost use Rattle.plan_run.specs.Run.{actOf, ranBy, ranOf, noRows, openedBy, openedOf};
 
 // What a line has the bench do.
@@ -38,14 +42,30 @@ fn act_of(line: Line) -> Act
 }
 
 // A call whose pairs nobody asks for.
+fn tested(n: u32, rows: [Node; 32], command: Command) -> Ran
+    ensures { λ r. ⌜ r ≡ callOf n command 64 rows ⌝ }
+{
+    let mut pairs = [0u8; 64];
+    bench_by_value::call(&mut pairs, rows, n, command)
+}
+
+// The same on a bench that is sound: a slot takes it as it is.
+fn call(n: u32, rows: [Node; 32], command: Command) -> Ran
+    requires { ⌜ tableSound (tableOf n rows) ≡ true ⌝ }
+    ensures { λ r. ⌜ r ≡ callOf n command 64 rows ⌝ }
+{
+    let Command::Slot(lost, missed) = command else {
+        return tested(n, rows, command);
+    };
+    bench_by_value::slot(rows, n, lost, missed)
+}
+
 fn ran_by(n: u32, rows: [Node; 32], act: Act) -> Ran
+    requires { ⌜ tableSound (tableOf n rows) ≡ true ⌝ }
     ensures { λ r. ⌜ r ≡ ranBy n rows act ⌝ }
 {
     match act {
-        Act::Call(command) => {
-            let mut pairs = [0u8; 64];
-            bench_by_value::call(&mut pairs, rows, n, command)
-        }
+        Act::Call(command) => call(n, rows, command),
         Act::Refuse(cause) => Ran {
             rows,
             outcome: Outcome::Refused(cause),
@@ -54,8 +74,9 @@ fn ran_by(n: u32, rows: [Node; 32], act: Act) -> Ran
     }
 }
 
-// Runs a line after line one, given without its line feed.
+// Runs a line after line one, given without its line feed. Requires a bench that is sound.
 pub fn run(n: u32, rows: [Node; 32], line: &[u8]) -> Ran
+    requires { ⌜ tableSound (tableOf n rows) ≡ true ⌝ }
     ensures { λ r. ⌜ r ≡ ranOf n rows (now (line .entry)) ⌝ }
 {
     ran_by(n, rows, act_of(plan_line::line_of(n, line)))
@@ -74,8 +95,7 @@ fn opened_by(opening: Opening) -> Opened
 {
     match opening {
         Opening::Ring(n, k) => {
-            let mut pairs = [0u8; 64];
-            let ran = bench_by_value::call(&mut pairs, no_rows(), n, Command::SetUp(n, k));
+            let ran = tested(n, no_rows(), Command::SetUp(n, k));
             let rows = ran.rows;
             let outcome = ran.outcome;
             Opened { n, rows, outcome }

@@ -38,7 +38,7 @@ room c = sym (c .before .has-room .ensures) ∙ not-false (c .before .has-room .
 run-lines-requires : tie.Need-run-lines-requires
 run-lines-requires c κs =
     let a = c .before .before .before .before .before .before .before .args in
-    leb-true (80 * length (now (a .input))) (length (now (a .out))) (room (c .before))
+    (sound (c .before .before .before), leb-true (80 * length (now (a .input))) (length (now (a .out))) (room (c .before)))
 
 same-length : tie.Need-same-length
 same-length c = search needs

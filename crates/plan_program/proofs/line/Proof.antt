@@ -25,7 +25,9 @@ slice-aggregate-run-text : tie.Need-slice-aggregate-run-text
 slice-aggregate-run-text c = sym (length-take-le (c .before .if2 .length) (c .before .before .before .before .before .args .part .text) (array-share-prefix-text (c .before)))
 
 run-text-requires : tie.Need-run-text-requires
-run-text-requires c κs = search needs
+run-text-requires c κs =
+    let s = c .before .before .before .before .before in
+    simp (c .before .before .before .before .if1 .left) at (s .pre)
 
 same : (c : tie.Joined2) → take (c .if2 .length) (c .before .before .before .before .args .part .text) ≡ bytesIn (c .before .before .before .before .args .part)
 same c =

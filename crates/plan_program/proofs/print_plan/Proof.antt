@@ -1,11 +1,12 @@
 -- `plan_program::print_plan` meets its contract. Assumes nothing.
+use mathlib.Core.Path.{ap}
 use borrow.Author.Needs.{needs}
 use Prim.Native.Nat.{_+_, _*_}
 use native.Mathlib.Omega.{arith}
 use borrow.Author.Tests.{lt-leb}
 use lib.ListN.{length}
 use denote.Ref.{now}
-use Rattle.plan_program.specs.Calls.{bytesIn, printedIn}
+use Rattle.plan_program.specs.Calls.{bytesIn, planSound, printedIn}
 use Rattle.plan_program.proofs.Pieces.{whole, printed-in}
 use Rattle.plan_program.proofs.print_plan.Statement.{statement}
 use Rattle.plan_program.proofs.print_plan.Tie as tie
@@ -23,7 +24,9 @@ no-part-requires : tie.Need-no-part-requires
 no-part-requires c κs = search needs
 
 run-lines-requires : tie.Need-run-lines-requires
-run-lines-requires c κs = search needs
+unfolding planSound
+run-lines-requires c κs =
+    (ap planSound (c .before .before .no-plan .ensures), omega arith)
 
 put-end-requires : tie.Need-put-end-requires
 put-end-requires c κs =

@@ -7,7 +7,7 @@ use borrow.Author.Needs.{needs}
 use lib.ListN.{length, drop}
 use denote.Ref.{now}
 use Rattle.plan_program.specs.Program.{afterLine}
-use Rattle.plan_program.specs.Calls.{bytesIn}
+use Rattle.plan_program.specs.Calls.{bytesIn, planSound}
 use Rattle.plan_program.specs.Inner.{linesAfter, overAfter, planOf, sizeAfter}
 use mathlib.Core.Bool.{Bool}
 use Rattle.bench_by_value.specs.declared.Ran.{Ran}
@@ -35,7 +35,7 @@ part-end-requires c κs = omega arith
 loop-holds : tie.Need-loop-holds Inv-loop μ-loop
 loop-holds c =
     let a = c .before .before .before .before .args in
-    (c .part-end .ensures, omega arith, begin (a .plan) (bytesIn (a .part)) (now (a .input)) (now (a .out)))
+    (c .part-end .ensures, omega arith, begin (a .plan) (bytesIn (a .part)) (now (a .input)) (now (a .out)) (c .before .before .before .before .pre .0))
 
 sub-longer : tie.Need-sub-longer Inv-loop μ-loop
 sub-longer c = ends (c .before) .0
@@ -50,12 +50,13 @@ longer-requires : tie.Need-longer-requires Inv-loop μ-loop
 longer-requires c κs = search needs
 
 line-requires : tie.Need-line-requires Inv-loop μ-loop
-line-requires c κs = search needs
+unfolding planSound
+line-requires c κs = c .before .before .before .before .loop .inv .2 .sound
 
 put-requires : tie.Need-put-requires Inv-loop μ-loop
 put-requires c κs =
     let l = c .before .before .before .before .before .before .before .before .before in
-    omega (arith, l .loop .inv .2 .few, l .loop .inv .2 .same, ends l, c .before .before .before .before .before .before .before .before .loop-test .taken, l .before .before .before .before .before .pre)
+    omega (arith, l .loop .inv .2 .few, l .loop .inv .2 .same, ends l, c .before .before .before .before .before .before .before .before .loop-test .taken, l .before .before .before .before .before .pre .1)
 
 size-after-requires : tie.Need-size-after-requires Inv-loop μ-loop
 size-after-requires c κs = search needs
