@@ -35,6 +35,7 @@ use Rattle.bench.specs.Outcomes.{calledOf, endedOf, outcomeOf, BytesAfter}
 use Rattle.plan_text.specs.Text.{writtenOf}
 use Rattle.plan_text.specs.declared.Written as text
 use Rattle.plan_program.specs.declared.Plan.{Plan}
+use Rattle.plan_program.specs.declared.Part.{Part}
 use Rattle.plan_program.specs.Calls.{fedOf, finishedOf, hasRoom, planSound, printedIn}
 use Rattle.demands.specs.Demand1.{Demand1, EndsBy, FeedsBy, PrintsBy, RunsBy, StepsBy, WritesBy, numbersFor, ofLookup, ofReading, ofSpeaker, ofAnswer}
 
@@ -177,10 +178,10 @@ prints : (input out : List ℕ) → Prints out (printedIn input out)
 unfolding printedIn
 prints input out = either (Prints out) (leb (80 * length input + 80) (length out)) (tt, tt) (refl, refl)
 
-feeds : (p : Plan) (begun input out : List ℕ) → FeedsBy (4 ∷ 9 ∷ []) p begun out (fedOf p begun input out)
+feeds : (p : Plan) (part : Part) (input out : List ℕ) → FeedsBy (4 ∷ 9 ∷ []) p part out (fedOf p part input out)
 unfolding fedOf
-feeds p begun input out =
-    let P = FeedsBy (4 ∷ 9 ∷ []) p begun out in
+feeds p part input out =
+    let P = FeedsBy (4 ∷ 9 ∷ []) p part out in
     either P (planSound p) (either P (hasRoom input out) (tt, tt) (refl, refl)) (refl, refl)
 
 finishes : (p : Plan) (begun out : List ℕ) → Prints out (finishedOf p begun out)

@@ -34,6 +34,7 @@ use Rattle.bench.specs.Outcomes.{endedOf, BytesAfter}
 use Rattle.plan_text.specs.declared.Written as text
 use Rattle.plan_text.specs.declared.Written.the-variants as printed
 use Rattle.plan_program.specs.declared.Plan.{Plan}
+use Rattle.plan_program.specs.declared.Part.{Part}
 use Rattle.plan_program.specs.Calls.{Fed, fedOf, finishedOf, printedIn}
 
 -- ---- how a call ends
@@ -102,9 +103,9 @@ RunsBy numbers o before after = EndsBy numbers (ofOutcome o) × Keeps (ofOutcome
 abbrev pub PrintsBy : List ℕ → List ℕ → text.Written × List ℕ → Type 0
 PrintsBy numbers out r = EndsBy numbers (ofText (r .0)) × Keeps (ofText (r .0)) out (r .1)
 
-abbrev pub FeedsBy : List ℕ → Plan → List ℕ → List ℕ → Fed → Type 0
-FeedsBy numbers p begun out f =
-    EndsBy numbers (ofText (f .written)) × Keeps {A = Plan × List ℕ × List ℕ} (ofText (f .written)) (p, begun, out) (f .plan, f .begun, f .out)
+abbrev pub FeedsBy : List ℕ → Plan → Part → List ℕ → Fed → Type 0
+FeedsBy numbers p part out f =
+    EndsBy numbers (ofText (f .written)) × Keeps {A = Plan × Part × List ℕ} (ofText (f .written)) (p, part, out) (f .plan, f .part, f .out)
 
 -- By which numbers a call of the bench may be refused, in the order of its tests.
 abbrev pub numbersFor : Command → List ℕ
@@ -136,7 +137,7 @@ pub record Demand1 : Type 0 where
   -- the bench: set-up, slot, off, restart and a look; `out` are the lent bytes and `after` those after the call
   pub bench : (c : Command) (t : Table) (out after : List ℕ) → BytesAfter c t out after
       → let ended = endedOf c (length out) t in RunsBy (numbersFor c) (ended .reply .outcome) (t, out) (ended .table, after)
-  -- plan texts: a whole one; a piece of one, where `begun` has come of the next line; and the end
+  -- plan texts: a whole one; a piece of one, where this part of the next line has come; and the end
   pub print-plan : (input out : List ℕ) → PrintsBy (9 ∷ []) out (printedIn input out)
-  pub feed : (p : Plan) (begun input out : List ℕ) → FeedsBy (4 ∷ 9 ∷ []) p begun out (fedOf p begun input out)
+  pub feed : (p : Plan) (part : Part) (input out : List ℕ) → FeedsBy (4 ∷ 9 ∷ []) p part out (fedOf p part input out)
   pub finish : (p : Plan) (begun out : List ℕ) → PrintsBy (9 ∷ []) out (finishedOf p begun out)

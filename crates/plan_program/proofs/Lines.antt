@@ -7,8 +7,8 @@ use native.Mathlib.Omega.{arith}
 use native.Mathlib.Numerals.{add-one}
 use native.Mathlib.Decide.{decLe}
 use lib.Dec.{eqb, leb}
-use lib.ListN.{length, take, drop, getD, set, length-append}
-use lib.Seq.{length-take-le, take-all, take-suc, take-suc-set, take-append-add}
+use lib.ListN.{length, take, drop, getD, set, length-append, take-append-drop}
+use lib.Seq.{drop-drop, drop-set-lt, length-take-le, take-all, take-at, take-suc, take-suc-set, take-append-add}
 use borrow.Author.Tests.{ne-eqb, le-leb, lt-leb}
 use Rattle.refusal.specs.declared.Refusal.the-variants.{PlanLine}
 use Rattle.refusal.specs.Causes.{numberOf}
@@ -28,7 +28,9 @@ use Rattle.plan_text.specs.declared.Written.{Written}
 use Rattle.plan_text.specs.declared.Written.the-variants.{Bytes}
 use Rattle.plan_text.proofs.Digits.{decimal-short, fate-short, shown-short}
 use Rattle.plan_program.specs.declared.Plan.{Plan}
+use Rattle.plan_program.specs.declared.Part.{Part}
 use Rattle.plan_program.specs.Program.{afterLine, counted, isRefused, linesIn, planOpened, planRan, quiet, runLine, textOf}
+use Rattle.plan_program.specs.Calls.{bytesIn, partIn}
 use Rattle.plan_program.specs.Inner.{endOf, lineRan, linesAfter, openedRan, overAfter, planOf, runRan, sizeAfter}
 
 -- ---- line feeds
@@ -146,3 +148,18 @@ put-at {next} {at} {w} {text} {out} {last} room fits short wrote place =
     let bytes : last ≡ pasted out at text = ap (λ (p : Written × List ℕ). p .1) is in
     let end : endOf at (Bytes (length text)) ≡ at + length text = simp (le-leb (at + length text) 18446744073709551615 (omega arith)) in
     record { end = place ∙ ap (endOf at) count ∙ end; bytes = bytes }
+
+-- what stands after a byte that was set
+pub after-set : (t t₀ : List ℕ) (n b : ℕ) → drop n t ≡ drop n t₀ → drop (n + 1) (set t n b) ≡ drop (n + 1) t₀
+after-set t t₀ n b e = drop-set-lt (n + 1) t n b (omega arith) ∙ sym (drop-drop 1 n t) ∙ ap (drop 1) e ∙ drop-drop 1 n t₀
+
+-- ---- a part is its bytes and what stands after them
+
+pub part-bytes : (text begun : List ℕ) → bytesIn (partIn text begun) ≡ begun
+part-bytes text begun = take-at begun (drop (length begun) text) (length begun) refl
+
+pub part-made : (t t₀ : List ℕ) {begun : List ℕ} (n : ℕ) → n ≤ length t → take n t ≡ begun → drop n t ≡ drop n t₀ → _≡_ {A = Part} (record { length = n; text = t }) (partIn t₀ begun)
+part-made t t₀ {begun} n h e d =
+    let size : length begun ≡ n = ap length (sym e) ∙ length-take-le n t h in
+    let text : t ≡ begun ++ drop n t₀ = sym (take-append-drop n t) ∙ ap (λ (l : List ℕ). l ++ drop n t) e ∙ ap (λ (l : List ℕ). begun ++ l) d in
+    cc (size, text)

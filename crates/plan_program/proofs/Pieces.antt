@@ -7,7 +7,7 @@ use mathlib.Core.Bool.{Bool, true, false, cond}
 use mathlib.Core.List.{List, [], _∷_, _++_, append-nil, append-assoc}
 use native.Mathlib.Omega.{arith}
 use lib.Dec.{eqb}
-use lib.ListN.{length, take, drop}
+use lib.ListN.{length, take, drop, replicate}
 use lib.Seq.{take-at, take-take}
 use borrow.Author.Tests.{ne-eqb, lt-ltb, le-leb}
 use Rattle.refusal.specs.declared.Refusal.the-variants.{Unsound, OutputShort}
@@ -17,12 +17,13 @@ use Rattle.plan_text.specs.declared.Written.{Written}
 use Rattle.plan_text.specs.declared.Written.the-variants.{Bytes}
 use Rattle.plan_text.proofs.Paste.{both}
 use Rattle.plan_program.specs.declared.Plan.{Plan}
+use Rattle.plan_program.specs.declared.Part.{Part}
 use Rattle.plan_program.specs.declared.Ahead.{Ahead}
 use Rattle.plan_program.specs.Program.{afterLine, counted, endText, lineText, linesIn, mayEnd, noPlan, printed, quiet, runOf, textThen, wholeText, Run}
-use Rattle.plan_program.specs.Calls.{begunWith, bytesIn, fedAs, fedBy, fedOf, finishedOf, hasRoom, joined, laid, planSound, printedIn, runPiece, textsFed, unfed, Piece, PiecesPrint, Roomy}
+use Rattle.plan_program.specs.Calls.{begunWith, bytesIn, fedAs, fedBy, fedOf, finishedOf, hasRoom, joined, laid, partOf, planSound, printedIn, runPiece, textsFed, unfed, Piece, PiecesPrint, Roomy}
 use Rattle.plan_program.specs.Inner.{Goes}
 use Rattle.plan_program.proofs.Chunks.{begun-none, chunks, parts-some}
-use Rattle.plan_program.proofs.Lines.{enough}
+use Rattle.plan_program.proofs.Lines.{enough, part-bytes}
 use Rattle.plan_program.proofs.Sound.{over-line, sound-run}
 
 -- ---- the end
@@ -73,25 +74,28 @@ pub laid-is : (text out : List ℕ) → pasted out 0 text ≡ laid text out
 unfolding pasted
 laid-is text out = let none : 0 + length text ≡ length text = omega arith in ap (λ (n : ℕ). text ++ drop n out) none
 
-module _ (p : Plan) (x input out : List ℕ) where
-  pub fed-unsound : planSound p ≡ false → fedOf p x input out ≡ unfed Unsound p x out
+module _ (p : Plan) (part : Part) (input out : List ℕ) where
+  abbrev ran : Run
+  ran = runPiece p (bytesIn part) input
+
+  pub fed-unsound : planSound p ≡ false → fedOf p part input out ≡ unfed Unsound p part out
   unfolding fedOf
   fed-unsound e = simp e
 
-  pub fed-short : planSound p ≡ true → hasRoom input out ≡ false → fedOf p x input out ≡ unfed OutputShort p x out
+  pub fed-short : planSound p ≡ true → hasRoom input out ≡ false → fedOf p part input out ≡ unfed OutputShort p part out
   unfolding fedOf
   fed-short e f = simp (e, f)
 
-  fed-some : planSound p ≡ true → hasRoom input out ≡ true → fedOf p x input out ≡ fedBy (runPiece p x input) out
+  fed-some : planSound p ≡ true → hasRoom input out ≡ true → fedOf p part input out ≡ fedBy ran out
   unfolding fedOf
   fed-some e f = simp (e, f)
 
-  pub fed-run : {last : List ℕ} (r : Ahead) → planSound p ≡ true → hasRoom input out ≡ true → Goes (runPiece p x input) (length input) out r last
-      → fedAs (record { plan = r .plan; part = r .part; written = Bytes (r .count) }) last ≡ fedOf p x input out
-  fed-run r e f goes =
-      let text = runPiece p x input .text in
-      let count : r .count ≡ length text = omega (arith, goes .put .end) in
-      rw (fed-some e f) (cc (goes .plan-is, goes .part-is, count, goes .put .bytes ∙ laid-is text out))
+  pub fed-run : {last : List ℕ} (r : Ahead) (rest : Part) → rest ≡ partOf (bytesIn (r .part)) → planSound p ≡ true → hasRoom input out ≡ true → Goes ran (length input) out r last
+      → fedAs (record { plan = r .plan; part = rest; written = Bytes (r .count) }) last ≡ fedOf p part input out
+  fed-run r rest cleaned e f goes =
+      let count : r .count ≡ length (ran .text) = omega (arith, goes .put .end) in
+      let kept : rest ≡ partOf (take 121 (ran .rest)) = cleaned ∙ ap partOf (goes .part-is) in
+      rw (fed-some e f) (cc (goes .plan-is, kept, count, goes .put .bytes ∙ laid-is (ran .text) out))
 
 -- ---- all pieces
 
@@ -137,21 +141,28 @@ finished : (p : Plan) (x last : List ℕ) → 80 ≤ length last → finishedOf 
 unfolding writtenOf
 finished p x last room = simp (le-leb 80 (length last) room) (ap (λ (l : List ℕ). (Bytes (length (endText p x)), l)) (laid-is (endText p x) last))
 
-fed-texts : (pieces : List Piece) (p : Plan) (x last : List ℕ) → planSound p ≡ true → Roomy pieces last → textsFed p x pieces last ≡ wholeText (runPieces p x pieces)
+fed-texts : (pieces : List Piece) (p : Plan) (part : Part) (last : List ℕ) → planSound p ≡ true → Roomy pieces last
+    → textsFed p part pieces last ≡ wholeText (runPieces p (bytesIn part) pieces)
 unfolding textsFed runPieces
-fed-texts [] p x last sound room = rw (finished p x last room) (take-at (endText p x) (drop (length (endText p x)) last) (length (endText p x)) refl)
-fed-texts (c ∷ more) p x last sound room =
+fed-texts [] p part last sound room =
+    let end = endText p (bytesIn part) in
+    rw (finished p (bytesIn part) last room) (take-at end (drop (length end) last) (length end) refl)
+fed-texts (c ∷ more) p part last sound room =
+    let x = bytesIn part in
     let r = runPiece p x (c .input) in
-    let next = runPieces (r .plan) (take 121 (r .rest)) more in
-    rw (fed-some p x (c .input) (c .out) sound (room .0), take-at (r .text) (drop (length (r .text)) (c .out)) (length (r .text)) refl)
-    (ap (λ (l : List ℕ). r .text ++ l) (fed-texts more (r .plan) (take 121 (r .rest)) last (sound-run p (begunWith x (linesIn (c .input))) sound) (room .1))
+    let begun = take 121 (r .rest) in
+    let next = runPieces (r .plan) begun more in
+    rw (fed-some p part (c .input) (c .out) sound (room .0), take-at (r .text) (drop (length (r .text)) (c .out)) (length (r .text)) refl)
+    (ap (λ (l : List ℕ). r .text ++ l)
+    (fed-texts more (r .plan) (partOf begun) last (sound-run p (begunWith x (linesIn (c .input))) sound) (room .1)
+    ∙ ap (λ (y : List ℕ). wholeText (runPieces (r .plan) y more)) (part-bytes (replicate 121 0) begun))
     ∙ sym (append-assoc (r .text) (next .text) (endText (next .plan) (next .rest))))
 
 -- The texts of the pieces and of the end, one after the other, are what is printed of the whole text, however it is cut; and no such call is refused.
 pub pieces-print : PiecesPrint
 unfolding planSound
 pieces-print pieces last room =
-    fed-texts pieces noPlan [] last refl room ∙ alike-text (alike-pieces pieces noPlan []) ∙ sym (from-start (joined pieces))
+    fed-texts pieces noPlan (partOf []) last refl room ∙ alike-text (alike-pieces pieces noPlan []) ∙ sym (from-start (joined pieces))
 
 -- ---- after a refusal
 
@@ -178,13 +189,13 @@ over-pieces (c ∷ more) p x e =
     same-silent (ap (λ (l : List ℕ). textThen l (runPieces (f .plan) (take 121 (f .rest)) more)) (first .text)) (over-pieces more (f .plan) (take 121 (f .rest)) (first .over))
 
 -- Where the plan is over nothing is printed, whatever else comes: a program may stop reading.
-pub over-prints-nothing : (p : Plan) (x : List ℕ) (pieces : List Piece) (last : List ℕ) → p .over ≡ true → Roomy pieces last → textsFed p x pieces last ≡ []
+pub over-prints-nothing : (p : Plan) (part : Part) (pieces : List Piece) (last : List ℕ) → p .over ≡ true → Roomy pieces last → textsFed p part pieces last ≡ []
 unfolding planSound
-over-prints-nothing p x pieces last e room =
-    let f = runPieces p x pieces in
-    let s : Silent f = over-pieces pieces p x e in
+over-prints-nothing p part pieces last e room =
+    let f = runPieces p (bytesIn part) pieces in
+    let s : Silent f = over-pieces pieces p (bytesIn part) e in
     let sound : planSound p ≡ true = simp e in
-    fed-texts pieces p x last sound room
+    fed-texts pieces p part last sound room
     ∙ ap (λ (l : List ℕ). l ++ endText (f .plan) (f .rest)) (s .text)
     ∙ end-none (f .plan) (f .rest) (simp (s .over))
 

@@ -4,7 +4,7 @@ use mathlib.Core.Path.{_≡_}
 use mathlib.Core.Bool.{Bool, true, cond}
 use mathlib.Core.List.{List, [], _∷_, _++_}
 use lib.Dec.{eqb, leb}
-use lib.ListN.{length, take, drop}
+use lib.ListN.{length, take, drop, replicate}
 use Rattle.refusal.specs.declared.Refusal.{Refusal}
 use Rattle.refusal.specs.Causes.{cause}
 use Rattle.bench.specs.Table.{tableSound}
@@ -17,11 +17,22 @@ use Rattle.plan_program.specs.declared.Part.{Part}
 use Rattle.plan_program.specs.declared.Fed as code
 use Rattle.plan_program.specs.Program.{Run, endText, linesIn, noPlan, printed, runOf}
 
+-- Bytes that begin with a text; the others are as they were.
+abbrev pub laid : List ℕ → List ℕ → List ℕ
+laid text out = text ++ drop (length text) out
+
 -- ---- a text that comes in pieces
 
 -- The bytes that have come of the next line.
 abbrev pub bytesIn : Part → List ℕ
 bytesIn part = take (part .length) (part .text)
+
+-- A part that holds these bytes, before what stands after them in this text; and before zeros.
+abbrev pub partIn : List ℕ → List ℕ → Part
+partIn text begun = record { length = length begun; text = laid begun text }
+
+abbrev pub partOf : List ℕ → Part
+partOf begun = partIn (replicate 121 0) begun
 
 -- The first line has begun with these bytes.
 abbrev pub begunWith : List ℕ → List (List ℕ) → List (List ℕ)
@@ -42,34 +53,30 @@ planSound p = cond (p .over) true (cond (eqb (p .lines) 0) true (tableSound (tab
 abbrev pub hasRoom : List ℕ → List ℕ → Bool
 hasRoom input out = leb (80 * length input) (length out)
 
--- Lent bytes that begin with a text; the others are as they were.
-abbrev pub laid : List ℕ → List ℕ → List ℕ
-laid text out = text ++ drop (length text) out
-
--- What comes of a piece: the plan, the bytes of the next line, the answer, and the lent bytes.
+-- What comes of a piece: the plan, the part of the next line, the answer, and the lent bytes.
 pub record Fed : Type 0 where
   pub plan : Plan
-  pub begun : List ℕ
+  pub part : Part
   pub written : Written
   pub out : List ℕ
 
 -- Of a line that has not ended 121 bytes are kept: "Lines of at most 120 bytes".
 abbrev pub fedBy : Run → List ℕ → Fed
-fedBy r out = record { plan = r .plan; begun = take 121 (r .rest); written = Bytes (length (r .text)); out = laid (r .text) out }
+fedBy r out = record { plan = r .plan; part = partOf (take 121 (r .rest)); written = Bytes (length (r .text)); out = laid (r .text) out }
 
 -- A refusal changes nothing.
-abbrev pub unfed : Refusal → Plan → List ℕ → List ℕ → Fed
-unfed cause p begun out = record { plan = p; begun = begun; written = Refused cause; out = out }
+abbrev pub unfed : Refusal → Plan → Part → List ℕ → Fed
+unfed cause p part out = record { plan = p; part = part; written = Refused cause; out = out }
 
-unfoldable pub fedOf : Plan → List ℕ → List ℕ → List ℕ → Fed
-fedOf p begun input out =
+unfoldable pub fedOf : Plan → Part → List ℕ → List ℕ → Fed
+fedOf p part input out =
     cond (planSound p)
-    (cond (hasRoom input out) (fedBy (runPiece p begun input) out) (unfed (cause 9) p begun out))
-    (unfed (cause 4) p begun out)
+    (cond (hasRoom input out) (fedBy (runPiece p (bytesIn part) input) out) (unfed (cause 9) p part out))
+    (unfed (cause 4) p part out)
 
 -- What the code answers, and leaves.
 abbrev pub fedAs : code.Fed → List ℕ → Fed
-fedAs r out = record { plan = r .plan; begun = bytesIn (r .part); written = r .written; out = out }
+fedAs r out = record { plan = r .plan; part = r .part; written = r .written; out = out }
 
 -- ---- print_plan: 9
 
@@ -99,11 +106,11 @@ writtenIn (Bytes count) out = take count out
 writtenIn (Refused cause) out = []
 
 -- Each piece is fed with what the call before it left; then the input ends. What the calls write, one after the other:
-unfoldable pub textsFed : Plan → List ℕ → List Piece → List ℕ → List ℕ
-textsFed p begun [] last = let w = finishedOf p begun last in writtenIn (w .0) (w .1)
-textsFed p begun (c ∷ more) last =
-    let f = fedOf p begun (c .input) (c .out) in
-    writtenIn (f .written) (f .out) ++ textsFed (f .plan) (f .begun) more last
+unfoldable pub textsFed : Plan → Part → List Piece → List ℕ → List ℕ
+textsFed p part [] last = let w = finishedOf p (bytesIn part) last in writtenIn (w .0) (w .1)
+textsFed p part (c ∷ more) last =
+    let f = fedOf p part (c .input) (c .out) in
+    writtenIn (f .written) (f .out) ++ textsFed (f .plan) (f .part) more last
 
 -- The whole text.
 abbrev pub joined : List Piece → List ℕ
@@ -116,4 +123,4 @@ Roomy [] last = 80 ≤ length last
 Roomy (c ∷ more) last = (hasRoom (c .input) (c .out) ≡ true) × Roomy more last
 
 abbrev pub PiecesPrint : Type 0
-PiecesPrint = (pieces : List Piece) (last : List ℕ) → Roomy pieces last → textsFed noPlan [] pieces last ≡ printed (joined pieces)
+PiecesPrint = (pieces : List Piece) (last : List ℕ) → Roomy pieces last → textsFed noPlan (partOf []) pieces last ≡ printed (joined pieces)

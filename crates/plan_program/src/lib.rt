@@ -18,8 +18,8 @@ ghost use Rattle.bench_by_value.specs.ByValue.{tableOf};
 ghost use Rattle.plan_run.specs.Run.{openedOf};
 ghost use Rattle.plan_text.specs.Text.{PutAt};
 ghost use Rattle.plan_program.specs.Program.{counted, endText, isRefused, mayEnd, noPlan, textOf};
-ghost use Rattle.plan_program.specs.Calls.{bytesIn, fedAs, fedOf, finishedOf, planSound, printedIn, runPiece};
-ghost use Rattle.plan_program.specs.Inner.{endOf, lineRan, linesAfter, openedRan, overAfter, runRan, sizeAfter, soundIn, Goes};
+ghost use Rattle.plan_program.specs.Calls.{bytesIn, fedAs, fedOf, finishedOf, partIn, partOf, planSound, printedIn, runPiece};
+ghost use Rattle.plan_program.specs.Inner.{endOf, lineRan, linesAfter, openedRan, overAfter, planOf, runRan, sizeAfter, soundIn, Goes};
 
 // A plan as far as its lines have been run: how many, the bench (the first n rows are its table),
 // whether a line was refused, and what came of the last one.
@@ -61,9 +61,9 @@ fn is_refused(outcome: Outcome) -> bool
     }
 }
 
-// The next line with more of its bytes.
+// The next line with more of its bytes; what stands after them is as it was.
 fn longer(part: Part, bytes: &[u8]) -> Part
-    ensures { λ r. ⌜ bytesIn r ≡ take 121 (bytesIn part ++ now (bytes .entry)) ⌝ }
+    ensures { λ r. ⌜ r ≡ partIn (part .text) (take 121 (bytesIn part ++ now (bytes .entry))) ⌝ }
 {
     let mut text = part.text;
     let mut length = if part.length < 121 { part.length } else { 121 };
@@ -85,12 +85,21 @@ fn counted(lines: u64) -> u64
 
 // Nothing of the next line.
 pub fn no_part() -> Part
-    ensures { λ r. ⌜ bytesIn r ≡ [] ⌝ }
+    ensures { λ r. ⌜ r ≡ partOf [] ⌝ }
 {
     Part {
         length: 0,
         text: [0; 121],
     }
+}
+
+// The same bytes of the next line, and zeros after them.
+fn clean(part: Part) -> Part
+    ensures { λ r. ⌜ r ≡ partOf (bytesIn part) ⌝ }
+{
+    let text = part.text;
+    let length = if part.length < 121 { part.length } else { 121 };
+    longer(no_part(), &text[..length])
 }
 
 // A plan before line one.
@@ -227,6 +236,25 @@ fn put(out: &mut [u8], at: usize, number: u64, outcome: Outcome) -> usize
     }
 }
 
+// What came of a piece, from what is kept while its lines are run.
+fn came(lines: u64, n: u32, over: bool, ran: Ran, part: Part, count: usize) -> Ahead
+    ensures { λ r. ⌜ r ≡ record { plan = planOf lines n (ran .rows) over (ran .outcome); part = part; count = count } ⌝ }
+{
+    let rows = ran.rows;
+    let outcome = ran.outcome;
+    Ahead {
+        plan: Plan {
+            lines,
+            n,
+            rows,
+            over,
+            outcome,
+        },
+        part,
+        count,
+    }
+}
+
 // Runs the lines that end in the input. Requires a plan that can go on, and room.
 fn run_lines(plan: Plan, part: Part, input: &[u8], out: &mut [u8]) -> Ahead
     requires { ⌜ (planSound plan ≡ true) × (80 * length (now input) ≤ length (now out)) ⌝ }
@@ -260,19 +288,7 @@ fn run_lines(plan: Plan, part: Part, input: &[u8], out: &mut [u8]) -> Ahead
         end = plan_line::part_end(input, at, 10);
     }
     let rest = longer(part, &input[at..end]);
-    let rows = ran.rows;
-    let outcome = ran.outcome;
-    Ahead {
-        plan: Plan {
-            lines,
-            n,
-            rows,
-            over,
-            outcome,
-        },
-        part: rest,
-        count: held,
-    }
+    came(lines, n, over, ran, rest, held)
 }
 
 // Whether the table of n rows is sound: a look is not refused.
@@ -308,7 +324,7 @@ fn has_room(bytes: usize, room: usize) -> bool
 
 // Runs the lines that end in a piece of the input. It refuses by 4 and 9, and then does nothing.
 pub fn feed(plan: Plan, part: Part, input: &[u8], out: &mut [u8]) -> Fed
-    ensures { λ r. ⌜ fedAs r (now (out .exit)) ≡ fedOf plan (bytesIn part) (now (input .entry)) (now (out .entry)) ⌝ }
+    ensures { λ r. ⌜ fedAs r (now (out .exit)) ≡ fedOf plan part (now (input .entry)) (now (out .entry)) ⌝ }
 {
     if !is_sound(plan) {
         return Fed {
@@ -326,7 +342,7 @@ pub fn feed(plan: Plan, part: Part, input: &[u8], out: &mut [u8]) -> Fed
     }
     let ran = run_lines(plan, part, input, out);
     let after = ran.plan;
-    let rest = ran.part;
+    let rest = clean(ran.part);
     Fed {
         plan: after,
         part: rest,

@@ -40,7 +40,7 @@ returns-2 : tie.Need-returns-2
 returns-2 c =
     let ran = c .before .before .before .before .before .before .before .before in
     let a = ran .before .before .before .before .before .before .before .args in
-    printed-in (now (a .input)) (omega (arith, ran .before .before .before .before .if1 .left)) (whole (ran .before .before .before .no-plan .result) (bytesIn (ran .before .before .no-part .result)) (now (a .input)) (ran .run-lines .result) (ran .before .before .before .no-plan .ensures) (ran .before .before .no-part .ensures) (ran .run-lines .ensures) (c .before .before .put-end .ensures))
+    printed-in (now (a .input)) (omega (arith, ran .before .before .before .before .if1 .left)) (whole (ran .before .before .before .no-plan .result) (bytesIn (ran .before .before .no-part .result)) (now (a .input)) (ran .run-lines .result) (ran .before .before .before .no-plan .ensures) (ap bytesIn (ran .before .before .no-part .ensures)) (ran .run-lines .ensures) (c .before .before .put-end .ensures))
 
 pub print-plan-spec : {M : Type 1} → statement M
 print-plan-spec =

@@ -1,11 +1,12 @@
 -- `plan_program::run_lines` meets its contract. The loop's invariant: what was run so far (Turns), and where the next line ends. The measure is what
 -- is left of the input after that. Assumes nothing.
 use Prim.Native.Nat.{ℕ, _≤_, _+_, _-_}
-use mathlib.Core.Path.{_≡_, refl, ap, _∙_}
+use mathlib.Core.Path.{_≡_, ap, _∙_}
 use native.Mathlib.Omega.{arith}
 use borrow.Author.Needs.{needs}
 use lib.ListN.{length, drop}
 use denote.Ref.{now}
+use Rattle.plan_program.specs.declared.Ahead.{Ahead}
 use Rattle.plan_program.specs.Program.{afterLine}
 use Rattle.plan_program.specs.Calls.{bytesIn, planSound}
 use Rattle.plan_program.specs.Inner.{linesAfter, overAfter, planOf, sizeAfter}
@@ -13,7 +14,7 @@ use mathlib.Core.Bool.{Bool}
 use Rattle.bench_by_value.specs.declared.Ran.{Ran}
 use Rattle.plan_line.specs.Words.{gap}
 use Rattle.plan_line.proofs.Lists.{part-in}
-use Rattle.plan_program.proofs.Lines.{assembled}
+use Rattle.plan_program.proofs.Lines.{assembled, part-bytes}
 use Rattle.plan_program.proofs.Turns.{Sofar, begin, turn, done}
 use Rattle.plan_program.proofs.run_lines.Statement.{statement}
 use Rattle.plan_program.proofs.run_lines.Tie as tie
@@ -101,7 +102,7 @@ loop-again c =
       c .part-end2 .ensures,
       omega (arith, in-loop .loop-test .taken),
       turn (loop .inv .2) (loop .end) (loop .inv .0) (loop .inv .1) (planOf (lines .lines-after .result) (size .size-after .result) (r .rows) (over .over-after .result) (r .outcome)) (bytesIn (c .before .no-part .result)) (wrote .put .result) (wrote .put .last .0)
-          (in-loop .loop-test .taken) (told ∙ ap (afterLine p) (text .longer .ensures)) (c .before .no-part .ensures) (wrote .put .ensures) (wrote .put .kept .0),
+          (in-loop .loop-test .taken) (told ∙ ap (afterLine p) (ap bytesIn (text .longer .ensures) ∙ part-bytes _ _)) (ap bytesIn (c .before .no-part .ensures)) (wrote .put .ensures) (wrote .put .kept .0),
     )
 
 sub-longer-2 : tie.Need-sub-longer-2 Inv-loop μ-loop
@@ -116,14 +117,19 @@ part-longer-end-2 c = ends (c .before) .1
 longer-requires-2 : tie.Need-longer-requires-2 Inv-loop μ-loop
 longer-requires-2 c κs = search needs
 
+came-requires : tie.Need-came-requires Inv-loop μ-loop
+came-requires c κs = search needs
+
 same-length : tie.Need-same-length Inv-loop μ-loop
 same-length c = c .before .before .before .before .loop .inv .2 .same
 
 returns : tie.Need-returns Inv-loop μ-loop
 returns c =
-    let loop = c .before .before .before .before .loop in
-    let p = planOf (loop .lines) (loop .n) (loop .ran .rows) (loop .over) (loop .ran .outcome) in
-    done (loop .inv .2) (loop .end) (loop .inv .0) (loop .inv .1) (record { plan = p; part = c .before .longer2 .result; count = loop .held }) (c .before .before .before .loop-test .left) refl (c .before .longer2 .ensures) refl
+    let text = c .before in
+    let loop = text .before .before .before .loop in
+    let is = c .came .ensures in
+    done (loop .inv .2) (loop .end) (loop .inv .0) (loop .inv .1) (c .came .result) (text .before .before .loop-test .left)
+    (ap (λ (r : Ahead). r .plan) is) (ap (λ (r : Ahead). bytesIn (r .part)) is ∙ ap bytesIn (text .longer2 .ensures) ∙ part-bytes _ _) (ap (λ (r : Ahead). r .count) is)
 
 pub run-lines-spec : {M : Type 1} → statement M
 run-lines-spec =
@@ -151,5 +157,6 @@ run-lines-spec =
     part-longer-start-2
     part-longer-end-2
     longer-requires-2
+    came-requires
     same-length
     returns)
