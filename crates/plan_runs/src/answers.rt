@@ -57,5 +57,5 @@ pub fn put_part(output: &mut [u8; 4096], held: usize, part: Part) -> usize {
     }
     let held = output::put_block(output, held, &answer, 1);
     let text = part.text;
-    put_bytes(output, held, &text, length)
+    put_bytes(output, held, &text, 121)
 }

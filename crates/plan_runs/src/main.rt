@@ -13,7 +13,7 @@
 // `room` (four bytes) is the length of the lent buffer, 20,480 at the most, each byte of it 0xA5. A call
 // is answered by a byte, 0 or the refusal's number; by the count of bytes (four); by the whole buffer; by
 // over (a byte), lines and n of the plan; by its 32 rows; by the part's length (a byte, 122 where it is
-// more than 121) and its bytes.
+// more than 121) and the 121 bytes that it holds.
 // Any other letter ends the run.
 mod answers;
 

@@ -74,14 +74,26 @@ pub struct Held {
     pub plan: Plan,
     /// More than 121 where it was so loaded; all 121 bytes are then the part.
     length: usize,
-    part: Vec<u8>,
+    text: [u8; PART],
 }
 
 impl Held {
     pub fn first() -> Held {
         let mut bytes = [0; RECORD];
         bytes[20] = 7;
-        Held { plan: Plan::new(Reader(&bytes).record(), ROWS), length: 0, part: Vec::new() }
+        Held { plan: Plan::new(Reader(&bytes).record(), ROWS), length: 0, text: [0; PART] }
+    }
+
+    /// The bytes that have come of the next line.
+    fn part(&self) -> Vec<u8> {
+        self.text[..self.length.min(PART)].to_vec()
+    }
+
+    /// They are now these; zeros stand after them.
+    fn keep(&mut self, rest: &[u8]) {
+        self.length = rest.len();
+        self.text = [0; PART];
+        self.text[..rest.len()].copy_from_slice(rest);
     }
 
     /// Carries a command out. The answer's bytes go into `out`, which is emptied first; none for a command
@@ -96,18 +108,18 @@ impl Held {
             Command::Load(row, node) => self.plan.rows[usize::from(*row)] = *node,
             Command::Part { length, text } => {
                 self.length = usize::from(*length);
-                self.part = text[..self.length.min(PART)].to_vec();
+                self.text = *text;
             }
             Command::Feed(piece, room) => {
-                let fed = self.plan.feed(&self.part, piece, *room);
+                let fed = self.plan.feed(&self.part(), piece, *room);
                 let written = fed.map(|(text, rest)| {
-                    (self.length, self.part) = (rest.len(), rest);
+                    self.keep(&rest);
                     text
                 });
                 return Some(self.answer(written, *room, out));
             }
             Command::Finish(room) => {
-                let written = self.plan.finish(&self.part, *room);
+                let written = self.plan.finish(&self.part(), *room);
                 return Some(self.answer(written, *room, out));
             }
             Command::Print(text, room) => {
@@ -136,7 +148,7 @@ impl Held {
         out.extend(self.plan.n.to_le_bytes());
         self.plan.rows.iter().for_each(|row| out.extend(record_bytes(row)));
         out.push(self.length.min(PART + 1) as u8);
-        out.extend(&self.part);
+        out.extend(self.text);
         number
     }
 }
