@@ -29,7 +29,7 @@ use Rattle.plan_text.specs.declared.Written.the-variants.{Bytes}
 use Rattle.plan_text.proofs.Digits.{decimal-short, fate-short, shown-short}
 use Rattle.plan_program.specs.declared.Plan.{Plan}
 use Rattle.plan_program.specs.declared.Part.{Part}
-use Rattle.plan_program.specs.Program.{afterLine, counted, isRefused, linesIn, planOpened, planRan, quiet, runLine, textOf}
+use Rattle.plan_program.specs.Program.{afterLine, nextLine, isRefused, linesIn, planOpened, planRan, quiet, runLine, textOf}
 use Rattle.plan_program.specs.Calls.{bytesIn, partIn}
 use Rattle.plan_program.specs.Inner.{endOf, lineRan, linesAfter, openedRan, overAfter, planOf, runRan, sizeAfter}
 
@@ -76,8 +76,8 @@ later n l = go (decLe (length l) 121)
 pub enough : (p : Plan) (l : List ℕ) → afterLine p (take 121 l) ≡ afterLine p l
 unfolding afterLine runLine openedOf ranOf
 enough p l =
-    ap (λ (o : Opening). cond (p .over) (quiet p) (cond (eqb (p .lines) 0) (planOpened (counted (p .lines)) (openedBy o)) (planRan (counted (p .lines)) (p .n) (ranBy (p .n) (p .rows) (actOf (lineOf (p .n) (take 121 l))))))) (openings l)
-    ∙ ap (λ (o : Line). cond (p .over) (quiet p) (cond (eqb (p .lines) 0) (planOpened (counted (p .lines)) (openedBy (openingOf l))) (planRan (counted (p .lines)) (p .n) (ranBy (p .n) (p .rows) (actOf o))))) (later (p .n) l)
+    ap (λ (o : Opening). cond (p .over) (quiet p) (cond (eqb (p .lines) 0) (planOpened (nextLine (p .lines)) (openedBy o)) (planRan (nextLine (p .lines)) (p .n) (ranBy (p .n) (p .rows) (actOf (lineOf (p .n) (take 121 l))))))) (openings l)
+    ∙ ap (λ (o : Line). cond (p .over) (quiet p) (cond (eqb (p .lines) 0) (planOpened (nextLine (p .lines)) (openedBy (openingOf l))) (planRan (nextLine (p .lines)) (p .n) (ranBy (p .n) (p .rows) (actOf o))))) (later (p .n) l)
 
 -- a line in parts
 pub assembled : (p : Plan) (l : List ℕ) → planOf (linesAfter (p .lines) (p .over)) (sizeAfter (p .lines) (p .n) (p .over) l) (lineRan (p .lines) (p .n) (p .rows) (p .over) l .rows) (overAfter (p .over) (lineRan (p .lines) (p .n) (p .rows) (p .over) l .outcome)) (lineRan (p .lines) (p .n) (p .rows) (p .over) l .outcome) ≡ afterLine p l
@@ -87,8 +87,8 @@ assembled p l = go (p .over) (eqb (p .lines) 0)
     ran : Bool → Bool → Ran
     ran over first = cond over (record { rows = p .rows; outcome = outcome.Quiet; pairs = 0 }) (cond first (openedRan (openedOf l)) (ranOf (p .n) (p .rows) l))
 
-    go : (over first : Bool) → planOf (cond over (p .lines) (counted (p .lines))) (cond over (p .n) (cond first (openedOf l .n) (p .n))) (ran over first .rows) (cond over true (isRefused (ran over first .outcome))) (ran over first .outcome)
-        ≡ cond over (planOf (p .lines) (p .n) (p .rows) over outcome.Quiet) (cond first (planOpened (counted (p .lines)) (openedOf l)) (planRan (counted (p .lines)) (p .n) (ranOf (p .n) (p .rows) l)))
+    go : (over first : Bool) → planOf (cond over (p .lines) (nextLine (p .lines))) (cond over (p .n) (cond first (openedOf l .n) (p .n))) (ran over first .rows) (cond over true (isRefused (ran over first .outcome))) (ran over first .outcome)
+        ≡ cond over (planOf (p .lines) (p .n) (p .rows) over outcome.Quiet) (cond first (planOpened (nextLine (p .lines)) (openedOf l)) (planRan (nextLine (p .lines)) (p .n) (ranOf (p .n) (p .rows) l)))
     go true first = refl
     go false true = refl
     go false false = refl

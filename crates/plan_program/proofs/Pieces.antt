@@ -19,8 +19,8 @@ use Rattle.plan_text.proofs.Paste.{both}
 use Rattle.plan_program.specs.declared.Plan.{Plan}
 use Rattle.plan_program.specs.declared.Part.{Part}
 use Rattle.plan_program.specs.declared.Ahead.{Ahead}
-use Rattle.plan_program.specs.Program.{afterLine, counted, endText, lineText, linesIn, mayEnd, noPlan, printed, quiet, runOf, textThen, wholeText, Run}
-use Rattle.plan_program.specs.Calls.{begunWith, bytesIn, fedAs, fedBy, fedOf, finishedOf, hasRoom, joined, laid, partOf, planSound, printedIn, runPiece, textsFed, unfed, Piece, PiecesPrint, Roomy}
+use Rattle.plan_program.specs.Program.{afterLine, nextLine, endText, lineText, linesIn, mayEnd, noPlan, printed, quiet, runOf, textThen, wholeText, Run}
+use Rattle.plan_program.specs.Calls.{begunWith, bytesIn, fedAs, fedBy, fedOf, finishedOf, hasRoom, inputOf, laid, partOf, planSound, printedIn, runPiece, textsFed, unfed, Piece, PiecesPrint, Roomy}
 use Rattle.plan_program.specs.Inner.{Goes}
 use Rattle.plan_program.proofs.Chunks.{begun-none, chunks, parts-some}
 use Rattle.plan_program.proofs.Lines.{enough, part-bytes}
@@ -30,11 +30,11 @@ use Rattle.plan_program.proofs.Sound.{over-line, sound-run}
 
 pub end-none : (p : Plan) (rest : List ℕ) → mayEnd p rest ≡ true → endText p rest ≡ []
 unfolding endText
-end-none p rest e = ap (λ (b : Bool). cond b [] (refusalText (counted (p .lines)) 12)) e
+end-none p rest e = ap (λ (b : Bool). cond b [] (refusalText (nextLine (p .lines)) 12)) e
 
-pub end-some : (p : Plan) (rest : List ℕ) → mayEnd p rest ≡ false → endText p rest ≡ refusalText (counted (p .lines)) 12
+pub end-some : (p : Plan) (rest : List ℕ) → mayEnd p rest ≡ false → endText p rest ≡ refusalText (nextLine (p .lines)) 12
 unfolding endText
-end-some p rest e = ap (λ (b : Bool). cond b [] (refusalText (counted (p .lines)) 12)) e
+end-some p rest e = ap (λ (b : Bool). cond b [] (refusalText (nextLine (p .lines)) 12)) e
 
 empty-take : (n : ℕ) (l : List ℕ) → eqb (length (take (suc n) l)) 0 ≡ eqb (length l) 0
 empty-take n [] = refl
@@ -43,7 +43,7 @@ empty-take n (b ∷ l) = ne-eqb (suc (length (take n l))) 0 (λ e. omega arith) 
 pub end-enough : (p : Plan) (rest : List ℕ) → endText p (take 121 rest) ≡ endText p rest
 unfolding endText
 end-enough p rest =
-    ap (λ (b : Bool). cond (cond (p .over) true (cond (eqb (p .lines) 0) false b)) [] (refusalText (counted (p .lines)) 12)) (empty-take 120 rest)
+    ap (λ (b : Bool). cond (cond (p .over) true (cond (eqb (p .lines) 0) false b)) [] (refusalText (nextLine (p .lines)) 12)) (empty-take 120 rest)
 
 -- ---- 121 bytes of a line that has not ended are enough
 
@@ -106,19 +106,19 @@ runPieces p begun (c ∷ more) =
     let r = runPiece p begun (c .input) in
     textThen (r .text) (runPieces (r .plan) (take 121 (r .rest)) more)
 
-alike-pieces : (pieces : List Piece) (p : Plan) (x : List ℕ) → Alike (runPieces p (take 121 x) pieces) (runPiece p x (joined pieces))
+alike-pieces : (pieces : List Piece) (p : Plan) (x : List ℕ) → Alike (runPieces p (take 121 x) pieces) (runPiece p x (inputOf pieces))
 unfolding runPieces runOf parted
 alike-pieces [] p x = record { plan = refl; text = refl; rest = take-take 121 121 x (omega arith) ∙ ap (take 121) (sym (append-nil x)) }
 alike-pieces (c ∷ more) p x =
     let f = runPiece p (take 121 x) (c .input) in
     let g = runPiece p x (c .input) in
     let first : Alike f g = alike p x (linesIn (c .input)) in
-    let after : Alike (runPieces (g .plan) (take 121 (g .rest)) more) (runPiece (g .plan) (g .rest) (joined more)) = alike-pieces more (g .plan) (g .rest) in
+    let after : Alike (runPieces (g .plan) (take 121 (g .rest)) more) (runPiece (g .plan) (g .rest) (inputOf more)) = alike-pieces more (g .plan) (g .rest) in
     let one : runPieces p (take 121 x) (c ∷ more) ≡ textThen (g .text) (runPieces (g .plan) (take 121 (g .rest)) more) =
     ap (λ (l : List ℕ). textThen l (runPieces (f .plan) (take 121 (f .rest)) more)) (first .text)
     ∙ ap (λ (q : Plan). textThen (g .text) (runPieces q (take 121 (f .rest)) more)) (first .plan)
     ∙ ap (λ (l : List ℕ). textThen (g .text) (runPieces (g .plan) l more)) (first .rest) in
-    let all : runPiece p x (c .input ++ joined more) ≡ textThen (g .text) (runPiece (g .plan) (g .rest) (joined more)) = chunks (c .input) x p (joined more) in
+    let all : runPiece p x (c .input ++ inputOf more) ≡ textThen (g .text) (runPiece (g .plan) (g .rest) (inputOf more)) = chunks (c .input) x p (inputOf more) in
     record {
       plan = ap (λ (h : Run). h .plan) one ∙ after .plan ∙ sym (ap (λ (h : Run). h .plan) all);
       text = ap (λ (h : Run). h .text) one ∙ ap (λ (l : List ℕ). g .text ++ l) (after .text) ∙ sym (ap (λ (h : Run). h .text) all);
@@ -162,7 +162,7 @@ fed-texts (c ∷ more) p part last sound room =
 pub pieces-print : PiecesPrint
 unfolding planSound
 pieces-print pieces last room =
-    fed-texts pieces noPlan (partOf []) last refl room ∙ alike-text (alike-pieces pieces noPlan []) ∙ sym (from-start (joined pieces))
+    fed-texts pieces noPlan (partOf []) last refl room ∙ alike-text (alike-pieces pieces noPlan []) ∙ sym (from-start (inputOf pieces))
 
 -- ---- after a refusal
 
@@ -201,8 +201,8 @@ over-prints-nothing p part pieces last e room =
 
 -- ---- line numbers
 
-pub exact : (lines : ℕ) → lines + 1 < 18446744073709551616 → counted lines ≡ lines + 1
-unfolding counted
+pub exact : (lines : ℕ) → lines + 1 < 18446744073709551616 → nextLine lines ≡ lines + 1
+unfolding nextLine
 exact lines h = simp (lt-ltb lines 18446744073709551615 (omega arith))
 
 -- ---- all at once

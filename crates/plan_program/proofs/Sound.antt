@@ -29,7 +29,7 @@ use Rattle.plan_line.specs.Plan.{openingOf, lineOf}
 use Rattle.plan_line.proofs.Ranges.{RingIn, opened}
 use Rattle.plan_run.specs.Run.{actOf, noRows, openedBy, openedOf, ranBy, ranOf}
 use Rattle.plan_program.specs.declared.Plan.{Plan}
-use Rattle.plan_program.specs.Program.{afterLine, counted, planOpened, planRan, quiet, runLine, runOf}
+use Rattle.plan_program.specs.Program.{afterLine, nextLine, planOpened, planRan, quiet, runLine, runOf}
 use Rattle.plan_program.specs.Calls.{planSound}
 use Rattle.plan_program.specs.Tables.{callsIn, madeBy, startOf}
 
@@ -107,9 +107,9 @@ module _ (n k : ℕ) (ring : ringSize n ≡ true) (sponsors : sponsorCount (cabl
 
 -- ---- a plan
 
-pub counted-some : (L : ℕ) → eqb (counted L) 0 ≡ false
-unfolding counted
-counted-some L =
+pub next-line-some : (L : ℕ) → eqb (nextLine L) 0 ≡ false
+unfolding nextLine
+next-line-some L =
     by-cases (ltb L 18446744073709551615)
     (λ e. rw e (ne-eqb (L + 1) 0 (λ h. omega arith)))
     (λ e. rw e (ne-eqb L 0 (λ h. omega (arith, ltb-false L 18446744073709551615 e))))
@@ -135,7 +135,7 @@ unfolding afterLine
 over-line p l e = simp e
 
 pub ran-line : (p : Plan) (l : List ℕ) → eqb (p .lines) 0 ≡ false → p .over ≡ false
-    → afterLine p l ≡ planRan (counted (p .lines)) (p .n) (ranBy (p .n) (p .rows) (actOf (lineOf (p .n) l)))
+    → afterLine p l ≡ planRan (nextLine (p .lines)) (p .n) (ranBy (p .n) (p .rows) (actOf (lineOf (p .n) l)))
 unfolding afterLine runLine ranOf
 ran-line p l begun going = simp (going, begun)
 
@@ -150,12 +150,12 @@ later-line p l begun sound =
     let is = line-table (p .n) (p .rows) table said in
     rw (ran-line p l begun going, going) (record {
       size = refl;
-      opened = counted-some (p .lines);
-      sound = sound-table (planRan (counted (p .lines)) (p .n) (ranBy (p .n) (p .rows) (actOf said))) (ap tableSound is ∙ line-sound (p .n) (p .rows) table said);
+      opened = next-line-some (p .lines);
+      sound = sound-table (planRan (nextLine (p .lines)) (p .n) (ranBy (p .n) (p .rows) (actOf said))) (ap tableSound is ∙ line-sound (p .n) (p .rows) table said);
       table = is;
     }))
 
-pub first-line : (p : Plan) (l : List ℕ) → eqb (p .lines) 0 ≡ true → p .over ≡ false → afterLine p l ≡ planOpened (counted (p .lines)) (openedBy (openingOf l))
+pub first-line : (p : Plan) (l : List ℕ) → eqb (p .lines) 0 ≡ true → p .over ≡ false → afterLine p l ≡ planOpened (nextLine (p .lines)) (openedBy (openingOf l))
 unfolding afterLine runLine openedOf
 first-line p l begun going = simp (going, begun)
 
@@ -172,7 +172,7 @@ sound-line p l sound =
     (λ over. rw (over-line p l over) sound)
     (λ going.
     by-cases (eqb (p .lines) 0)
-    (λ first. rw (first-line p l first going) (opened-sound (counted (p .lines)) (openingOf l) (opened l)))
+    (λ first. rw (first-line p l first going) (opened-sound (nextLine (p .lines)) (openingOf l) (opened l)))
     (λ begun. later-line p l begun sound .sound))
 
 pub sound-run : (p : Plan) (parts : List (List ℕ)) → planSound p ≡ true → planSound (runOf p parts .plan) ≡ true

@@ -17,10 +17,10 @@ use Rattle.plan_line.specs.Plan.{lineOf}
 use Rattle.plan_line.proofs.Ranges.{RingIn, opened}
 use Rattle.plan_run.specs.Run.{openedBy}
 use Rattle.plan_program.specs.declared.Plan.{Plan}
-use Rattle.plan_program.specs.Program.{afterLine, counted, lineText, noPlan, planOpened, runOf}
+use Rattle.plan_program.specs.Program.{afterLine, nextLine, lineText, noPlan, planOpened, runOf}
 use Rattle.plan_program.specs.Calls.{planSound}
 use Rattle.plan_program.specs.Tables.{afterLines, callsIn, callsOf, madeBy, startOf, textsOf, whole, Opens, PrintedByLines, SameTables}
-use Rattle.plan_program.proofs.Sound.{counted-some, first-line, later-line, opened-table, sound-line}
+use Rattle.plan_program.proofs.Sound.{next-line-some, first-line, later-line, opened-table, sound-line}
 
 -- ---- the text of a run is that of its lines
 
@@ -76,13 +76,13 @@ module _ (n k : ℕ) (first : List ℕ) (opens : Opens n k first) where
   abbrev p₁ : Plan
   p₁ = afterLine noPlan first
 
-  pub begun : p₁ ≡ planOpened (counted 0) (openedBy (Ring n k))
-  begun = first-line noPlan first refl refl ∙ ap (λ (o : Opening). planOpened (counted 0) (openedBy o)) (opens .says)
+  pub begun : p₁ ≡ planOpened (nextLine 0) (openedBy (Ring n k))
+  begun = first-line noPlan first refl refl ∙ ap (λ (o : Opening). planOpened (nextLine 0) (openedBy o)) (opens .says)
 
   pub reached-first : Reached (startOf n k) p₁ []
   unfolding tableAfter planSound
   reached-first = record {
-    opened = ap (λ (p : Plan). eqb (p .lines) 0) begun ∙ counted-some 0;
+    opened = ap (λ (p : Plan). eqb (p .lines) 0) begun ∙ next-line-some 0;
     sound = sound-line noPlan first refl;
     table = ap (λ (p : Plan). tableOf (p .n) (p .rows)) begun ∙ opened-table n k (ring .0) (ring .1);
   }

@@ -112,10 +112,10 @@ textsFed p part (c ∷ more) last =
     let f = fedOf p part (c .input) (c .out) in
     writtenIn (f .written) (f .out) ++ textsFed (f .plan) (f .part) more last
 
--- The whole text.
-abbrev pub joined : List Piece → List ℕ
-joined [] = []
-joined (c ∷ more) = c .input ++ joined more
+-- The whole text: what is put in, one piece after the other.
+abbrev pub inputOf : List Piece → List ℕ
+inputOf [] = []
+inputOf (c ∷ more) = c .input ++ inputOf more
 
 -- There is room for what is printed of each piece, and of the end.
 abbrev pub Roomy : List Piece → List ℕ → Type 0
@@ -123,4 +123,4 @@ Roomy [] last = 80 ≤ length last
 Roomy (c ∷ more) last = (hasRoom (c .input) (c .out) ≡ true) × Roomy more last
 
 abbrev pub PiecesPrint : Type 0
-PiecesPrint = (pieces : List Piece) (last : List ℕ) → Roomy pieces last → textsFed noPlan (partOf []) pieces last ≡ printed (joined pieces)
+PiecesPrint = (pieces : List Piece) (last : List ℕ) → Roomy pieces last → textsFed noPlan (partOf []) pieces last ≡ printed (inputOf pieces)

@@ -16,7 +16,7 @@ use Rattle.plan_run.specs.declared.Opened.{Opened}
 use Rattle.plan_run.specs.Run.{openedOf, ranOf}
 use Rattle.plan_program.specs.declared.Plan.{Plan}
 use Rattle.plan_program.specs.declared.Ahead.{Ahead}
-use Rattle.plan_program.specs.Program.{Run, counted, isRefused}
+use Rattle.plan_program.specs.Program.{Run, nextLine, isRefused}
 use Rattle.plan_program.specs.Calls.{bytesIn, planSound}
 
 -- ---- a line in parts (`assembled`, proofs/Lines)
@@ -38,7 +38,7 @@ unfoldable pub lineRan : ℕ → ℕ → Rows → Bool → List ℕ → Ran
 lineRan lines n rows over line = cond over (record { rows = rows; outcome = outcome.Quiet; pairs = 0 }) (runRan lines n rows line)
 
 abbrev pub linesAfter : ℕ → Bool → ℕ
-linesAfter lines over = cond over lines (counted lines)
+linesAfter lines over = cond over lines (nextLine lines)
 
 abbrev pub sizeAfter : ℕ → ℕ → Bool → List ℕ → ℕ
 sizeAfter lines n over line = cond over n (cond (eqb lines 0) (openedOf line .n) n)

@@ -21,9 +21,9 @@ use Rattle.plan_program.specs.declared.Plan.{Plan}
 abbrev pub noPlan : Plan
 noPlan = record { lines = 0; n = 0; rows = noRows; over = false; outcome = outcome.Quiet }
 
--- "Lines counted from 1": the number of the next line. The count stops at the last number of 64 bits; `exact` (proofs/Pieces) says that it is exact before.
-unfoldable pub counted : ℕ → ℕ
-counted lines = cond (ltb lines 18446744073709551615) (lines + 1) lines
+-- "lines counted from 1": the number of the next line. The count stops at the last number of 64 bits; `exact` (proofs/Pieces) says that it is exact before.
+unfoldable pub nextLine : ℕ → ℕ
+nextLine lines = cond (ltb lines 18446744073709551615) (lines + 1) lines
 
 abbrev pub isRefused : Outcome → Bool
 isRefused outcome.Quiet = false
@@ -44,8 +44,8 @@ planRan L n r = planWith L n (r .rows) (r .outcome)
 unfoldable pub runLine : Plan → List ℕ → Plan
 runLine p line =
     cond (eqb (p .lines) 0)
-    (planOpened (counted (p .lines)) (openedOf line))
-    (planRan (counted (p .lines)) (p .n) (ranOf (p .n) (p .rows) line))
+    (planOpened (nextLine (p .lines)) (openedOf line))
+    (planRan (nextLine (p .lines)) (p .n) (ranOf (p .n) (p .rows) line))
 
 -- A line after the end of the run does nothing.
 abbrev pub quiet : Plan → Plan
@@ -92,7 +92,7 @@ mayEnd p rest = cond (p .over) true (cond (eqb (p .lines) 0) false (eqb (length 
 
 -- What is printed where the input ends: "plan line unreadable" is 12.
 unfoldable pub endText : Plan → List ℕ → List ℕ
-endText p rest = cond (mayEnd p rest) [] (refusalText (counted (p .lines)) 12)
+endText p rest = cond (mayEnd p rest) [] (refusalText (nextLine (p .lines)) 12)
 
 abbrev pub wholeText : Run → List ℕ
 wholeText r = r .text ++ endText (r .plan) (r .rest)

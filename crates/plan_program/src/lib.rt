@@ -17,7 +17,7 @@ ghost use Rattle.bench.specs.Table.{tableSound};
 ghost use Rattle.bench_by_value.specs.ByValue.{tableOf};
 ghost use Rattle.plan_run.specs.Run.{openedOf};
 ghost use Rattle.plan_text.specs.Text.{PutAt};
-ghost use Rattle.plan_program.specs.Program.{counted, endText, isRefused, mayEnd, noPlan, textOf};
+ghost use Rattle.plan_program.specs.Program.{endText, isRefused, mayEnd, nextLine, noPlan, textOf};
 ghost use Rattle.plan_program.specs.Calls.{bytesIn, fedAs, fedOf, finishedOf, partIn, partOf, planSound, printedIn, runPiece};
 ghost use Rattle.plan_program.specs.Inner.{endOf, lineRan, linesAfter, openedRan, overAfter, planOf, runRan, sizeAfter, soundIn, Goes};
 
@@ -77,8 +77,8 @@ fn longer(part: Part, bytes: &[u8]) -> Part
 }
 
 // The number of the next line.
-fn counted(lines: u64) -> u64
-    ensures { λ r. ⌜ r ≡ counted lines ⌝ }
+fn next_line(lines: u64) -> u64
+    ensures { λ r. ⌜ r ≡ nextLine lines ⌝ }
 {
     if lines < u64::MAX { lines + 1 } else { lines }
 }
@@ -189,7 +189,7 @@ fn lines_after(lines: u64, over: bool) -> u64
     if over {
         return lines;
     }
-    counted(lines)
+    next_line(lines)
 }
 
 // Whether the run is over after the line.
@@ -374,7 +374,7 @@ fn put_end(out: &mut [u8], at: usize, plan: Plan, part: Part) -> usize
     put(
         out,
         at,
-        counted(plan.lines),
+        next_line(plan.lines),
         Outcome::Refused(Refusal::PlanLine),
     )
 }

@@ -6,11 +6,11 @@ use Rattle.plan_program.proofs.lines_after.Tie as tie
 returns : tie.Need-returns
 returns c = search needs
 
-counted-requires : tie.Need-counted-requires
-counted-requires c κs = search needs
+next-line-requires : tie.Need-next-line-requires
+next-line-requires c κs = search needs
 
 returns-2 : tie.Need-returns-2
-returns-2 c = simp (c .before .if1 .left) (c .counted .ensures)
+returns-2 c = simp (c .before .if1 .left) (c .next-line .ensures)
 
 pub lines-after-spec : {M : Type 1} → statement M
-lines-after-spec = tie.close (tie.spec returns counted-requires returns-2)
+lines-after-spec = tie.close (tie.spec returns next-line-requires returns-2)

@@ -16,8 +16,8 @@ returns c =
     let a = c .before .before .before .args in
     rw (end-none (a .plan) (bytesIn (a .part)) (sym (c .before .may-end .ensures) ∙ c .if1 .taken)) (nothing (a .at) (now (a .out)) .put)
 
-counted-requires : tie.Need-counted-requires
-counted-requires c κs = search needs
+next-line-requires : tie.Need-next-line-requires
+next-line-requires c κs = search needs
 
 put-requires : tie.Need-put-requires
 put-requires c κs = search needs
@@ -29,9 +29,9 @@ returns-2 : tie.Need-returns-2
 returns-2 c =
     let may-end = c .before .before .before .before .before .before in
     let a = may-end .before .before .args in
-    rw (end-some (a .plan) (bytesIn (a .part)) (sym (may-end .may-end .ensures) ∙ c .before .before .before .before .before .if1 .left)) (rw (c .before .before .before .counted .ensures) at (c .before .before .put .ensures))
+    rw (end-some (a .plan) (bytesIn (a .part)) (sym (may-end .may-end .ensures) ∙ c .before .before .before .before .before .if1 .left)) (rw (c .before .before .before .next-line .ensures) at (c .before .before .put .ensures))
 
 pub put-end-spec : {M : Type 1} → statement M
 put-end-spec =
     tie.close
-    (tie.spec may-end-requires returns counted-requires put-requires same-length returns-2)
+    (tie.spec may-end-requires returns next-line-requires put-requires same-length returns-2)
