@@ -145,7 +145,7 @@ module _ (cable : Cable) (slots : ℕ) where
       let p = placed cable slots i v t e in
       out-before (suc i) x (outWith out v) t (p .rest) (omega (arith, l)) ∙ with-other out x v (λ h. omega (arith, h, l, p .own))
 
-  with-own : (out x : ℕ) (v : Node) → v .own ≡ x → 1 ≤ x → x ≤ 32 → has out x ≡ false → has (outWith out v) x ≡ isOut (v .state)
+  pub with-own : (out x : ℕ) (v : Node) → v .own ≡ x → 1 ≤ x → x ≤ 32 → has out x ≡ false → has (outWith out v) x ≡ isOut (v .state)
   with-own out x v own low high none = go (isOut (v .state))
     where
       go : (b : Bool) → has (cond b (with out (v .own)) out) x ≡ b

@@ -1,9 +1,9 @@
 -- Inner: what one look over a table finds, record by record. The laws in bench_calls' proofs/ tie it to bench's specs/Table and specs/Calls.
-use Prim.Native.Nat.{ℕ, zero, suc, _+_, max}
+use Prim.Native.Nat.{ℕ, zero, suc, _+_, _-_, max}
 use mathlib.Core.Bool.{Bool, true, false, cond, _&&_}
 use mathlib.Core.List.{List, [], _∷_}
-use lib.Dec.{eqb, ltb}
-use lib.ListN.{getD, set, replicate}
+use lib.Dec.{eqb, leb, ltb}
+use lib.ListN.{getD, length, set, replicate}
 use Rattle.nodeset.specs.Sets.{with, distance}
 use Rattle.ring.specs.Answers.{senderOf}
 use Rattle.ring.specs.declared.Speaker.{Speaker}
@@ -71,6 +71,29 @@ surveyOf t = surveyFrom unseen 0 t
 -- A table is sound by its survey and its length.
 abbrev pub fineTable : Survey → ℕ → Bool
 fineTable s size = s .fine && eqb (s .cable .n) size
+
+-- ---- what a call needs of a survey, without a look over the whole table
+
+-- The index of node x among so many records; that of the first where there is no such node.
+abbrev pub indexOf : ℕ → ℕ → ℕ
+indexOf x size = cond (leb 1 x && leb x size) (x - 1) 0
+
+abbrev pub glimpsed : Node → Node → Node → Survey
+glimpsed first speaker other = record {
+  fine = true;
+  cable = first .cable;
+  slots = first .slots;
+  sender = senderAfter first;
+  speaker = speaker;
+  out = outWith 0 other;
+}
+
+abbrev pub recordIn : Table → ℕ → Node
+recordIn t x = getD t (indexOf x (length t)) noNode
+
+-- The first record, the next sender's, and that of a named node.
+unfoldable pub glimpseOf : Table → ℕ → Survey
+glimpseOf t named = let first = recordIn t 1 in glimpsed first (recordIn t (senderAfter first)) (recordIn t named)
 
 -- ---- the sets of the members, and the greatest distance of two of them
 

@@ -26,11 +26,14 @@ use records::step_at;
 use refusal::Refusal;
 use ring::Cable;
 use surveys::begun;
+use surveys::glimpsed;
+use surveys::index_of;
 use surveys::seen;
+use surveys::sender_after;
 ghost use mathlib.Core.Path.{_≡_};
 ghost use Prim.Native.Nat.{_<_, _≤_, max, min};
-ghost use lib.ListN.{take};
-ghost use Rattle.bench_walks.specs.Survey.{surveyed, unseen, surveyOf, fineTable, farFrom, memberSeen, gathered, noMembers, membersOf};
+ghost use lib.ListN.{length, take};
+ghost use Rattle.bench_walks.specs.Survey.{glimpseOf, surveyed, unseen, surveyOf, fineTable, farFrom, memberSeen, gathered, noMembers, membersOf};
 ghost use Rattle.bench_walks.specs.Orders.{orderOf, carried, carriedFrom, pushed, withPair, noPairs, listWith, sameWith, listsWith, noticed, noNotes, notesOf};
 
 // What a look over a table finds: whether each record stands in its place; the cable and slots of
@@ -321,6 +324,19 @@ pub fn look_over(table: &[Node], reach: usize) -> Survey
         i += 1;
     }
     s
+}
+
+// What a look over a sound table finds that a call needs: cable and slots of the first record, the next
+// sender's record, and whether the named node is out. Nothing is tested. Requires a record.
+pub fn glimpse(table: &[Node], named: u32) -> Survey
+    requires { ⌜ 1 ≤ length (now table) ⌝ }
+    ensures { λ r. ⌜ r ≡ glimpseOf (now (table .entry)) named ⌝ }
+{
+    let size = table.len();
+    let first = table[index_of(1, size)];
+    let speaker = table[index_of(sender_after(first), size)];
+    let other = table[index_of(named, size)];
+    glimpsed(first, speaker, other)
 }
 
 // Gathers the members' sets of the first so many records, or of all if there are fewer.

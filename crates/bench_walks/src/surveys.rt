@@ -6,7 +6,7 @@ ghost use mathlib.Core.Path.{_≡_};
 ghost use Prim.Native.Nat.{_+_};
 ghost use lib.Dec.{eqb};
 ghost use Rattle.bench.specs.Table.{inPlace};
-ghost use Rattle.bench_walks.specs.Survey.{senderAfter, begun, outWith, seen};
+ghost use Rattle.bench_walks.specs.Survey.{senderAfter, begun, glimpsed, indexOf, outWith, seen};
 
 // The sender of the slot that follows those of the record; 0 where its n is no ring's.
 pub fn sender_after(v: Node) -> u32
@@ -64,6 +64,34 @@ fn out_with(out: u32, v: Node) -> u32
         return nodeset::with(out, v.own);
     }
     out
+}
+
+// The index of node x among so many records; that of the first where there is no such node.
+pub fn index_of(x: u32, size: usize) -> usize
+    ensures { λ r. ⌜ r ≡ indexOf x size ⌝ }
+{
+    if x == 0 {
+        return 0;
+    }
+    let i = (x - 1) as usize;
+    if i < size { i } else { 0 }
+}
+
+// What is found of the first record, the next sender's and another.
+pub fn glimpsed(first: Node, speaker: Node, other: Node) -> Survey
+    ensures { λ r. ⌜ r ≡ glimpsed first speaker other ⌝ }
+{
+    let sender = sender_after(first);
+    let cable = first.cable;
+    let out = out_with(0, other);
+    Survey {
+        fine: true,
+        cable,
+        slots: first.slots,
+        sender,
+        speaker,
+        out,
+    }
 }
 
 // The survey with the record at index i.

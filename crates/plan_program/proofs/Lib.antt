@@ -1,7 +1,9 @@
 pub mod Lines
 pub mod Chunks
 pub mod Sound
+pub mod Lent
 pub mod Turns
+pub mod Lending
 pub mod Tables
 pub mod Pieces
 pub mod Computed

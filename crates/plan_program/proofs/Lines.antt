@@ -1,7 +1,7 @@
--- Where the lines of a text stand; how much of a line tells all; how long a printed line is; a line in parts. Assumes nothing.
+-- Where the lines of a text stand; how much of a line tells all; how long a printed line is. Assumes nothing.
 use Prim.Native.Nat.{ℕ, zero, suc, _+_, _-_, _*_, _/_, _≤_, _<_}
 use mathlib.Core.Path.{_≡_, refl, sym, ap, _∙_}
-use mathlib.Core.Bool.{Bool, true, false, cond}
+use mathlib.Core.Bool.{cond}
 use mathlib.Core.List.{List, [], _∷_, _++_, append-assoc}
 use native.Mathlib.Omega.{arith}
 use native.Mathlib.Numerals.{add-one}
@@ -14,7 +14,6 @@ use Rattle.refusal.specs.declared.Refusal.the-variants.{PlanLine}
 use Rattle.refusal.specs.Causes.{numberOf}
 use Rattle.bench.specs.declared.Outcome.{Outcome}
 use Rattle.bench.specs.declared.Outcome.the-variants as outcome
-use Rattle.bench_by_value.specs.declared.Ran.{Ran}
 use Rattle.plan_line.specs.declared.Opening.{Opening}
 use Rattle.plan_line.specs.declared.Opening.the-variants as opening
 use Rattle.plan_line.specs.declared.Line.{Line}
@@ -29,9 +28,9 @@ use Rattle.plan_text.specs.declared.Written.the-variants.{Bytes}
 use Rattle.plan_text.proofs.Digits.{decimal-short, fate-short, shown-short}
 use Rattle.plan_program.specs.declared.Plan.{Plan}
 use Rattle.plan_program.specs.declared.Part.{Part}
-use Rattle.plan_program.specs.Program.{afterLine, nextLine, isRefused, linesIn, planOpened, planRan, quiet, runLine, textOf}
+use Rattle.plan_program.specs.Program.{afterLine, nextLine, linesIn, planOpened, planRan, quiet, runLine, textOf}
 use Rattle.plan_program.specs.Calls.{bytesIn, partIn}
-use Rattle.plan_program.specs.Inner.{endOf, lineRan, linesAfter, openedRan, overAfter, planOf, runRan, sizeAfter}
+use Rattle.plan_program.specs.Inner.{endOf}
 
 -- ---- line feeds
 
@@ -78,20 +77,6 @@ unfolding afterLine runLine openedOf ranOf
 enough p l =
     ap (λ (o : Opening). cond (p .over) (quiet p) (cond (eqb (p .lines) 0) (planOpened (nextLine (p .lines)) (openedBy o)) (planRan (nextLine (p .lines)) (p .n) (ranBy (p .n) (p .rows) (actOf (lineOf (p .n) (take 121 l))))))) (openings l)
     ∙ ap (λ (o : Line). cond (p .over) (quiet p) (cond (eqb (p .lines) 0) (planOpened (nextLine (p .lines)) (openedBy (openingOf l))) (planRan (nextLine (p .lines)) (p .n) (ranBy (p .n) (p .rows) (actOf o))))) (later (p .n) l)
-
--- a line in parts
-pub assembled : (p : Plan) (l : List ℕ) → planOf (linesAfter (p .lines) (p .over)) (sizeAfter (p .lines) (p .n) (p .over) l) (lineRan (p .lines) (p .n) (p .rows) (p .over) l .rows) (overAfter (p .over) (lineRan (p .lines) (p .n) (p .rows) (p .over) l .outcome)) (lineRan (p .lines) (p .n) (p .rows) (p .over) l .outcome) ≡ afterLine p l
-unfolding afterLine runLine lineRan runRan
-assembled p l = go (p .over) (eqb (p .lines) 0)
-  where
-    ran : Bool → Bool → Ran
-    ran over first = cond over (record { rows = p .rows; outcome = outcome.Quiet; pairs = 0 }) (cond first (openedRan (openedOf l)) (ranOf (p .n) (p .rows) l))
-
-    go : (over first : Bool) → planOf (cond over (p .lines) (nextLine (p .lines))) (cond over (p .n) (cond first (openedOf l .n) (p .n))) (ran over first .rows) (cond over true (isRefused (ran over first .outcome))) (ran over first .outcome)
-        ≡ cond over (planOf (p .lines) (p .n) (p .rows) over outcome.Quiet) (cond first (planOpened (nextLine (p .lines)) (openedOf l)) (planRan (nextLine (p .lines)) (p .n) (ranOf (p .n) (p .rows) l)))
-    go true first = refl
-    go false true = refl
-    go false false = refl
 
 -- ---- a line is printed in 80 bytes
 

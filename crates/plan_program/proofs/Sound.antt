@@ -47,7 +47,7 @@ table-replaced n rows t same = go (decLe n (length rows))
 -- ---- a call
 
 -- a ring of one node at least
-some-record : (t : Table) → tableSound t ≡ true → 1 ≤ length t
+pub some-record : (t : Table) → tableSound t ≡ true → 1 ≤ length t
 unfolding tableSound
 some-record [] e = absurd (false≢true e)
 some-record (v ∷ t) e = omega arith

@@ -3,8 +3,8 @@
 // `finish` ends the text, `print_plan` takes it all at once.
 use bench::Command;
 use bench::Outcome;
-use bench_by_value::Ran;
 use node_record::Node;
+use plan_run::Act;
 use plan_text::Written;
 use refusal::Refusal;
 ghost use mathlib.Core.Path.{_≡_};
@@ -15,11 +15,10 @@ ghost use lib.Dec.{leb};
 ghost use lib.ListN.{length, take};
 ghost use Rattle.bench.specs.Table.{tableSound};
 ghost use Rattle.bench_by_value.specs.ByValue.{tableOf};
-ghost use Rattle.plan_run.specs.Run.{openedOf};
 ghost use Rattle.plan_text.specs.Text.{PutAt};
 ghost use Rattle.plan_program.specs.Program.{endText, isRefused, mayEnd, nextLine, noPlan, textOf};
 ghost use Rattle.plan_program.specs.Calls.{bytesIn, fedAs, fedOf, finishedOf, partIn, partOf, planSound, printedIn, runPiece};
-ghost use Rattle.plan_program.specs.Inner.{endOf, lineRan, linesAfter, openedRan, overAfter, planOf, runRan, sizeAfter, soundIn, Goes};
+ghost use Rattle.plan_program.specs.Inner.{actIn, afterIn, begunOf, cameOf, endOf, linesAfter, outcomeAfter, overAfter, rowsFor, sizeAfter, sizeOf, sought, withLine, Goes, Told};
 
 // A plan as far as its lines have been run: how many, the bench (the first n rows are its table),
 // whether a line was refused, and what came of the last one.
@@ -35,6 +34,22 @@ pub struct Plan {
 pub struct Part {
     pub length: usize,
     pub text: [u8; 121],
+}
+
+// Where the lines of a piece stand: the plan but for its rows, and how many bytes are printed; the next
+// line, whether it ends in the piece, what it has the bench do, the number of nodes after it, and the
+// place after its end.
+struct Going {
+    lines: u64,
+    n: u32,
+    over: bool,
+    outcome: Outcome,
+    held: usize,
+    part: Part,
+    more: bool,
+    act: Act,
+    size: u32,
+    at: usize,
 }
 
 // What came of a piece that was run: `count` bytes are printed.
@@ -116,60 +131,22 @@ pub fn no_plan() -> Plan
     }
 }
 
-// Line one.
-fn first_line(text: &[u8]) -> Ran
-    ensures { λ r. ⌜ r ≡ openedRan (openedOf (now (text .entry))) ⌝ }
-{
-    let opened = plan_run::open(text);
-    let rows = opened.rows;
-    let outcome = opened.outcome;
-    Ran {
-        rows,
-        outcome,
-        pairs: 0,
-    }
-}
-
-// A line, given as its bytes. Requires a bench that is sound, if there is one.
-fn run_text(lines: u64, n: u32, rows: [Node; 32], text: &[u8]) -> Ran
-    requires { ⌜ soundIn lines n rows false ≡ true ⌝ }
-    ensures { λ r. ⌜ r ≡ runRan lines n rows (now (text .entry)) ⌝ }
-{
-    if lines == 0 {
-        return first_line(text);
-    }
-    plan_run::run(n, rows, text)
-}
-
-// The rows and the outcome after the line that has ended. Requires a bench that is sound, if lines run
-// on one.
-fn line(lines: u64, n: u32, rows: [Node; 32], over: bool, part: Part) -> Ran
-    requires { ⌜ soundIn lines n rows over ≡ true ⌝ }
-    ensures { λ r. ⌜ r ≡ lineRan lines n rows over (bytesIn part) ⌝ }
+// What a line, given as its bytes, has the bench do: nothing after the end of the run.
+fn act_of(lines: u64, n: u32, over: bool, text: &[u8]) -> Act
+    ensures { λ r. ⌜ r ≡ actIn lines n over (now (text .entry)) ⌝ }
 {
     if over {
-        return Ran {
-            rows,
-            outcome: Outcome::Quiet,
-            pairs: 0,
-        };
+        return Act::Refuse(Refusal::PlanLine);
     }
-    let text = part.text;
-    let length = if part.length < 121 { part.length } else { 121 };
-    run_text(lines, n, rows, &text[..length])
-}
-
-// The number of nodes that line one says.
-fn opened_size(text: &[u8]) -> u32
-    ensures { λ r. ⌜ r ≡ openedOf (now (text .entry)) .n ⌝ }
-{
-    let opened = plan_run::open(text);
-    opened.n
+    if lines == 0 {
+        return plan_run::first_act(text);
+    }
+    plan_run::later_act(n, text)
 }
 
 // The number of nodes after the line.
-fn size_after(lines: u64, n: u32, over: bool, part: Part) -> u32
-    ensures { λ r. ⌜ r ≡ sizeAfter lines n over (bytesIn part) ⌝ }
+fn size_after(lines: u64, n: u32, over: bool, text: &[u8]) -> u32
+    ensures { λ r. ⌜ r ≡ sizeAfter lines n over (now (text .entry)) ⌝ }
 {
     if over {
         return n;
@@ -177,9 +154,7 @@ fn size_after(lines: u64, n: u32, over: bool, part: Part) -> u32
     if lines != 0 {
         return n;
     }
-    let text = part.text;
-    let length = if part.length < 121 { part.length } else { 121 };
-    opened_size(&text[..length])
+    plan_run::first_size(text)
 }
 
 // The lines run after the line.
@@ -236,59 +211,178 @@ fn put(out: &mut [u8], at: usize, number: u64, outcome: Outcome) -> usize
     }
 }
 
-// What came of a piece, from what is kept while its lines are run.
-fn came(lines: u64, n: u32, over: bool, ran: Ran, part: Part, count: usize) -> Ahead
-    ensures { λ r. ⌜ r ≡ record { plan = planOf lines n (ran .rows) over (ran .outcome); part = part; count = count } ⌝ }
+// The piece before its first line is read.
+fn begun(plan: Plan, part: Part) -> Going
+    ensures { λ r. ⌜ r ≡ begunOf plan part ⌝ }
 {
-    let rows = ran.rows;
-    let outcome = ran.outcome;
-    Ahead {
-        plan: Plan {
-            lines,
-            n,
-            rows,
-            over,
-            outcome,
-        },
+    let outcome = plan.outcome;
+    Going {
+        lines: plan.lines,
+        n: plan.n,
+        over: plan.over,
+        outcome,
+        held: 0,
         part,
-        count,
+        more: false,
+        act: Act::Refuse(Refusal::PlanLine),
+        size: plan.n,
+        at: 0,
     }
 }
 
-// Runs the lines that end in the input. Requires a plan that can go on, and room.
+// With the next line, which has ended or not, and the place after its end.
+fn with_line(g: Going, part: Part, more: bool, at: usize) -> Going
+    ensures { λ r. ⌜ r ≡ withLine g part more at ⌝ }
+{
+    let text = part.text;
+    let length = if part.length < 121 { part.length } else { 121 };
+    let act = act_of(g.lines, g.n, g.over, &text[..length]);
+    let size = size_after(g.lines, g.n, g.over, &text[..length]);
+    let outcome = g.outcome;
+    Going {
+        lines: g.lines,
+        n: g.n,
+        over: g.over,
+        outcome,
+        held: g.held,
+        part,
+        more,
+        act,
+        size,
+        at,
+    }
+}
+
+// Reads the next line. Requires that it begins in the input.
+fn seek(input: &[u8], g: Going) -> Going
+    requires { ⌜ g .at ≤ length (now input) ⌝ }
+    ensures { λ r. ⌜ r ≡ sought (now (input .entry)) g ⌝ }
+{
+    let at = g.at;
+    let end = plan_line::part_end(input, at, 10);
+    let part = g.part;
+    let text = longer(part, &input[at..end]);
+    with_line(g, text, end < input.len(), end + 1)
+}
+
+// What there is to print of the line: nothing after the end of the run.
+fn outcome_after(over: bool, outcome: Outcome) -> Outcome
+    ensures { λ r. ⌜ r ≡ outcomeAfter over outcome ⌝ }
+{
+    if over { Outcome::Quiet } else { outcome }
+}
+
+// After the line, of which so much was printed.
+fn after(g: Going, lines: u64, outcome: Outcome, held: usize) -> Going
+    ensures { λ r. ⌜ r ≡ afterIn g lines outcome held ⌝ }
+{
+    let over = over_after(g.over, outcome);
+    let part = no_part();
+    let act = g.act;
+    Going {
+        lines,
+        n: g.size,
+        over,
+        outcome,
+        held,
+        part,
+        more: g.more,
+        act,
+        size: g.size,
+        at: g.at,
+    }
+}
+
+// Puts what there is to print of the line that the bench carried out.
+fn tell(out: &mut [u8], g: Going, outcome: Outcome) -> Going
+    requires { ⌜ g .held + 80 ≤ length (now out) ⌝ }
+    ensures { λ r. ⌜ Told g outcome r (now (out .entry)) (now (out .exit)) ⌝ }
+{
+    let lines = lines_after(g.lines, g.over);
+    let outcome = outcome_after(g.over, outcome);
+    let held = put(out, g.held, lines, outcome);
+    after(g, lines, outcome, held)
+}
+
+// Whether the next line ends in this piece.
+fn has_more(g: Going) -> bool
+    ensures { λ r. ⌜ r ≡ g .more ⌝ }
+{
+    g.more
+}
+
+// How many rows the next line is carried out on: one at least.
+fn size_of(g: Going) -> usize
+    ensures { λ r. ⌜ r ≡ sizeOf (g .size) ⌝ }
+{
+    let n = g.size;
+    if n < 1 {
+        return 1;
+    }
+    if 32 < n { 32 } else { n as usize }
+}
+
+// What the next line has the bench do.
+fn act_in(g: Going) -> Act
+    ensures { λ r. ⌜ r ≡ g .act ⌝ }
+{
+    g.act
+}
+
+// What came of the piece.
+fn came(rows: [Node; 32], g: Going) -> Ahead
+    ensures { λ r. ⌜ r ≡ cameOf rows g ⌝ }
+{
+    let outcome = g.outcome;
+    let part = g.part;
+    Ahead {
+        plan: Plan {
+            lines: g.lines,
+            n: g.n,
+            rows,
+            over: g.over,
+            outcome,
+        },
+        part,
+        count: g.held,
+    }
+}
+
+// The rows that the lines run on: line one sets its bench up on rows of no node.
+fn rows_for(plan: Plan, g: Going) -> [Node; 32]
+    ensures { λ r. ⌜ r ≡ rowsFor plan (g .more) ⌝ }
+{
+    let rows = plan.rows;
+    if plan.over {
+        return rows;
+    }
+    if plan.lines != 0 {
+        return rows;
+    }
+    if g.more {
+        return plan_run::no_rows();
+    }
+    rows
+}
+
+// Runs the lines that end in the input; the rows of the bench are lent to each. Requires a plan that can
+// go on, and room.
 fn run_lines(plan: Plan, part: Part, input: &[u8], out: &mut [u8]) -> Ahead
     requires { ⌜ (planSound plan ≡ true) × (80 * length (now input) ≤ length (now out)) ⌝ }
     ensures { λ r. ⌜ Goes (runPiece plan (bytesIn part) (now (input .entry))) (length (now (input .entry))) (now (out .entry)) r (now (out .exit)) ⌝ }
 {
-    let mut lines = plan.lines;
-    let mut n = plan.n;
-    let mut over = plan.over;
-    let rows = plan.rows;
-    let outcome = plan.outcome;
-    let mut ran = Ran {
-        rows,
-        outcome,
-        pairs: 0,
-    };
-    let mut part = part;
-    let mut held = 0;
-    let mut at = 0;
-    let mut end = plan_line::part_end(input, 0, 10);
-    while end < input.len() {
-        let text = longer(part, &input[at..end]);
-        let rows = ran.rows;
-        ran = line(lines, n, rows, over, text);
-        n = size_after(lines, n, over, text);
-        lines = lines_after(lines, over);
-        let outcome = ran.outcome;
-        over = over_after(over, outcome);
-        held = put(out, held, lines, outcome);
-        part = no_part();
-        at = end + 1;
-        end = plan_line::part_end(input, at, 10);
+    let start = begun(plan, part);
+    let mut g = seek(input, start);
+    let mut rows = rows_for(plan, g);
+    while has_more(g) {
+        let size = size_of(g);
+        let act = act_in(g);
+        let outcome = plan_run::run(&mut rows[..size], act);
+        let told = tell(out, g, outcome);
+        let next = seek(input, told);
+        g = next;
     }
-    let rest = longer(part, &input[at..end]);
-    came(lines, n, over, ran, rest, held)
+    came(rows, g)
 }
 
 // Whether the table of n rows is sound: a look is not refused.

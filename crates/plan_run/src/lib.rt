@@ -1,18 +1,22 @@
-// Inner: what a plan line does to a plan's bench (document 01, "The bench program"): the bench is 32
-// rows by value, of which the first n are its table; the calls are those of `bench_by_value`. The table
-// is tested where a piece of the plan begins (`plan_program`), and not again for each slot.
+// Inner: what a plan line does to a plan's bench (document 01, "The bench program"). The bench is 32
+// rows, of which the first n are its table; a line is carried out on the table alone, which is lent. It
+// is tested where a piece of the plan begins (`plan_program`), and not again for each line.
 use bench::Command;
 use bench::Outcome;
-use bench_by_value::Ran;
+use bench_calls::Work;
+use bench_walks::Order;
+use bench_walks::Survey;
 use node_record::Node;
 use plan_line::Line;
 use plan_line::Opening;
 use refusal::Refusal;
 ghost use mathlib.Core.Path.{_≡_};
-ghost use mathlib.Core.Bool.{true};
-ghost use Rattle.bench.specs.Table.{tableSound};
-ghost use Rattle.bench_by_value.specs.ByValue.{callOf, tableOf};
-ghost use Rattle.plan_run.specs.Run.{actOf, ranBy, ranOf, noRows, openedBy, openedOf};
+ghost use Prim.Native.Nat.{_≤_};
+ghost use lib.ListN.{length};
+ghost use Rattle.bench_walks.specs.Orders.{carriedFrom};
+ghost use Rattle.plan_line.specs.Plan.{lineOf, openingOf};
+ghost use Rattle.plan_run.specs.Run.{actOf, noRows, openedOf};
+ghost use Rattle.plan_run.specs.Inner.{asked, askedBy, openingAct, orderBy, orderOn, outcomeOn, told};
 
 // What a line has the bench do.
 pub enum Act {
@@ -20,11 +24,19 @@ pub enum Act {
     Refuse(Refusal),
 }
 
-// The bench that line one sets up, the number of its nodes, and what there is to print.
+// The bench that line one sets up, the number of its nodes, and what there is to print: what
+// specs/Run says of line one.
 pub struct Opened {
     pub n: u32,
     pub rows: [Node; 32],
     pub outcome: Outcome,
+}
+
+// Rows of no node.
+pub fn no_rows() -> [Node; 32]
+    ensures { λ r. ⌜ r ≡ noRows ⌝ }
+{
+    [node::NO_NODE; 32]
 }
 
 // What a line after line one has the bench do.
@@ -41,79 +53,84 @@ fn act_of(line: Line) -> Act
     }
 }
 
-// A call whose pairs nobody asks for.
-fn tested(n: u32, rows: [Node; 32], command: Command) -> Ran
-    ensures { λ r. ⌜ r ≡ callOf n command 64 rows ⌝ }
+// What a line after line one, given without its line feed, has a bench of n nodes do.
+pub fn later_act(n: u32, line: &[u8]) -> Act
+    ensures { λ r. ⌜ r ≡ actOf (lineOf n (now (line .entry))) ⌝ }
 {
-    let mut pairs = [0u8; 64];
-    bench_by_value::call(&mut pairs, rows, n, command)
+    act_of(plan_line::line_of(n, line))
 }
 
-// The same on a bench that is sound: a slot takes it as it is.
-fn call(n: u32, rows: [Node; 32], command: Command) -> Ran
-    requires { ⌜ tableSound (tableOf n rows) ≡ true ⌝ }
-    ensures { λ r. ⌜ r ≡ callOf n command 64 rows ⌝ }
+// What line one, given without its line feed, has the bench do.
+pub fn first_act(line: &[u8]) -> Act
+    ensures { λ r. ⌜ r ≡ openingAct (openingOf (now (line .entry))) ⌝ }
 {
-    let Command::Slot(lost, missed) = command else {
-        return tested(n, rows, command);
-    };
-    bench_by_value::slot(rows, n, lost, missed)
+    let opening = plan_line::opening_of(line);
+    match opening {
+        Opening::Ring(n, k) => Act::Call(Command::SetUp(n, k)),
+        Opening::Refused(cause) => Act::Refuse(cause),
+    }
 }
 
-fn ran_by(n: u32, rows: [Node; 32], act: Act) -> Ran
-    requires { ⌜ tableSound (tableOf n rows) ≡ true ⌝ }
-    ensures { λ r. ⌜ r ≡ ranBy n rows act ⌝ }
+// The number of nodes that line one says; 0 where it is refused.
+pub fn first_size(line: &[u8]) -> u32
+    ensures { λ r. ⌜ r ≡ openedOf (now (line .entry)) .n ⌝ }
+{
+    let opening = plan_line::opening_of(line);
+    match opening {
+        Opening::Ring(n, _) => n,
+        Opening::Refused(_) => 0,
+    }
+}
+
+// The node that a command asks about: the one to be restarted; 0 where there is none.
+fn asked_by(command: Command) -> u32
+    ensures { λ r. ⌜ r ≡ askedBy command ⌝ }
+{
+    match command {
+        Command::SetUp(_, _) => 0,
+        Command::Off(_) => 0,
+        Command::Restart(a) => a,
+        Command::Slot(_, _) => 0,
+        Command::Look(_) => 0,
+    }
+}
+
+fn asked(act: Act) -> u32
+    ensures { λ r. ⌜ r ≡ asked act ⌝ }
 {
     match act {
-        Act::Call(command) => call(n, rows, command),
-        Act::Refuse(cause) => Ran {
-            rows,
-            outcome: Outcome::Refused(cause),
-            pairs: 0,
-        },
+        Act::Call(command) => asked_by(command),
+        Act::Refuse(_) => 0,
     }
 }
 
-// Runs a line after line one, given without its line feed. Requires a bench that is sound.
-pub fn run(n: u32, rows: [Node; 32], line: &[u8]) -> Ran
-    requires { ⌜ tableSound (tableOf n rows) ≡ true ⌝ }
-    ensures { λ r. ⌜ r ≡ ranOf n rows (now (line .entry)) ⌝ }
+// What each record is to do, with room for all pairs.
+fn order_by(act: Act, s: Survey, size: usize) -> Order
+    ensures { λ r. ⌜ r ≡ orderBy act s size ⌝ }
 {
-    ran_by(n, rows, act_of(plan_line::line_of(n, line)))
-}
-
-// Rows of no node.
-pub fn no_rows() -> [Node; 32]
-    ensures { λ r. ⌜ r ≡ noRows ⌝ }
-{
-    [node::NO_NODE; 32]
-}
-
-// Sets the bench up as line one says.
-fn opened_by(opening: Opening) -> Opened
-    ensures { λ r. ⌜ r ≡ openedBy opening ⌝ }
-{
-    match opening {
-        Opening::Ring(n, k) => {
-            let ran = tested(n, no_rows(), Command::SetUp(n, k));
-            let rows = ran.rows;
-            let outcome = ran.outcome;
-            Opened { n, rows, outcome }
-        }
-        Opening::Refused(cause) => {
-            let rows = no_rows();
-            Opened {
-                n: 0,
-                rows,
-                outcome: Outcome::Refused(cause),
-            }
-        }
+    match act {
+        Act::Call(command) => bench_walks::order_of(command, s, size, 64),
+        Act::Refuse(cause) => Order::Refuse(cause),
     }
 }
 
-// Runs line one, given without its line feed.
-pub fn open(line: &[u8]) -> Opened
-    ensures { λ r. ⌜ r ≡ openedOf (now (line .entry)) ⌝ }
+// What there is to print.
+fn told(order: Order, work: Work) -> Outcome
+    ensures { λ r. ⌜ r ≡ told order work ⌝ }
 {
-    opened_by(plan_line::opening_of(line))
+    let reply = bench_calls::reply_of(order, work);
+    reply.outcome
+}
+
+// Carries a line out on a table that is taken as it is. Requires a record.
+pub fn run(table: &mut [Node], act: Act) -> Outcome
+    requires { ⌜ 1 ≤ length (now table) ⌝ }
+    ensures { λ r. ⌜ (now (table .exit) ≡ carriedFrom (orderOn act (now (table .entry))) 0 (now (table .entry))) × (r ≡ outcomeOn act (now (table .entry))) ⌝ }
+{
+    let size = table.len();
+    let named = asked(act);
+    let survey = bench_walks::glimpse(table, named);
+    let order = order_by(act, survey, size);
+    let work = bench_calls::carry(table, order);
+    told(order, work)
 }

@@ -1,0 +1,156 @@
+-- A line on a table that is taken as it is: on a sound table a glimpse gives the order that a look over the whole table gives, and an order that is carried out is the bench's call. So the line does what specs/Run
+-- says. Assumes nothing.
+use Prim.Native.Nat.{ℕ, suc, _+_, _≤_}
+use mathlib.Core.Path.{_≡_, refl, sym, ap, ap₂, subst, _∙_}
+use mathlib.Core.Bool.{Bool, true}
+use mathlib.Core.List.{List, [], _∷_, _++_}
+use native.Mathlib.Omega.{arith}
+use lib.ListN.{length, drop, getD, replicate, take, length-replicate, take-append-drop}
+use lib.Seq.{take-all}
+use borrow.Author.Tests.{eq-eqb}
+use Rattle.refusal.specs.declared.Refusal.{Refusal}
+use Rattle.refusal.specs.declared.Refusal.the-variants.{NodeNumber, NotOut, Unsound}
+use Rattle.nodeset.specs.Sets.{has}
+use Rattle.nodeset.proofs.Bits.{has-none}
+use Rattle.nodeset.proofs.Tests.{by-cases}
+use Rattle.ring.specs.Ring.{nodeNumber, ringSize, sender}
+use Rattle.ring.proofs.Ranges.{node-number, ring-size}
+use Rattle.ring.proofs.Senders.{sender-range}
+use Rattle.node_record.specs.declared.Node.{Node}
+use Rattle.node_record.specs.States.{isOut}
+use Rattle.node.specs.Calls.{noNode}
+use Rattle.bench.specs.Table.{Table, eachFrom, recordOf, slotsOf, speaker, tableSound}
+use Rattle.bench.specs.Outcomes.{Ended, endedOf}
+use Rattle.bench.specs.declared.Command.{Command}
+use Rattle.bench.specs.declared.Command.the-variants as command
+use Rattle.bench.proofs.Places.{sound-placed}
+use Rattle.bench_walks.specs.declared.Order.{Order}
+use Rattle.bench_walks.specs.declared.Order.the-variants as order
+use Rattle.bench_walks.specs.Survey.{fineTable, glimpseOf, membersOf, recordIn, senderAfter, surveyOf}
+use Rattle.bench_walks.specs.Orders.{carried, carriedFrom, ifGood, notesOf, orderOf, reachOf, replyBy, writtenBy}
+use Rattle.bench_walks.proofs.Numbers.{index-in}
+use Rattle.bench_calls.specs.Work.{workOf}
+use Rattle.bench_calls.proofs.Surveys.{fine-table, said, sender-after, with-own}
+use Rattle.bench_calls.proofs.Outcomes.{call-run}
+use Rattle.bench_by_value.specs.ByValue.{Rows, callOf, ended, tableOf}
+use Rattle.plan_run.specs.declared.Act.{Act}
+use Rattle.plan_run.specs.declared.Act.the-variants as act
+use Rattle.plan_run.specs.Run.{ranBy}
+use Rattle.plan_run.specs.Inner.{askedBy, orderOn, outcomeOn}
+
+-- ---- a glimpse of a sound table
+
+module _ (t : Table) (sound : tableSound t ≡ true) where
+  in-ring : (3 ≤ length t) × (length t ≤ 32)
+  in-ring = ring-size (length t) (said t sound .ring)
+
+  there : (x : ℕ) → 1 ≤ x → x ≤ length t → recordIn t x ≡ recordOf t x
+  unfolding recordOf
+  there x low high = ap (λ (i : ℕ). getD t i noNode) (index-in x (length t) low high)
+
+  first-is : recordIn t 1 ≡ recordOf t 1
+  first-is = there 1 (omega arith) (omega (arith, in-ring))
+
+  n-is : recordIn t 1 .cable .n ≡ length t
+  n-is = ap (λ (v : Node). v .cable .n) first-is ∙ said t sound .count
+
+  slots-is : recordIn t 1 .slots ≡ slotsOf t
+  unfolding slotsOf
+  slots-is = ap (λ (v : Node). v .slots) first-is
+
+  sender-is : senderAfter (recordIn t 1) ≡ speaker t
+  unfolding speaker
+  sender-is = sender-after (recordIn t 1) (ap ringSize n-is ∙ said t sound .ring) ∙ ap₂ (λ (m s : ℕ). sender m (s + 1)) n-is slots-is
+
+  speaker-in : (1 ≤ speaker t) × (speaker t ≤ length t)
+  unfolding speaker
+  speaker-in = sender-range (length t) (omega (arith, in-ring)) (slotsOf t + 1)
+
+  module _ (a : ℕ) where
+    fine-same : fineTable (glimpseOf t a) (length t) ≡ fineTable (surveyOf t) (length t)
+    unfolding glimpseOf
+    fine-same = eq-eqb (recordIn t 1 .cable .n) (length t) n-is ∙ sym (fine-table t ∙ sound)
+
+    n-same : glimpseOf t a .cable .n ≡ surveyOf t .cable .n
+    unfolding glimpseOf
+    n-same = n-is ∙ sym (said t sound .n)
+
+    slots-same : glimpseOf t a .slots ≡ surveyOf t .slots
+    unfolding glimpseOf
+    slots-same = slots-is ∙ sym (said t sound .slots)
+
+    sender-same : glimpseOf t a .sender ≡ surveyOf t .sender
+    unfolding glimpseOf
+    sender-same = sender-is ∙ sym (said t sound .sender)
+
+    speaker-same : glimpseOf t a .speaker ≡ surveyOf t .speaker
+    unfolding glimpseOf
+    speaker-same = ap (recordIn t) sender-is ∙ there (speaker t) (speaker-in .0) (speaker-in .1) ∙ sym (said t sound .spoken)
+
+    out-same : nodeNumber (surveyOf t .cable .n) a ≡ true → has (glimpseOf t a .out) a ≡ has (surveyOf t .out) a
+    unfolding glimpseOf
+    out-same e =
+        let named : nodeNumber (length t) a ≡ true = subst (λ (m : ℕ). nodeNumber m a ≡ true) (said t sound .n) e in
+        let m = node-number (length t) a named in
+        let placed = sound-placed t sound in
+        let is = there a (m .0) (m .1) in
+        let own : recordIn t a .own ≡ a = ap (λ (v : Node). v .own) is ∙ placed .at a (m .0) (omega (arith, m .1, placed .length-is)) .own-is in
+        with-own (recordOf t 1 .cable) 0 0 a (recordIn t a) own (m .0) (omega (arith, m .1, in-ring)) (has-none a)
+        ∙ ap (λ (v : Node). isOut (v .state)) is
+        ∙ sym (said t sound .out a named)
+
+  same-order : (c : Command) → orderOf c (glimpseOf t (askedBy c)) (length t) 64 ≡ orderOf c (surveyOf t) (length t) 64
+  same-order (command.SetUp n k) = refl
+  same-order (command.Off a) = rw (fine-same 0, n-same 0) refl
+  same-order (command.Restart a) =
+      let by : Bool → Order = λ b. ifGood (fineTable (surveyOf t) (length t)) Unsound (ifGood (nodeNumber (surveyOf t .cable .n) a) NodeNumber (ifGood b NotOut (order.Restart a))) in
+      rw (fine-same a, n-same a) (by-cases (nodeNumber (surveyOf t .cable .n) a) (λ e. ap by (out-same a e)) (λ e. simp e))
+  same-order (command.Slot lost missed) = rw (fine-same 0, n-same 0, slots-same 0, sender-same 0, speaker-same 0) refl
+  same-order (command.Look lost) = rw (fine-same 0, slots-same 0, sender-same 0, speaker-same 0) refl
+
+-- ---- an order that is carried out
+
+carried-call : (c : Command) (t : Table) (o : Order) → o ≡ orderOf c (surveyOf t) (length t) 64
+    → _≡_ {A = Ended} (record { table = carriedFrom o 0 t; reply = replyBy o (workOf o t .notes) (workOf o t .members) }) (endedOf c 64 t)
+carried-call c t o is =
+    let out : List ℕ = replicate 64 0 in
+    let room : length out ≡ 64 = length-replicate {A = ℕ} 64 0 in
+    let m = notesOf o t in
+    let zs = carriedFrom o 0 t in
+    let ms = membersOf (take (reachOf m) zs) in
+    call-run c t out (surveyOf t) o m zs (reachOf m) ms (replyBy o m ms) (writtenBy o m out)
+    (ap surveyOf (sym (take-all (length t) t (omega arith)))) (is ∙ ap (orderOf c (surveyOf t) (length t)) (sym room)) (refl, refl) refl refl (refl, refl) .0
+    ∙ ap (λ (l : ℕ). endedOf c l t) room
+
+-- a table that is to do nothing
+still : (cause : Refusal) (i : ℕ) (t : Table) → carriedFrom (order.Refuse cause) i t ≡ t
+unfolding eachFrom carried
+still cause i [] = refl
+still cause i (v ∷ t) = ap {B = Table} (λ r. v ∷ r) (still cause (suc i) t)
+
+-- ---- a line
+
+-- What a line leaves of the table, before the other rows, and what there is to print are those of specs/Run.
+abbrev pub Does : ℕ → Rows → Act → Type 0
+Does n rows a = (carriedFrom (orderOn a (tableOf n rows)) 0 (tableOf n rows) ++ drop n rows ≡ ranBy n rows a .rows) × (outcomeOn a (tableOf n rows) ≡ ranBy n rows a .outcome)
+
+module _ (n : ℕ) (rows : Rows) where
+  abbrev t : Table
+  t = tableOf n rows
+
+  called : (c : Command) → orderOn (act.Call c) t ≡ orderOf c (surveyOf t) (length t) 64 → Does n rows (act.Call c)
+  unfolding callOf
+  called c is = let e = carried-call c t (orderOn (act.Call c) t) is in (ap (λ (x : Ended). ended n rows x .rows) e, ap (λ (x : Ended). ended n rows x .outcome) e)
+
+  pub refused : (cause : Refusal) → Does n rows (act.Refuse cause)
+  unfolding orderOn
+  refused cause = (ap (λ (l : Rows). l ++ drop n rows) (still cause 0 t) ∙ take-append-drop n rows, refl)
+
+  pub opened : (m k : ℕ) → Does n rows (act.Call (command.SetUp m k))
+  unfolding orderOn
+  opened m k = called (command.SetUp m k) refl
+
+  pub later : tableSound t ≡ true → (a : Act) → Does n rows a
+  unfolding orderOn
+  later sound (act.Call c) = called c (same-order t sound c)
+  later sound (act.Refuse cause) = refused cause
