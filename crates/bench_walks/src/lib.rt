@@ -2,9 +2,9 @@
 // record do what is ordered, one gathers the members' sets. They have no branches; what they decide, do
 // to a record and note of it stands in the functions by value.
 mod kinds;
-pub mod orders;
+mod orders;
 mod records;
-pub mod surveys;
+mod surveys;
 
 use bench::Command;
 use bench::Fate;

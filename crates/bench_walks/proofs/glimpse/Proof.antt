@@ -43,7 +43,7 @@ use Rattle.bench_walks.proofs.Survey.Laws as S′
 use Rattle.bench_walks.specs.Survey.{glimpsed, glimpseOf, indexOf, recordIn, senderAfter}
 use Rattle.bench_walks.proofs.Numbers.{index-within}
 use Rattle.bench_walks.proofs.Calls.{Plain, uint, a-struct, Known, Does, does, does-over, at, arg, frees, of-shr}
-use Rattle.bench_walks.proofs.Turns.{bytes, small, points}
+use Rattle.bench_walks.proofs.Turns.{bytes, points}
 use Rattle.bench_walks.proofs.surveys.index_of as index
 use Rattle.bench_walks.proofs.surveys.index_of.Symbol as index-def
 use Rattle.bench_walks.proofs.surveys.index_of.Met as index-thm
