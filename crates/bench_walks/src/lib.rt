@@ -1,6 +1,6 @@
 // Inner: the walks over the bench's table (document 01, "The bench"): one looks it over, one has each
-// record do what is ordered, one gathers the members' sets. They have no branches; what they decide, do
-// to a record and note of it stands in the functions by value.
+// record do what is ordered, one gathers the members' sets; a glimpse reads three records. They have no
+// branches; what they decide, do to a record and note of it stands in the functions by value.
 mod kinds;
 mod orders;
 mod records;

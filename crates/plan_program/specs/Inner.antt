@@ -40,7 +40,7 @@ outcomeAfter over o = cond over outcome.Quiet o
 abbrev pub sizeAfter : ℕ → ℕ → Bool → List ℕ → ℕ
 sizeAfter lines n over line = cond over n (cond (eqb lines 0) (openedOf line .n) n)
 
--- What a line has the bench do: after the end of the run, nothing.
+-- What a line has the bench do. A refusal leaves the table as it is.
 abbrev pub actIn : ℕ → ℕ → Bool → List ℕ → Act
 actIn lines n over line = cond over (act.Refuse PlanLine) (cond (eqb lines 0) (openingAct (openingOf line)) (actOf (lineOf n line)))
 

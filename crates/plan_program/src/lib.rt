@@ -131,7 +131,8 @@ pub fn no_plan() -> Plan
     }
 }
 
-// What a line, given as its bytes, has the bench do: nothing after the end of the run.
+// What a line, given as its bytes, has the bench do. After the end of the run it is refused, which leaves
+// the table as it is, and nothing is printed of it (`outcome_after`).
 fn act_of(lines: u64, n: u32, over: bool, text: &[u8]) -> Act
     ensures { λ r. ⌜ r ≡ actIn lines n over (now (text .entry)) ⌝ }
 {
