@@ -1,4 +1,5 @@
-//! The library beside a model written from document 01, not from the library's code.
+//! The library beside a model written from document 01 and the requests of document 02 that have landed, not
+//! from the library's code.
 
 pub mod adversary;
 pub mod careful;

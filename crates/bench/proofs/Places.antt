@@ -27,7 +27,7 @@ length-from f i (v ∷ t) = ap suc (length-from f (suc i) t)
 pub length-each : (f : ℕ → Node → Node) (t : Table) → length (each f t) ≡ length t
 length-each f t = length-from f 1 t
 
-record-from : (f : ℕ → Node → Node) (i j : ℕ) (t : Table) → j < length t → getD (eachFrom f i t) j noNode ≡ f (i + j) (getD t j noNode)
+pub record-from : (f : ℕ → Node → Node) (i j : ℕ) (t : Table) → j < length t → getD (eachFrom f i t) j noNode ≡ f (i + j) (getD t j noNode)
 unfolding eachFrom
 record-from f i j [] h = absurd (elim h [ ])
 record-from f i zero (v ∷ t) h = ap (λ (x : ℕ). f x v) (sym (add-zero i))

@@ -3,7 +3,6 @@ use Prim.Native.Nat.{ℕ}
 use mathlib.Core.Path.{_≡_}
 use mathlib.Core.Bool.{Bool}
 use mathlib.Core.List.{List}
-use lib.ListN.{length}
 use Rattle.ring.specs.Ring.{cableOf}
 use Rattle.node.specs.declared.Answer.{Answer}
 use Rattle.node.specs.declared.Answer.the-variants as answer
@@ -70,10 +69,10 @@ endedBy c before called = record {
 unfoldable pub endedOf : Command → ℕ → Table → Ended
 endedOf c room t = endedBy c t (calledOf c room t)
 
--- The lent bytes after a call: no call but a slot changes one.
-abbrev pub BytesAfter : Command → Table → List ℕ → List ℕ → Type 0
-BytesAfter (command.SetUp n k) t out written = written ≡ out
-BytesAfter (command.Off a) t out written = written ≡ out
-BytesAfter (command.Restart a) t out written = written ≡ out
-BytesAfter (command.Slot lost missed) t out written = SlotBytes t (slotOf lost missed (length out) t) out written
-BytesAfter (command.Look lost) t out written = written ≡ out
+-- The lent bytes after a call that came to this: no call but a slot changes one.
+abbrev pub BytesBy : Command → Table → Called → List ℕ → List ℕ → Type 0
+BytesBy (command.SetUp n k) t called out written = written ≡ out
+BytesBy (command.Off a) t called out written = written ≡ out
+BytesBy (command.Restart a) t called out written = written ≡ out
+BytesBy (command.Slot lost missed) t called out written = SlotBytes t called out written
+BytesBy (command.Look lost) t called out written = written ≡ out

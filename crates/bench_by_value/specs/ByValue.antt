@@ -6,6 +6,8 @@ use Rattle.node_record.specs.declared.Node.{Node}
 use Rattle.bench.specs.declared.Command.{Command}
 use Rattle.bench.specs.Table.{Table}
 use Rattle.bench.specs.Outcomes.{Ended, endedOf}
+use Rattle.bench.specs.Ledger.{Ledger}
+use Rattle.bench.specs.Kept.{keptOf}
 use Rattle.bench_by_value.specs.declared.Ran.{Ran}
 
 abbrev pub Rows : Type 0
@@ -18,6 +20,12 @@ tableOf n rows = take n rows
 abbrev pub ended : ℕ → Rows → Ended → Ran
 ended n rows e = record { rows = e .table ++ drop n rows; outcome = e .reply .outcome; pairs = e .reply .pairs }
 
--- A call where so many bytes are lent for the pairs.
+-- A call where so many bytes are lent for the pairs, and no ledger is kept.
 unfoldable pub callOf : ℕ → Command → ℕ → Rows → Ran
 callOf n c room rows = ended n rows (endedOf c room (tableOf n rows))
+
+-- A call with a ledger: the rows, the answer, and the ledger after it.
+unfoldable pub callWith : ℕ → Command → ℕ → Ledger → Rows → Ran × Ledger
+callWith n c room ledger rows =
+    let k = keptOf c room ledger (tableOf n rows) in
+    (ended n rows (record { table = k .table; reply = k .reply }), k .ledger)

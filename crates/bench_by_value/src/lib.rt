@@ -8,8 +8,8 @@ use node_record::Node;
 ghost use mathlib.Core.Path.{_≡_};
 ghost use Prim.Native.Nat.{min};
 ghost use lib.ListN.{length};
-ghost use Rattle.bench.specs.Outcomes.{BytesAfter};
-ghost use Rattle.bench_by_value.specs.ByValue.{tableOf, callOf};
+ghost use Rattle.bench.specs.Kept.{BytesWith};
+ghost use Rattle.bench_by_value.specs.ByValue.{tableOf, callWith};
 
 // The rows after a call, what there is to print of it, and the number of pairs told.
 pub struct Ran {
@@ -36,12 +36,18 @@ fn told(rows: [Node; 32], reply: Reply) -> Ran
     }
 }
 
-// Carries a call out on the first n rows; a slot's pairs go to the lent bytes.
-pub fn call(pairs: &mut [u8], mut rows: [Node; 32], n: u32, command: Command) -> Ran
-    ensures { λ r. ⌜ (r ≡ callOf n command (length (now (pairs .entry))) rows)
-        × BytesAfter command (tableOf n rows) (now (pairs .entry)) (now (pairs .exit)) ⌝ }
+// Carries a call out on the first n rows, with the lent ledger; a slot's pairs go to the lent bytes.
+pub fn call(
+    ledger: &mut [[u64; 3]],
+    pairs: &mut [u8],
+    mut rows: [Node; 32],
+    n: u32,
+    command: Command,
+) -> Ran
+    ensures { λ r. ⌜ ((r, now (ledger .exit)) ≡ callWith n command (length (now (pairs .entry))) (now (ledger .entry)) rows)
+        × BytesWith command (now (ledger .entry)) (tableOf n rows) (now (pairs .entry)) (now (pairs .exit)) ⌝ }
 {
     let size = size(n);
-    let reply = bench_calls::call(&mut rows[..size], pairs, command);
+    let reply = bench_calls::call(&mut rows[..size], ledger, pairs, command);
     told(rows, reply)
 }

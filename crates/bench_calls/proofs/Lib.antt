@@ -1,5 +1,7 @@
 pub mod Surveys
 pub mod Works
+pub mod Moves
 pub mod Readings
 pub mod Reports
 pub mod Outcomes
+pub mod Kept

@@ -10,7 +10,7 @@ use lib.ListN.{length, take}
 use lib.Seq.{take-length}
 use borrow.Author.Tests.{eqb-true, ltb-true}
 use Rattle.refusal.specs.declared.Refusal.{Refusal}
-use Rattle.refusal.specs.declared.Refusal.the-variants.{RingSize, SponsorCount, NodeNumber, Unsound, SlotLimit, OutputShort, NotOut}
+use Rattle.refusal.specs.declared.Refusal.the-variants.{RingSize, SponsorCount, NodeNumber, Unsound, SlotLimit, OutputShort, NotOut, LedgerUnfit}
 use Rattle.nodeset.specs.Sets.{has, within, distance}
 use Rattle.nodeset.specs.Sums.{num}
 use Rattle.nodeset.proofs.Tests.{by-cases, both, all, chosen, otherwise}
@@ -27,27 +27,24 @@ use Rattle.bench.specs.declared.Listed.the-variants as listed
 use Rattle.bench.specs.declared.Fate.{Fate}
 use Rattle.bench.specs.declared.Outcome.{Outcome}
 use Rattle.bench.specs.declared.Outcome.the-variants as outcome
-use Rattle.bench.specs.declared.Reply.{Reply}
 use Rattle.bench_walks.specs.declared.Order.{Order}
 use Rattle.bench_walks.specs.declared.Order.the-variants as order
-use Rattle.bench_walks.specs.declared.Survey.{Survey}
 use Rattle.bench_walks.specs.declared.Lists.{Lists}
 use Rattle.bench_walks.specs.declared.Notes.{Notes}
-use Rattle.bench_walks.specs.declared.Members.{Members}
 use Rattle.bench.specs.Table.{Table, recordOf, eachFrom, tableSound, slotsOf, speaker}
 use Rattle.bench.specs.Calls.{listIn, farthest, greatest, fateOf, transmits, tableAfterSlot}
 use Rattle.bench.specs.Runs.{slot, callOf, isSlot}
-use Rattle.bench.specs.Outcomes.{Ended, slotOutcome, quietOutcome, outcomeOf, endedBy, endedOf, BytesAfter}
+use Rattle.bench.specs.Outcomes.{Ended, slotOutcome, quietOutcome, outcomeOf, endedBy}
 use Rattle.bench.proofs.Places.{Placed, sound-placed, placed-sound, slots-of-placed}
 use Rattle.bench.proofs.Accepted.{is-slot, slot-done}
 use Rattle.bench.proofs.Runs.{placed-call}
 use Rattle.bench_walks.specs.Survey.{foldFrom, surveyOf, fineTable, noMembers, membersOf}
-use Rattle.bench_walks.specs.Orders.{ifGood, fateBy, turnOf, orderOf, orderFor, carried, carriedFrom, listWith, sameWith, listsWith, noLists, noticed, noNotes, noticedFrom, notesOf, answerTo, reachOf, outcomeBy, replyBy, writtenBy}
+use Rattle.bench_walks.specs.Orders.{ifGood, fateBy, turnOf, orderFor, carried, carriedFrom, listWith, sameWith, listsWith, noLists, noticed, noNotes, noticedFrom, notesOf, answerTo, reachOf, outcomeBy, replyBy}
 use Rattle.bench_walks.proofs.Partly.{take-least}
 use Rattle.bench_calls.proofs.Surveys.{fine-table, said}
-use Rattle.bench_calls.proofs.Works.{calledBy, slot-table, look-table, called-by}
+use Rattle.bench_calls.proofs.Works.{calledFit, calledBy, slot-table, look-table, called-by}
 use Rattle.bench_calls.proofs.Readings.{of-sound}
-use Rattle.bench_calls.proofs.Reports.{pairs-told, bytes-told}
+use Rattle.bench_calls.proofs.Reports.{pairs-told}
 
 -- ---- the list that is noted
 
@@ -206,22 +203,23 @@ module _ (lost : Bool) (missed room : ℕ) (t : Table) (ok : tableSound t ≡ tr
       figures (ap (λ (m : ℕ). m + 1) (s .slots) ∙ sym (slots-of-placed (recordOf t 1 .cable) (slotsOf t + 1) after pos placed-after)) (s .sender)
       (ap (fateBy lost) (s .spoken) ∙ fate-read lost t) (list-is ran t) (apart-is ran t (placed-sound (recordOf t 1 .cable) (slotsOf t + 1) after pos placed-after))
 
-slot-ends : (lost : Bool) (missed room : ℕ) (t : Table) → Ends lost t (orderFor (command.Slot lost missed) room t)
+slot-ends : (lost : Bool) (missed room : ℕ) (fits : Bool) (t : Table) → Ends lost t (orderFor (command.Slot lost missed) room fits t)
 unfolding orderFor
-slot-ends lost missed room t =
+slot-ends lost missed room fits t =
     ends-if lost t (fineTable (surveyOf t) (length t)) Unsound _ (λ fine.
     let ok = sym (fine-table t) ∙ fine in
     let s = said t ok in
     ends-if lost t (within (surveyOf t .cable .n) missed) NodeNumber _ (λ h.
+    ends-if lost t fits LedgerUnfit _ (λ _.
     ends-if lost t (ltb (surveyOf t .slots) limit) SlotLimit _ (λ l.
     ends-if lost t (leb 64 room) OutputShort (order.Slot (turnOf lost missed (surveyOf t))) (λ r.
-    slot-ran lost missed room t ok (sym (ap (λ (m : ℕ). within m missed) (s .n)) ∙ h) (sym (ap (λ (m : ℕ). ltb m limit) (s .slots)) ∙ l) r))))
+    slot-ran lost missed room t ok (sym (ap (λ (m : ℕ). within m missed) (s .n)) ∙ h) (sym (ap (λ (m : ℕ). ltb m limit) (s .slots)) ∙ l) r)))))
 
 -- ---- a look: the table is as it was
 
-look-ends : (lost : Bool) (room : ℕ) (t : Table) → Ends lost t (orderFor (command.Look lost) room t)
+look-ends : (lost : Bool) (room : ℕ) (fits : Bool) (t : Table) → Ends lost t (orderFor (command.Look lost) room fits t)
 unfolding orderFor
-look-ends lost room t =
+look-ends lost room fits t =
     ends-if lost t (fineTable (surveyOf t) (length t)) Unsound looking (λ fine.
     let ok = sym (fine-table t) ∙ fine in
     let s = said t ok in
@@ -240,52 +238,35 @@ quiet-if : (b : Bool) (cause : Refusal) (o : Order) → Quiet o → Quiet (ifGoo
 quiet-if true cause o h list apart = h list apart
 quiet-if false cause o h list apart = refl
 
-set-up-quiet : (n k room : ℕ) (t : Table) → Quiet (orderFor (command.SetUp n k) room t)
+set-up-quiet : (n k room : ℕ) (fits : Bool) (t : Table) → Quiet (orderFor (command.SetUp n k) room fits t)
 unfolding orderFor
-set-up-quiet n k room t = quiet-if (ringSize n) RingSize _ (quiet-if (sponsorCount (cableOf n k)) SponsorCount _ (quiet-if (eqb (length t) n) Unsound (order.Start n k) (λ list apart. refl)))
+set-up-quiet n k room fits t = quiet-if (ringSize n) RingSize _ (quiet-if (sponsorCount (cableOf n k)) SponsorCount _ (quiet-if (eqb (length t) n) Unsound (order.Start n k) (λ list apart. refl)))
 
-off-quiet : (a room : ℕ) (t : Table) → Quiet (orderFor (command.Off a) room t)
+off-quiet : (a room : ℕ) (fits : Bool) (t : Table) → Quiet (orderFor (command.Off a) room fits t)
 unfolding orderFor
-off-quiet a room t = quiet-if (fineTable (surveyOf t) (length t)) Unsound _ (quiet-if (nodeNumber (surveyOf t .cable .n) a) NodeNumber (order.Off a) (λ list apart. refl))
+off-quiet a room fits t =
+    quiet-if (fineTable (surveyOf t) (length t)) Unsound _ (quiet-if (nodeNumber (surveyOf t .cable .n) a) NodeNumber _ (quiet-if fits LedgerUnfit (order.Off a) (λ list apart. refl)))
 
-restart-quiet : (a room : ℕ) (t : Table) → Quiet (orderFor (command.Restart a) room t)
+restart-quiet : (a room : ℕ) (fits : Bool) (t : Table) → Quiet (orderFor (command.Restart a) room fits t)
 unfolding orderFor
-restart-quiet a room t =
+restart-quiet a room fits t =
     quiet-if (fineTable (surveyOf t) (length t)) Unsound _ (quiet-if (nodeNumber (surveyOf t .cable .n) a) NodeNumber _ (quiet-if (has (surveyOf t .out) a) NotOut (order.Restart a) (λ list apart. refl)))
 
 -- ---- each call
 
-outcome-told : (c : Command) (room : ℕ) (t : Table) → let o = orderFor c room t in outcomeBy o (notesOf o t .lists .list) (apartBy o t) ≡ outcomeOf c t (calledBy o t)
-outcome-told (command.SetUp n k) room t = set-up-quiet n k room t _ _
-outcome-told (command.Off a) room t = off-quiet a room t _ _
-outcome-told (command.Restart a) room t = restart-quiet a room t _ _
-outcome-told (command.Slot lost missed) room t = slot-ends lost missed room t
-outcome-told (command.Look lost) room t = look-ends lost room t
-
-abbrev end : Table → Reply → Ended
-end u r = record { table = u; reply = r }
+outcome-told : (c : Command) (room : ℕ) (fits : Bool) (t : Table) → let o = orderFor c room fits t in outcomeBy o (notesOf o t .lists .list) (apartBy o t) ≡ outcomeOf c t (calledBy o t)
+outcome-told (command.SetUp n k) room fits t = set-up-quiet n k room fits t _ _
+outcome-told (command.Off a) room fits t = off-quiet a room fits t _ _
+outcome-told (command.Restart a) room fits t = restart-quiet a room fits t _ _
+outcome-told (command.Slot lost missed) room fits t = slot-ends lost missed room fits t
+outcome-told (command.Look lost) room fits t = look-ends lost room fits t
 
 -- what an order leaves, and what is answered
-abbrev done-by : Order → Table → Ended
-done-by o t = end (carriedFrom o 0 t) (replyBy o (notesOf o t) (membersOf (take (reachOf (notesOf o t)) (carriedFrom o 0 t))))
+abbrev pub done-by : Order → Table → Ended
+done-by o t = record { table = carriedFrom o 0 t; reply = replyBy o (notesOf o t) (membersOf (take (reachOf (notesOf o t)) (carriedFrom o 0 t))) }
 
-is-ended : (c : Command) (t : Table) (out : List ℕ) → done-by (orderFor c (length out) t) t ≡ endedOf c (length out) t
-unfolding endedOf
-is-ended c t out =
-    let o = orderFor c (length out) t in
-    ap₂ (λ (x : Outcome) (y : ℕ). end (carriedFrom o 0 t) (record { outcome = x; pairs = y })) (outcome-told c (length out) t) (pairs-told c t out) ∙ ap (endedBy c t) (called-by c (length out) t)
-
-is-order : (c : Command) (t : Table) (room : ℕ) (s : Survey) (o : Order) → s ≡ surveyOf (take (length t) t) → o ≡ orderOf c s (length t) room → o ≡ orderFor c room t
-unfolding orderFor
-is-order c t room s o is-s is-o = is-o ∙ ap (λ (v : Survey). orderOf c v (length t) room) (is-s ∙ ap surveyOf (take-length t))
-
--- a call, from what its parts give
-pub call-run : (c : Command) (t : Table) (out : List ℕ) (s : Survey) (o : Order) (m : Notes) (zs : Table) (reach : ℕ) (ms : Members) (r : Reply) (ws : List ℕ)
-    → s ≡ surveyOf (take (length t) t) → o ≡ orderOf c s (length t) (length out) → (zs ≡ carriedFrom o 0 t) × (m ≡ notesOf o t) → reach ≡ reachOf m → ms ≡ membersOf (take reach zs)
-    → (r ≡ replyBy o m ms) × (ws ≡ writtenBy o m out) → (end zs r ≡ endedOf c (length out) t) × BytesAfter c t out ws
-call-run c t out s o m zs reach ms r ws is-s is-o (is-zs, is-m) is-reach is-ms (is-r, is-ws) =
-    let order-is = is-order c t (length out) s o is-s is-o in (
-      ap (end zs) (is-r ∙ ap (replyBy o m) (is-ms ∙ ap (λ (k : ℕ). membersOf (take k zs)) is-reach))
-          ∙ ap₂ (λ (u : Table) (p : Notes). end u (replyBy o p (membersOf (take (reachOf p) u)))) is-zs is-m ∙ ap (λ (x : Order). done-by x t) order-is ∙ is-ended c t out,
-      subst (BytesAfter c t out) (sym (is-ws ∙ ap (λ (p : Notes). writtenBy o p out) is-m ∙ ap (λ (x : Order). writtenBy x (notesOf x t) out) order-is)) (bytes-told c t out),
-    )
+pub is-ended : (c : Command) (fits : Bool) (t : Table) (out : List ℕ) → done-by (orderFor c (length out) fits t) t ≡ endedBy c t (calledFit c (length out) fits t)
+is-ended c fits t out =
+    let o = orderFor c (length out) fits t in
+    ap₂ (λ (x : Outcome) (y : ℕ). record { table = carriedFrom o 0 t; reply = record { outcome = x; pairs = y } }) (outcome-told c (length out) fits t) (pairs-told c fits t out)
+    ∙ ap (endedBy c t) (called-by c (length out) fits t)

@@ -10,7 +10,7 @@ use lib.Dec.{eqb, leb, ltb}
 use lib.ListN.{length, getD, set, take, drop, length-set, length-replicate}
 use borrow.Author.Tests.{eqb-true, eqb-false, ne-eqb, leb-true, leb-false, le-leb, lt-ltb}
 use Rattle.refusal.specs.declared.Refusal.{Refusal}
-use Rattle.refusal.specs.declared.Refusal.the-variants.{RingSize, SponsorCount, NodeNumber, Unsound, SlotLimit, OutputShort, NotOut}
+use Rattle.refusal.specs.declared.Refusal.the-variants.{RingSize, SponsorCount, NodeNumber, Unsound, SlotLimit, OutputShort, NotOut, LedgerUnfit}
 use Rattle.nodeset.specs.Sets.{has, within}
 use Rattle.nodeset.specs.Sums.{sum, num}
 use Rattle.nodeset.proofs.Sums.{sum-none, sum-first, sum-same}
@@ -30,12 +30,12 @@ use Rattle.bench_walks.specs.declared.Pairs.{Pairs}
 use Rattle.bench_walks.specs.declared.Notes.{Notes}
 use Rattle.bench.specs.Table.{Table, recordOf, eachFrom, placedFrom, tableSound, slotsOf}
 use Rattle.bench.specs.Calls.{Called}
-use Rattle.bench.specs.Outcomes.{pairsOf, BytesAfter}
+use Rattle.bench.specs.Outcomes.{pairsOf, BytesBy}
 use Rattle.bench.specs.Pairs.{sameState, kindFrom, isChanged, kindOf, changeCount, Pair, pairBytes, times, Tells, Reported, pairsTold, SlotBytes}
 use Rattle.bench_walks.specs.Survey.{foldFrom, surveyOf, fineTable}
 use Rattle.bench_walks.specs.Orders.{ifGood, fateBy, turnOf, orderFor, carried, pushed, withPair, noPairs, noticed, noNotes, noticedFrom, notesOf, pairsBy, bytesTold, puts, writtenBy}
 use Rattle.bench_calls.proofs.Surveys.{placed, fine-table, said}
-use Rattle.bench_calls.proofs.Works.{calledBy, called-by}
+use Rattle.bench_calls.proofs.Works.{calledFit, calledBy, called-by}
 
 -- ---- bytes
 
@@ -331,14 +331,15 @@ told-if : (b : Bool) (cause : Refusal) (o : Order) (t : Table) (out : List ℕ) 
 told-if true cause o t out h = h refl
 told-if false cause o t out h = (refl, none-written (notesOf (order.Refuse cause) t .pairs .bytes) out)
 
-pub slot-told : (lost : Bool) (missed : ℕ) (t : Table) (out : List ℕ) → SlotTold (orderFor (command.Slot lost missed) (length out) t) t out
+pub slot-told : (lost : Bool) (missed : ℕ) (fits : Bool) (t : Table) (out : List ℕ) → SlotTold (orderFor (command.Slot lost missed) (length out) fits t) t out
 unfolding orderFor
-slot-told lost missed t out =
+slot-told lost missed fits t out =
     told-if (fineTable (surveyOf t) (length t)) Unsound _ t out (λ ok.
     told-if (within (surveyOf t .cable .n) missed) NodeNumber _ t out (λ h.
+    told-if fits LedgerUnfit _ t out (λ _.
     told-if (ltb (surveyOf t .slots) limit) SlotLimit _ t out (λ l.
     told-if (leb 64 (length out)) OutputShort (order.Slot (turnOf lost missed (surveyOf t))) t out (λ r.
-    done-told (order.Slot (turnOf lost missed (surveyOf t))) t out (sym (fine-table t) ∙ ok, leb-true 64 (length out) r)))))
+    done-told (order.Slot (turnOf lost missed (surveyOf t))) t out (sym (fine-table t) ∙ ok, leb-true 64 (length out) r))))))
 
 -- ---- the other calls: no pairs
 
@@ -349,42 +350,43 @@ silent-if : (b : Bool) (cause : Refusal) (o : Order) → Silent o → Silent (if
 silent-if true cause o h m = h m
 silent-if false cause o h m = refl
 
-silent-written : (c : Command) (t : Table) (out : List ℕ) → let o = orderFor c (length out) t in Silent o → writtenBy o (notesOf o t) out ≡ out
-silent-written c t out h =
-    let m = notesOf (orderFor c (length out) t) t in
+silent-written : (c : Command) (fits : Bool) (t : Table) (out : List ℕ) → let o = orderFor c (length out) fits t in Silent o → writtenBy o (notesOf o t) out ≡ out
+silent-written c fits t out h =
+    let m = notesOf (orderFor c (length out) fits t) t in
     ap (λ (k : ℕ). puts (m .pairs .bytes) (bytesTold k (length out)) out) (h m) ∙ none-written (m .pairs .bytes) out
 
-set-up-silent : (n k room : ℕ) (t : Table) → Silent (orderFor (command.SetUp n k) room t)
+set-up-silent : (n k room : ℕ) (fits : Bool) (t : Table) → Silent (orderFor (command.SetUp n k) room fits t)
 unfolding orderFor
-set-up-silent n k room t = silent-if (ringSize n) RingSize _ (silent-if (sponsorCount (cableOf n k)) SponsorCount _ (silent-if (eqb (length t) n) Unsound (order.Start n k) (λ m. refl)))
+set-up-silent n k room fits t = silent-if (ringSize n) RingSize _ (silent-if (sponsorCount (cableOf n k)) SponsorCount _ (silent-if (eqb (length t) n) Unsound (order.Start n k) (λ m. refl)))
 
-off-silent : (a room : ℕ) (t : Table) → Silent (orderFor (command.Off a) room t)
+off-silent : (a room : ℕ) (fits : Bool) (t : Table) → Silent (orderFor (command.Off a) room fits t)
 unfolding orderFor
-off-silent a room t = silent-if (fineTable (surveyOf t) (length t)) Unsound _ (silent-if (nodeNumber (surveyOf t .cable .n) a) NodeNumber (order.Off a) (λ m. refl))
+off-silent a room fits t =
+    silent-if (fineTable (surveyOf t) (length t)) Unsound _ (silent-if (nodeNumber (surveyOf t .cable .n) a) NodeNumber _ (silent-if fits LedgerUnfit (order.Off a) (λ m. refl)))
 
-restart-silent : (a room : ℕ) (t : Table) → Silent (orderFor (command.Restart a) room t)
+restart-silent : (a room : ℕ) (fits : Bool) (t : Table) → Silent (orderFor (command.Restart a) room fits t)
 unfolding orderFor
-restart-silent a room t =
+restart-silent a room fits t =
     silent-if (fineTable (surveyOf t) (length t)) Unsound _ (silent-if (nodeNumber (surveyOf t .cable .n) a) NodeNumber _ (silent-if (has (surveyOf t .out) a) NotOut (order.Restart a) (λ m. refl)))
 
-look-silent : (lost : Bool) (room : ℕ) (t : Table) → Silent (orderFor (command.Look lost) room t)
+look-silent : (lost : Bool) (room : ℕ) (fits : Bool) (t : Table) → Silent (orderFor (command.Look lost) room fits t)
 unfolding orderFor
-look-silent lost room t = silent-if (fineTable (surveyOf t) (length t)) Unsound (order.Look (surveyOf t .slots) (surveyOf t .sender) (fateBy lost (surveyOf t .speaker))) (λ m. refl)
+look-silent lost room fits t = silent-if (fineTable (surveyOf t) (length t)) Unsound (order.Look (surveyOf t .slots) (surveyOf t .sender) (fateBy lost (surveyOf t .speaker))) (λ m. refl)
 
 -- ---- each call
 
-pub pairs-told : (c : Command) (t : Table) (out : List ℕ) → let o = orderFor c (length out) t in pairsBy o (notesOf o t) ≡ pairsOf c t (calledBy o t)
-pairs-told (command.SetUp n k) t out = set-up-silent n k (length out) t _
-pairs-told (command.Off a) t out = off-silent a (length out) t _
-pairs-told (command.Restart a) t out = restart-silent a (length out) t _
-pairs-told (command.Slot lost missed) t out = slot-told lost missed t out .0
-pairs-told (command.Look lost) t out = look-silent lost (length out) t _
+pub pairs-told : (c : Command) (fits : Bool) (t : Table) (out : List ℕ) → let o = orderFor c (length out) fits t in pairsBy o (notesOf o t) ≡ pairsOf c t (calledBy o t)
+pairs-told (command.SetUp n k) fits t out = set-up-silent n k (length out) fits t _
+pairs-told (command.Off a) fits t out = off-silent a (length out) fits t _
+pairs-told (command.Restart a) fits t out = restart-silent a (length out) fits t _
+pairs-told (command.Slot lost missed) fits t out = slot-told lost missed fits t out .0
+pairs-told (command.Look lost) fits t out = look-silent lost (length out) fits t _
 
-pub bytes-told : (c : Command) (t : Table) (out : List ℕ) → let o = orderFor c (length out) t in BytesAfter c t out (writtenBy o (notesOf o t) out)
-bytes-told (command.SetUp n k) t out = silent-written (command.SetUp n k) t out (set-up-silent n k (length out) t)
-bytes-told (command.Off a) t out = silent-written (command.Off a) t out (off-silent a (length out) t)
-bytes-told (command.Restart a) t out = silent-written (command.Restart a) t out (restart-silent a (length out) t)
-bytes-told (command.Slot lost missed) t out =
-    let o = orderFor (command.Slot lost missed) (length out) t in
-    subst (λ (called : Called). SlotBytes t called out (writtenBy o (notesOf o t) out)) (called-by (command.Slot lost missed) (length out) t) (slot-told lost missed t out .1)
-bytes-told (command.Look lost) t out = silent-written (command.Look lost) t out (look-silent lost (length out) t)
+pub bytes-told : (c : Command) (fits : Bool) (t : Table) (out : List ℕ) → let o = orderFor c (length out) fits t in BytesBy c t (calledFit c (length out) fits t) out (writtenBy o (notesOf o t) out)
+bytes-told (command.SetUp n k) fits t out = silent-written (command.SetUp n k) fits t out (set-up-silent n k (length out) fits t)
+bytes-told (command.Off a) fits t out = silent-written (command.Off a) fits t out (off-silent a (length out) fits t)
+bytes-told (command.Restart a) fits t out = silent-written (command.Restart a) fits t out (restart-silent a (length out) fits t)
+bytes-told (command.Slot lost missed) fits t out =
+    let o = orderFor (command.Slot lost missed) (length out) fits t in
+    subst (λ (called : Called). SlotBytes t called out (writtenBy o (notesOf o t) out)) (called-by (command.Slot lost missed) (length out) fits t) (slot-told lost missed fits t out .1)
+bytes-told (command.Look lost) fits t out = silent-written (command.Look lost) fits t out (look-silent lost (length out) fits t)

@@ -8,7 +8,7 @@ use native.Mathlib.Numerals.{add-one}
 use native.Mathlib.Omega.{arith}
 use lib.Dec.{eqb}
 use lib.ListN.{length, getD}
-use borrow.Author.Tests.{eqb-true, eqb-false, eq-eqb, ne-eqb}
+use borrow.Author.Tests.{eqb-true, eqb-false, eq-eqb, ne-eqb, leb-true}
 use Rattle.nodeset.specs.Sets.{has, with}
 use Rattle.nodeset.proofs.Tests.{by-cases, both, chosen, otherwise}
 use Rattle.nodeset.proofs.Bits.{has-none}
@@ -19,7 +19,7 @@ use Rattle.ring.proofs.Ranges.{ring-size, node-number}
 use Rattle.ring.proofs.Senders.{sender-range}
 use Rattle.node_record.specs.declared.Node.{Node}
 use Rattle.node_record.specs.States.{isOut}
-use Rattle.node_record.specs.Soundness.{sound}
+use Rattle.node_record.specs.Soundness.{sound, limit}
 use Rattle.node_record.proofs.Facts.{clauses}
 use Rattle.node.specs.Calls.{noNode}
 use Rattle.bench_walks.specs.declared.Survey.{Survey}
@@ -179,6 +179,7 @@ pub record Said (t : Table) : Type 0 where
   pub ring : ringSize (length t) ≡ true
   pub count : recordOf t 1 .cable .n ≡ length t
   pub rows : placedFrom (recordOf t 1 .cable) (slotsOf t) 1 t ≡ true
+  pub bounded : slotsOf t ≤ limit
   pub n : surveyOf t .cable .n ≡ length t
   pub slots : surveyOf t .slots ≡ slotsOf t
   pub sender : surveyOf t .sender ≡ speaker t
@@ -218,6 +219,7 @@ said (v ∷ t) e =
       ring = subst (λ (m : ℕ). ringSize m ≡ true) n-is′ ring-v;
       count = ap (λ (w : Node). w .cable .n) first ∙ n-is′;
       rows = subst (λ (w : Node). placedFrom (w .cable) (w .slots) 1 (v ∷ t) ≡ true) (sym first) (c .1);
+      bounded = omega (arith, leb-true (v .slots) limit (clauses v (p .good) .slots), ap (λ (w : Node). w .slots) first);
       n = ap (λ (s : Survey). s .cable .n) (survey-is v t) ∙ ap (λ (c : Cable). c .n) (cable-is (begun true v) 0 (v ∷ t)) ∙ n-is′;
       slots = ap (λ (s : Survey). s .slots) (survey-is v t) ∙ slots-is (begun true v) 0 (v ∷ t) ∙ sym (ap (λ (w : Node). w .slots) first);
       sender = ap (λ (s : Survey). s .sender) (survey-is v t) ∙ sender-is (begun true v) 0 (v ∷ t) ∙ sender-after v ring-v ∙ speaks;

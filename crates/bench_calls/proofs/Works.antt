@@ -37,7 +37,7 @@ use Rattle.bench_walks.specs.declared.Order.the-variants as order
 use Rattle.bench_walks.specs.declared.Turn.{Turn}
 use Rattle.bench_walks.specs.declared.Survey.{Survey}
 use Rattle.bench.specs.declared.Fate.{Fate}
-use Rattle.bench.specs.Table.{Table, eachFrom, placedFrom, tableSound, slotsOf, recordOf, speaker}
+use Rattle.bench.specs.Table.{Table, eachFrom, placedFrom, tableSound, nodeCount, slotsOf, recordOf, speaker}
 use Rattle.bench.specs.Calls as bench
 use Rattle.bench.specs.Calls.{Called, done, ifPassed, setUpOf, startTable, offOf, tableAfterOff, restartOf, tableAfterRestart, slotOf, heardBy, spoken, transmits, unheard, lookOf}
 use Rattle.bench.specs.Outcomes.{calledOf}
@@ -89,6 +89,14 @@ by-place f g h i (v ∷ t) l = ap₂ {C = List Node} (λ w r. w ∷ r) (h i v (o
 
 -- ---- an order carried out
 
+-- the call that a command asks for, where a ledger fits or not
+abbrev pub calledFit : Command → ℕ → Bool → Table → Called
+calledFit (command.SetUp n k) room fits t = calledOf (command.SetUp n k) room t
+calledFit (command.Off a) room fits t = ifPassed (tableSound t) 4 t (ifPassed (nodeNumber (nodeCount t) a) 3 t (ifPassed fits 13 t (offOf a t)))
+calledFit (command.Restart a) room fits t = calledOf (command.Restart a) room t
+calledFit (command.Slot lost missed) room fits t = ifPassed (tableSound t) 4 t (ifPassed (within (nodeCount t) missed) 3 t (ifPassed fits 13 t (slotOf lost missed room t)))
+calledFit (command.Look lost) room fits t = calledOf (command.Look lost) room t
+
 abbrev pub calledBy : Order → Table → Called
 calledBy o t = record { table = eachFrom (carried o) 0 t; answer = answerTo o }
 
@@ -107,13 +115,17 @@ off-node : (v : Node) → sound v ≡ true → outFor SwitchedOff v ≡ node.off
 unfolding node.offOf
 off-node v e = rw e
 
-off-called : (a room : ℕ) (t : Table) → calledBy (orderFor (command.Off a) room t) t ≡ offOf a t
+off-called : (a room : ℕ) (fits : Bool) (t : Table) → calledBy (orderFor (command.Off a) room fits t) t ≡ calledFit (command.Off a) room fits t
 unfolding orderFor offOf carried
-off-called a room t =
+off-called a room fits t =
     passes 4 _ t _ (fine-table t) (λ ok.
     let s = said t ok in
-    passes 3 _ t _ (ap (λ (m : ℕ). nodeNumber m a) (s .n)) (λ h. ap done (tables (s .rows))))
+    passes 3 _ t _ (ap (λ (m : ℕ). nodeNumber m a) (s .n)) (λ h.
+    passes {b = fits} 13 (order.Off a) t _ refl (λ _. ap done (tables (s .rows)) ∙ opened ok h)))
   where
+    opened : tableSound t ≡ true → nodeNumber (nodeCount t) a ≡ true → done (tableAfterOff a t) ≡ offOf a t
+    opened ok h = rw (ok, h) refl
+
     tables : placedFrom (recordOf t 1 .cable) (slotsOf t) 1 t ≡ true → eachFrom (carried (order.Off a)) 0 t ≡ tableAfterOff a t
     tables rows =
         by-record (recordOf t 1 .cable) (slotsOf t) (carried (order.Off a)) (λ i v. cond (eqb i a) (node.offOf v .node) v) t rows
@@ -123,9 +135,9 @@ restart-node : (v : Node) → sound v ≡ true → isOut (v .state) ≡ true →
 unfolding node.restartOf
 restart-node v e out = rw (e, out)
 
-restart-called : (a room : ℕ) (t : Table) → calledBy (orderFor (command.Restart a) room t) t ≡ restartOf a t
+restart-called : (a room : ℕ) (fits : Bool) (t : Table) → calledBy (orderFor (command.Restart a) room fits t) t ≡ restartOf a t
 unfolding orderFor restartOf carried
-restart-called a room t =
+restart-called a room fits t =
     passes 4 _ t _ (fine-table t) (λ ok.
     let s = said t ok in
     passes 3 _ t _ (ap (λ (m : ℕ). nodeNumber m a) (s .n)) (λ h.
@@ -143,9 +155,9 @@ restart-called a room t =
         by-record (recordOf t 1 .cable) (slotsOf t) (carried (order.Restart a)) (λ i v. cond (eqb i a) (node.restartOf v .node) v) t rows
         (λ j v u p is. ap (λ (i : ℕ). cond (eqb i a) (fresh v) v) (p .own) ∙ one j v (p .good) out is)
 
-set-up-called : (n k room : ℕ) (t : Table) → calledBy (orderFor (command.SetUp n k) room t) t ≡ setUpOf (cableOf n k) t
+set-up-called : (n k room : ℕ) (fits : Bool) (t : Table) → calledBy (orderFor (command.SetUp n k) room fits t) t ≡ setUpOf (cableOf n k) t
 unfolding orderFor setUpOf carried
-set-up-called n k room t =
+set-up-called n k room fits t =
     passes {b = ringSize n} 1 (ifGood (sponsorCount (cableOf n k)) SponsorCount (ifGood (eqb (length t) n) Unsound (order.Start n k))) t _ refl (λ ring.
     passes {b = sponsorCount (cableOf n k)} 2 (ifGood (eqb (length t) n) Unsound (order.Start n k)) t _ refl (λ sponsors.
     passes {b = eqb (length t) n} 4 (order.Start n k) t _ refl (λ size. ap done (tables ring size))))
@@ -217,25 +229,40 @@ slot-table lost missed t ok below =
     by-record (recordOf t 1 .cable) (slotsOf t) (carried (order.Slot (turnOf lost missed (surveyOf t)))) (λ i v. node.stepOf (heardBy lost missed t i) v .node) t (s .rows)
     (λ j v u p is. step-is lost missed t ok s below j v u p)
 
-slot-called : (lost : Bool) (missed room : ℕ) (t : Table) → calledBy (orderFor (command.Slot lost missed) room t) t ≡ slotOf lost missed room t
+slot-called : (lost : Bool) (missed room : ℕ) (fits : Bool) (t : Table) → calledBy (orderFor (command.Slot lost missed) room fits t) t ≡ calledFit (command.Slot lost missed) room fits t
 unfolding orderFor slotOf
-slot-called lost missed room t =
+slot-called lost missed room fits t =
     passes 4 _ t _ (fine-table t) (λ ok.
     let s = said t ok in
     passes 3 _ t _ (ap (λ (m : ℕ). within m missed) (s .n)) (λ h.
+    passes {b = fits} 13 _ t _ refl (λ _.
     passes 5 _ t _ (ap (λ (m : ℕ). ltb m limit) (s .slots)) (λ l.
-    passes {b = leb 64 room} 9 (order.Slot (turnOf lost missed (surveyOf t))) t _ refl (λ r. ap done (slot-table lost missed t ok (ltb-true (slotsOf t) limit l))))))
+    passes {b = leb 64 room} 9 (order.Slot (turnOf lost missed (surveyOf t))) t _ refl (λ r. ap done (slot-table lost missed t ok (ltb-true (slotsOf t) limit l))))
+    ∙ opened ok h)))
+  where
+    opened : tableSound t ≡ true → within (nodeCount t) missed ≡ true
+        → ifPassed (ltb (slotsOf t) limit) 5 t (ifPassed (leb 64 room) 9 t (done (bench.tableAfterSlot lost missed t))) ≡ slotOf lost missed room t
+    opened ok h = rw (ok, h) refl
 
-look-called : (lost : Bool) (room : ℕ) (t : Table) → calledBy (orderFor (command.Look lost) room t) t ≡ lookOf t
+look-called : (lost : Bool) (room : ℕ) (fits : Bool) (t : Table) → calledBy (orderFor (command.Look lost) room fits t) t ≡ lookOf t
 unfolding orderFor lookOf
-look-called lost room t =
+look-called lost room fits t =
     passes {b = fineTable (surveyOf t) (length t)} 4 (order.Look (surveyOf t .slots) (surveyOf t .sender) (fateBy lost (surveyOf t .speaker))) t _ (fine-table t)
     (λ ok. ap done (look-table (surveyOf t .slots) (surveyOf t .sender) (fateBy lost (surveyOf t .speaker)) t))
 
 -- the call that a command asks for
-pub called-by : (c : Command) (room : ℕ) (t : Table) → calledBy (orderFor c room t) t ≡ calledOf c room t
-called-by (command.SetUp n k) room t = set-up-called n k room t
-called-by (command.Off a) room t = off-called a room t
-called-by (command.Restart a) room t = restart-called a room t
-called-by (command.Slot lost missed) room t = slot-called lost missed room t
-called-by (command.Look lost) room t = look-called lost room t
+pub called-by : (c : Command) (room : ℕ) (fits : Bool) (t : Table) → calledBy (orderFor c room fits t) t ≡ calledFit c room fits t
+called-by (command.SetUp n k) room fits t = set-up-called n k room fits t
+called-by (command.Off a) room fits t = off-called a room fits t
+called-by (command.Restart a) room fits t = restart-called a room fits t
+called-by (command.Slot lost missed) room fits t = slot-called lost missed room fits t
+called-by (command.Look lost) room fits t = look-called lost room fits t
+
+-- where a ledger fits, the call is the one without it
+pub called-fitting : (c : Command) (room : ℕ) (t : Table) → calledFit c room true t ≡ calledOf c room t
+unfolding slotOf offOf
+called-fitting (command.SetUp n k) room t = refl
+called-fitting (command.Off a) room t = by-cases (tableSound t) (λ e. by-cases (nodeNumber (nodeCount t) a) (λ h. rw (e, h) refl) (λ h. rw (e, h) refl)) (λ e. rw e refl)
+called-fitting (command.Restart a) room t = refl
+called-fitting (command.Slot lost missed) room t = by-cases (tableSound t) (λ e. by-cases (within (nodeCount t) missed) (λ h. rw (e, h) refl) (λ h. rw (e, h) refl)) (λ e. rw e refl)
+called-fitting (command.Look lost) room t = refl

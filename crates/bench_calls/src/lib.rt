@@ -1,6 +1,6 @@
 // The bench (document 01, "The bench"): one function carries out every call over a lent table of node
-// records. It has no branches; what it decides stands in the functions by value, the walks over the
-// table in `bench_walks`.
+// records, a lent ledger and lent bytes. It has no branches; what it decides stands in the functions by
+// value, the walks over the table in `bench_walks`, what is entered in the ledger in `ledger`.
 use bench::Command;
 use bench::Listed;
 use bench::Outcome;
@@ -8,12 +8,14 @@ use bench::Reply;
 use bench_walks::Members;
 use bench_walks::Notes;
 use bench_walks::Order;
+use bench_walks::Survey;
 use node_record::Node;
 ghost use mathlib.Core.Path.{_≡_};
 ghost use Prim.Native.Nat.{_≤_};
 ghost use lib.ListN.{length};
-ghost use Rattle.bench.specs.Outcomes.{endedOf, BytesAfter};
-ghost use Rattle.bench_calls.specs.Work.{workOf};
+ghost use Rattle.bench.specs.Ledger.{ledgerFits};
+ghost use Rattle.bench.specs.Kept.{keptOf, BytesWith};
+ghost use Rattle.bench_calls.specs.Work.{workOf, dateBy, enteredBy};
 ghost use Rattle.bench_walks.specs.Orders.{carriedFrom, reachOf, outcomeBy, pairsBy, replyBy, bytesTold, puts, writtenBy};
 
 // How many records are to be looked through for the distance.
@@ -119,37 +121,77 @@ pub fn carry(table: &mut [Node], order: Order) -> Work
     worked(notes, members)
 }
 
-// Writes the pairs to the buffer, and answers.
-fn tell(pairs: &mut [u8], order: Order, notes: Notes, members: Members) -> Reply
-    ensures { λ r. ⌜ (r ≡ replyBy order notes members) × (now (pairs .exit) ≡ writtenBy order notes (now (pairs .entry))) ⌝ }
+// Whether the ledger fits the table surveyed.
+fn fits(ledger: &[[u64; 3]], s: Survey) -> bool
+    ensures { λ r. ⌜ r ≡ ledgerFits (s .cable .n) (s .slots) (now (ledger .entry)) ⌝ }
 {
+    ledger::fits(ledger, s.cable.n, s.slots)
+}
+
+// The date of what is entered of an order: the slots done so far; of a slot, its own number.
+fn date_of(order: Order, slots: u64) -> u64
+    ensures { λ r. ⌜ r ≡ dateBy order slots ⌝ }
+{
+    let next = ledger::one_more(slots);
+    match order {
+        Order::Refuse(_) => slots,
+        Order::Start(_, _) => slots,
+        Order::Off(_) => slots,
+        Order::Restart(_) => slots,
+        Order::Slot(_) => next,
+        Order::Look(_, _, _) => slots,
+    }
+}
+
+// Enters who left and who joined in an off or a slot.
+fn enter(ledger: &mut [[u64; 3]], s: Survey, order: Order, work: Work)
+    ensures { λ _. ⌜ now (ledger .exit) ≡ enteredBy order (s .slots) (work .notes) (now (ledger .entry)) ⌝ }
+{
+    let date = date_of(order, s.slots);
+    let notes = work.notes;
+    let moves = notes.moves;
+    match order {
+        Order::Refuse(_) => {}
+        Order::Start(_, _) => {}
+        Order::Off(_) => ledger::enter(ledger, moves.left, moves.joined, date),
+        Order::Restart(_) => {}
+        Order::Slot(_) => ledger::enter(ledger, moves.left, moves.joined, date),
+        Order::Look(_, _, _) => {}
+    }
+}
+
+// Writes the pairs to the buffer, and answers.
+fn tell(pairs: &mut [u8], order: Order, work: Work) -> Reply
+    ensures { λ r. ⌜ (r ≡ replyBy order (work .notes) (work .members)) × (now (pairs .exit) ≡ writtenBy order (work .notes) (now (pairs .entry))) ⌝ }
+{
+    let notes = work.notes;
     let told = notes.pairs;
     let bytes = told.bytes;
     let count = pairs_by(order, notes);
     let end = bytes_told(count, pairs.len());
     put_bytes(bytes, end, pairs);
-    let lists = notes.lists;
-    let list = lists.list;
-    let outcome = outcome_by(order, list, members.greatest);
-    Reply {
-        outcome,
-        pairs: count,
-    }
+    reply_of(order, work)
 }
 
 // Carries a call out. The nodes whose state a slot changed stand in `pairs`, each with the kind of its
-// change. The table is tested once; sets are compared only where two members hold different ones.
-// Set-up refuses by 1, 2 and 4, off by 4 and 3, restart by 4, 3 and 11, a slot by 4, 3, 5 and 9, a
-// look by 4.
-pub fn call(table: &mut [Node], pairs: &mut [u8], command: Command) -> Reply
-    ensures { λ r. ⌜ (record { table = now (table .exit); reply = r } ≡ endedOf command (length (now (pairs .entry))) (now (table .entry)))
-        × BytesAfter command (now (table .entry)) (now (pairs .entry)) (now (pairs .exit)) ⌝ }
+// change; who left or joined in an off or a slot is entered in `ledger`. The table is tested once; sets
+// are compared only where two members hold different ones.
+// Set-up refuses by 1, 2 and 4, off by 4, 3 and 13, restart by 4, 3 and 11, a slot by 4, 3, 13, 5 and 9,
+// a look by 4.
+pub fn call(
+    table: &mut [Node],
+    ledger: &mut [[u64; 3]],
+    pairs: &mut [u8],
+    command: Command,
+) -> Reply
+    ensures { λ r. ⌜ (record { table = now (table .exit); ledger = now (ledger .exit); reply = r } ≡ keptOf command (length (now (pairs .entry))) (now (ledger .entry)) (now (table .entry)))
+        × BytesWith command (now (ledger .entry)) (now (table .entry)) (now (pairs .entry)) (now (pairs .exit)) ⌝ }
 {
     let size = table.len();
     let survey = bench_walks::look_over(table, size);
-    let order = bench_walks::order_of(command, survey, size, pairs.len());
-    let notes = bench_walks::carry_out(table, order);
-    let reach = reach_of(notes);
-    let members = bench_walks::look_through(table, reach);
-    tell(pairs, order, notes, members)
+    let fit = fits(ledger, survey);
+    let order = bench_walks::order_of(command, survey, size, pairs.len(), fit);
+    let work = carry(table, order);
+    enter(ledger, survey, order, work);
+    tell(pairs, order, work)
 }

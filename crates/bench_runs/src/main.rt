@@ -1,20 +1,25 @@
 // Runs calls of the bench for a test. Commands from standard input act on 32 rows, the first of which
-// are the table, and the answers go to standard output. Each command is a letter, a byte and further
-// bytes. Numbers have four bytes, lowest first; `lost` is a byte, 1 for yes; input that ends within a
-// command counts as followed by zeros.
+// are the table, and on 33 entries, the first of which are the ledger; the answers go to standard
+// output. Each command is a letter, a byte and further bytes. Numbers have four bytes, figures eight,
+// lowest first; `lost` is a byte, 1 for yes; input that ends within a command counts as followed by
+// zeros.
 //
-//   N size                the table is the first `size` rows; no answer
-//   L row record          row 0 to 31 becomes this record; no answer
-//   U room n k            set-up
-//   F room a              off
-//   R room a              restart
-//   S room lost missed    one slot
-//   Q room lost           looks at the table
+//   N size                      the table is the first `size` rows; no answer
+//   L row record                row 0 to 31 becomes this record; no answer
+//   M entries                   the ledger is the first `entries` entries, all if fewer; no answer
+//   G entry left joined last    entry 0 to 32 becomes these figures; no answer
+//   U room n k                  set-up
+//   F room a                    off
+//   R room a                    restart
+//   S room lost missed          one slot
+//   Q room lost                 looks at the table
 //
 // `room` is the length of the lent buffer, each byte of it 0xA5. A call is answered by a byte, 0 or the
-// refusal's number; by 26 bytes of what it tells (`answers`); by the whole buffer; and by all 32 rows.
-// Any other letter ends the run. Before the first command the table has no row, and a row is of no node.
+// refusal's number; by 26 bytes of what it tells (`answers`); by the whole buffer; by all 32 rows; and
+// by all 33 entries, three figures each. Any other letter ends the run. Before the first command the
+// table has no row, and a row is of no node; the ledger has no entry, and all figures are 0.
 mod answers;
+mod entries;
 
 use bench::Command;
 use bench_by_value::Ran;
@@ -27,10 +32,12 @@ use run_io::input;
 use run_io::input::Unread;
 use run_io::output;
 
-// What there is from one command to the next; `held` is the number of bytes that wait in the output.
+// What there is from one command to the next beside the entries: the rows, how many are the table, how
+// many entries are the ledger, and the number of bytes that wait in the output.
 struct Held {
     rows: [Node; 32],
     size: u32,
+    entries: usize,
     held: usize,
 }
 
@@ -43,7 +50,7 @@ struct Head {
 
 fn is_command(letter: u8) -> bool {
     match letter {
-        b'N' | b'L' | b'U' | b'F' | b'R' | b'S' | b'Q' => true,
+        b'N' | b'L' | b'M' | b'G' | b'U' | b'F' | b'R' | b'S' | b'Q' => true,
         _ => false,
     }
 }
@@ -52,6 +59,7 @@ fn is_command(letter: u8) -> bool {
 fn body(letter: u8) -> u8 {
     match letter {
         b'L' => 51,
+        b'G' => 24,
         b'U' => 8,
         b'F' | b'R' => 4,
         b'S' => 5,
@@ -87,57 +95,106 @@ fn command_of(letter: u8, block: &Block) -> Command {
 }
 
 // Lends the first `room` bytes.
-fn call(rows: [Node; 32], size: u32, buffer: &mut [u8], room: usize, command: Command) -> Ran {
+fn call(
+    ledger: &mut [[u64; 3]],
+    buffer: &mut [u8],
+    room: usize,
+    state: Held,
+    command: Command,
+) -> Ran {
+    let rows = state.rows;
     if room <= buffer.len() {
-        bench_by_value::call(&mut buffer[0..room], rows, size, command)
+        bench_by_value::call(ledger, &mut buffer[0..room], rows, state.size, command)
     } else {
-        bench_by_value::call(buffer, rows, size, command)
+        bench_by_value::call(ledger, buffer, rows, state.size, command)
+    }
+}
+
+// Lends the first entries.
+fn call_with(
+    entries: &mut [[u64; 3]],
+    buffer: &mut [u8],
+    room: usize,
+    state: Held,
+    command: Command,
+) -> Ran {
+    let end = state.entries;
+    if end <= entries.len() {
+        call(&mut entries[0..end], buffer, room, state, command)
+    } else {
+        call(entries, buffer, room, state, command)
     }
 }
 
 // Carries a call out and answers.
-fn run_call(output: &mut [u8; 4096], state: Held, room: u8, command: Command) -> Held {
+fn run_call(
+    output: &mut [u8; 4096],
+    entries: &mut [[u64; 3]; 33],
+    state: Held,
+    room: u8,
+    command: Command,
+) -> Held {
     let mut buffer = [0xA5u8; 255];
-    let rows = state.rows;
-    let ran = call(rows, state.size, &mut buffer, room as usize, command);
+    let ran = call_with(entries, &mut buffer, room as usize, state, command);
     let held = answers::put_told(output, state.held, ran);
     let held = output::put_block(output, held, &buffer, room);
     let rows = ran.rows;
     let held = rows::put_rows(output, held, rows);
+    let held = entries::put_entries(output, held, entries);
     Held {
         rows: rows,
         size: state.size,
+        entries: state.entries,
         held: held,
     }
 }
 
-fn run(output: &mut [u8; 4096], state: Held, head: Head, block: &Block) -> Held {
-    let rows = state.rows;
+// The commands that have no answer: they say what table and ledger are.
+fn prepared(entries: &mut [[u64; 3]; 33], state: Held, head: Head, block: &Block) -> Held {
+    let mut next = state;
+    let letter = head.letter;
+    let byte = head.byte;
+    match letter {
+        b'N' => {
+            next.size = byte as u32;
+        }
+        b'M' => {
+            next.entries = byte as usize;
+        }
+        b'L' => {
+            let rows = state.rows;
+            let loaded = rows::loaded(rows, byte as usize, bytes::node_of(block));
+            next.rows = loaded;
+        }
+        _ => {
+            entries::load(entries, byte as usize, block);
+        }
+    }
+    next
+}
+
+fn run(
+    output: &mut [u8; 4096],
+    entries: &mut [[u64; 3]; 33],
+    state: Held,
+    head: Head,
+    block: &Block,
+) -> Held {
     let letter = head.letter;
     match letter {
-        b'N' => Held {
-            rows: rows,
-            size: head.byte as u32,
-            held: state.held,
-        },
-        b'L' => {
-            let rows = rows::loaded(rows, head.byte as usize, bytes::node_of(block));
-            Held {
-                rows: rows,
-                size: state.size,
-                held: state.held,
-            }
-        }
-        _ => run_call(output, state, head.byte, command_of(letter, block)),
+        b'N' | b'L' | b'M' | b'G' => prepared(entries, state, head, block),
+        _ => run_call(output, entries, state, head.byte, command_of(letter, block)),
     }
 }
 
 // A proved loop has to end, so it counts its turns down, from a number that no run uses up.
 fn run_all(input: &mut [u8; 4096], output: &mut [u8; 4096]) -> usize {
     let mut left = Unread { at: 0, end: 0 };
+    let mut entries = [[0u64; 3]; 33];
     let mut state = Held {
         rows: [node::NO_NODE; 32],
         size: 0,
+        entries: 0,
         held: 0,
     };
     let mut turns = u64::MAX;
@@ -147,7 +204,7 @@ fn run_all(input: &mut [u8; 4096], output: &mut [u8; 4096]) -> usize {
         if !is_command(head.letter) {
             return state.held;
         }
-        state = run(output, state, head, &block);
+        state = run(output, &mut entries, state, head, &block);
         let rest = head.left;
         left = rest;
         turns -= 1;

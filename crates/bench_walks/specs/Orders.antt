@@ -1,4 +1,4 @@
--- Inner: what a call has each record of a table do, and what is noted as it is done: the pairs, and the list. The laws in bench_calls' proofs/ tie it
+-- Inner: what a call has each record of a table do, and what is noted as it is done: the pairs, who left and who joined, and the list. The laws in bench_calls' proofs/ tie it
 -- to bench's specs/Calls, specs/Pairs and specs/Outcomes.
 use Prim.Native.Nat.{ℕ, zero, suc, _+_, _*_}
 use mathlib.Core.Bool.{Bool, true, cond, _&&_}
@@ -6,8 +6,8 @@ use mathlib.Core.List.{List}
 use lib.Dec.{eqb, leb, ltb}
 use lib.ListN.{length, getD, set, replicate}
 use Rattle.refusal.specs.declared.Refusal.{Refusal}
-use Rattle.refusal.specs.declared.Refusal.the-variants.{RingSize, SponsorCount, NodeNumber, Unsound, SlotLimit, OutputShort, NotOut}
-use Rattle.nodeset.specs.Sets.{has, within}
+use Rattle.refusal.specs.declared.Refusal.the-variants.{RingSize, SponsorCount, NodeNumber, Unsound, SlotLimit, OutputShort, NotOut, LedgerUnfit}
+use Rattle.nodeset.specs.Sets.{has, with, within}
 use Rattle.ring.specs.Ring.{cableOf, ringSize, sponsorCount, nodeNumber}
 use Rattle.message.specs.declared.Reading.{Reading}
 use Rattle.message.specs.declared.Reading.the-variants as reading
@@ -27,6 +27,7 @@ use Rattle.bench_walks.specs.declared.Order.{Order}
 use Rattle.bench_walks.specs.declared.Order.the-variants as order
 use Rattle.bench_walks.specs.declared.Turn.{Turn}
 use Rattle.bench_walks.specs.declared.Pairs.{Pairs}
+use Rattle.bench_walks.specs.declared.Moves.{Moves}
 use Rattle.bench_walks.specs.declared.Lists.{Lists}
 use Rattle.bench_walks.specs.declared.Notes.{Notes}
 use Rattle.bench_walks.specs.declared.Members.{Members}
@@ -52,8 +53,9 @@ ifGood good cause o = cond good o (order.Refuse cause)
 abbrev pub setUpOrder : ℕ → ℕ → ℕ → Order
 setUpOrder n k size = ifGood (ringSize n) RingSize (ifGood (sponsorCount (cableOf n k)) SponsorCount (ifGood (eqb size n) Unsound (order.Start n k)))
 
-abbrev pub offOrder : ℕ → Survey → ℕ → Order
-offOrder a s size = ifGood (fineTable s size) Unsound (ifGood (nodeNumber (s .cable .n) a) NodeNumber (order.Off a))
+abbrev pub offOrder : ℕ → Survey → ℕ → Bool → Order
+offOrder a s size fits =
+    ifGood (fineTable s size) Unsound (ifGood (nodeNumber (s .cable .n) a) NodeNumber (ifGood fits LedgerUnfit (order.Off a)))
 
 abbrev pub restartOrder : ℕ → Survey → ℕ → Order
 restartOrder a s size =
@@ -78,26 +80,27 @@ turnOf lost missed s = record {
   digest = digestOf (s .sender) (spokenBy lost (s .speaker)) (s .speaker .cable) (s .speaker .set);
 }
 
-abbrev pub slotOrder : Bool → ℕ → ℕ → Survey → ℕ → Order
-slotOrder lost missed room s size =
+abbrev pub slotOrder : Bool → ℕ → ℕ → Survey → ℕ → Bool → Order
+slotOrder lost missed room s size fits =
     ifGood (fineTable s size) Unsound
     (ifGood (within (s .cable .n) missed) NodeNumber
+    (ifGood fits LedgerUnfit
     (ifGood (ltb (s .slots) limit) SlotLimit
     (ifGood (leb 64 room) OutputShort
-    (order.Slot (turnOf lost missed s)))))
+    (order.Slot (turnOf lost missed s))))))
 
 abbrev pub lookOrder : Bool → Survey → ℕ → Order
 lookOrder lost s size = ifGood (fineTable s size) Unsound (order.Look (s .slots) (s .sender) (fateBy lost (s .speaker)))
 
-abbrev pub orderOf : Command → Survey → ℕ → ℕ → Order
-orderOf (command.SetUp n k) s size room = setUpOrder n k size
-orderOf (command.Off a) s size room = offOrder a s size
-orderOf (command.Restart a) s size room = restartOrder a s size
-orderOf (command.Slot lost missed) s size room = slotOrder lost missed room s size
-orderOf (command.Look lost) s size room = lookOrder lost s size
+abbrev pub orderOf : Command → Survey → ℕ → ℕ → Bool → Order
+orderOf (command.SetUp n k) s size room fits = setUpOrder n k size
+orderOf (command.Off a) s size room fits = offOrder a s size fits
+orderOf (command.Restart a) s size room fits = restartOrder a s size
+orderOf (command.Slot lost missed) s size room fits = slotOrder lost missed room s size fits
+orderOf (command.Look lost) s size room fits = lookOrder lost s size
 
-unfoldable pub orderFor : Command → ℕ → Table → Order
-orderFor c room t = orderOf c (surveyOf t) (length t) room
+unfoldable pub orderFor : Command → ℕ → Bool → Table → Order
+orderFor c room fits t = orderOf c (surveyOf t) (length t) room fits
 
 -- ---- carrying an order out
 
@@ -142,6 +145,19 @@ withPair p before after =
 unfoldable pub noPairs : Pairs
 noPairs = record { count = 0; bytes = replicate 64 0 }
 
+-- ---- who left the member state, and who came to it
+
+abbrev pub withIf : Bool → ℕ → ℕ → ℕ
+withIf so set x = cond so (with set x) set
+
+unfoldable pub movesWith : Moves → Node → Node → Moves
+movesWith m before after =
+    cond (sameState (before .state) (after .state)) m
+    (record { left = withIf (isMember (before .state)) (m .left) (before .own); joined = withIf (isMember (after .state)) (m .joined) (before .own) })
+
+abbrev pub noMoves : Moves
+noMoves = record { left = 0; joined = 0 }
+
 -- ---- the list, and whether all members hold it
 
 abbrev pub listWith : Listed → Node → Listed
@@ -161,10 +177,10 @@ noLists = record { list = listed.Nobody; same = true }
 -- ---- notes
 
 unfoldable pub noticed : Notes → Node → Node → Notes
-noticed m before after = record { pairs = withPair (m .pairs) before after; lists = listsWith (m .lists) after }
+noticed m before after = record { pairs = withPair (m .pairs) before after; moves = movesWith (m .moves) before after; lists = listsWith (m .lists) after }
 
 unfoldable pub noNotes : Notes
-noNotes = record { pairs = noPairs; lists = noLists }
+noNotes = record { pairs = noPairs; moves = noMoves; lists = noLists }
 
 abbrev pub noticedFrom : Order → Notes → ℕ → Table → Notes
 noticedFrom o m i t = foldFrom (λ m i v. noticed m v (carried o i v)) m i t

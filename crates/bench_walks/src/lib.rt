@@ -34,7 +34,7 @@ ghost use mathlib.Core.Path.{_≡_};
 ghost use Prim.Native.Nat.{_<_, _≤_, max, min};
 ghost use lib.ListN.{length, take};
 ghost use Rattle.bench_walks.specs.Survey.{glimpseOf, surveyed, unseen, surveyOf, fineTable, farFrom, memberSeen, gathered, noMembers, membersOf};
-ghost use Rattle.bench_walks.specs.Orders.{orderOf, carried, carriedFrom, pushed, withPair, noPairs, listWith, sameWith, listsWith, noticed, noNotes, notesOf};
+ghost use Rattle.bench_walks.specs.Orders.{orderOf, carried, carriedFrom, pushed, withPair, noPairs, movesWith, listWith, sameWith, listsWith, noticed, noNotes, notesOf};
 
 // What a look over a table finds: whether each record stands in its place; the cable and slots of
 // the first; the next sender's number and record; the nodes that are out.
@@ -88,9 +88,17 @@ pub struct Lists {
     pub same: bool,
 }
 
-// What is noted while an order is carried out: whose state changed, and the list afterwards.
+// The nodes that left the member state, and those that came to it.
+pub struct Moves {
+    pub left: u32,
+    pub joined: u32,
+}
+
+// What is noted while an order is carried out: whose state changed, who left and who joined, and the
+// list afterwards.
 pub struct Notes {
     pub pairs: Pairs,
+    pub moves: Moves,
     pub lists: Lists,
 }
 
@@ -117,15 +125,16 @@ pub fn is_fine(s: Survey, size: usize) -> bool
     s.fine & (s.cable.n as usize == size)
 }
 
-// What a command has a table of so many records do, where so many bytes are lent for the pairs.
-pub fn order_of(command: Command, s: Survey, size: usize, room: usize) -> Order
-    ensures { λ r. ⌜ r ≡ orderOf command s size room ⌝ }
+// What a command has a table of so many records do, where so many bytes are lent for the pairs, and a
+// ledger that fits or not.
+pub fn order_of(command: Command, s: Survey, size: usize, room: usize, fits: bool) -> Order
+    ensures { λ r. ⌜ r ≡ orderOf command s size room fits ⌝ }
 {
     match command {
         Command::SetUp(n, k) => set_up_order(n, k, size),
-        Command::Off(a) => off_order(a, s, size),
+        Command::Off(a) => off_order(a, s, size, fits),
         Command::Restart(a) => restart_order(a, s, size),
-        Command::Slot(lost, missed) => slot_order(lost, missed, room, s, size),
+        Command::Slot(lost, missed) => slot_order(lost, missed, room, s, size, fits),
         Command::Look(lost) => look_order(lost, s, size),
     }
 }
@@ -181,6 +190,21 @@ fn no_pairs() -> Pairs
     }
 }
 
+// Who left and who joined, with one record more.
+fn moves_with(m: Moves, before: Node, after: Node) -> Moves
+    ensures { λ r. ⌜ r ≡ movesWith m before after ⌝ }
+{
+    let a = before.state;
+    let b = after.state;
+    if same_state(a, b) {
+        return m;
+    }
+    Moves {
+        left: kinds::with_if(node_record::is_member(a), m.left, before.own),
+        joined: kinds::with_if(node_record::is_member(b), m.joined, before.own),
+    }
+}
+
 // The list, with one record more.
 fn list_with(list: Listed, v: Node) -> Listed
     ensures { λ r. ⌜ r ≡ listWith list v ⌝ }
@@ -230,21 +254,32 @@ fn noticed(notes: Notes, before: Node, after: Node) -> Notes
     ensures { λ r. ⌜ r ≡ noticed notes before after ⌝ }
 {
     let told = notes.pairs;
+    let moved = notes.moves;
     let seen = notes.lists;
     let pairs = with_pair(told, before, after);
+    let moves = moves_with(moved, before, after);
     let lists = lists_with(seen, after);
-    Notes { pairs, lists }
+    Notes {
+        pairs,
+        moves,
+        lists,
+    }
 }
 
 fn no_notes() -> Notes
     ensures { λ r. ⌜ r ≡ noNotes ⌝ }
 {
     let pairs = no_pairs();
+    let moves = Moves { left: 0, joined: 0 };
     let lists = Lists {
         list: Listed::Nobody,
         same: true,
     };
-    Notes { pairs, lists }
+    Notes {
+        pairs,
+        moves,
+        lists,
+    }
 }
 
 // The greater number.

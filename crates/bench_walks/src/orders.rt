@@ -27,14 +27,17 @@ pub fn set_up_order(n: u32, k: u32, size: usize) -> Order
     Order::Start(n, k)
 }
 
-pub fn off_order(a: u32, s: Survey, size: usize) -> Order
-    ensures { λ r. ⌜ r ≡ offOrder a s size ⌝ }
+pub fn off_order(a: u32, s: Survey, size: usize, fits: bool) -> Order
+    ensures { λ r. ⌜ r ≡ offOrder a s size fits ⌝ }
 {
     if !is_fine(s, size) {
         return Order::Refuse(Refusal::Unsound);
     }
     if !ring::is_node_number(s.cable.n, a) {
         return Order::Refuse(Refusal::NodeNumber);
+    }
+    if !fits {
+        return Order::Refuse(Refusal::LedgerUnfit);
     }
     Order::Off(a)
 }
@@ -107,14 +110,17 @@ fn turn_of(lost: bool, missed: u32, s: Survey) -> Turn
     }
 }
 
-pub fn slot_order(lost: bool, missed: u32, room: usize, s: Survey, size: usize) -> Order
-    ensures { λ r. ⌜ r ≡ slotOrder lost missed room s size ⌝ }
+pub fn slot_order(lost: bool, missed: u32, room: usize, s: Survey, size: usize, fits: bool) -> Order
+    ensures { λ r. ⌜ r ≡ slotOrder lost missed room s size fits ⌝ }
 {
     if !is_fine(s, size) {
         return Order::Refuse(Refusal::Unsound);
     }
     if !nodeset::is_within(s.cable.n, missed) {
         return Order::Refuse(Refusal::NodeNumber);
+    }
+    if !fits {
+        return Order::Refuse(Refusal::LedgerUnfit);
     }
     if node_record::LIMIT <= s.slots {
         return Order::Refuse(Refusal::SlotLimit);

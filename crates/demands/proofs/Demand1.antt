@@ -31,7 +31,9 @@ use Rattle.bench.specs.declared.Command.the-variants as command
 use Rattle.bench.specs.Table.{Table, tableSound, nodeCount, slotsOf, recordOf}
 use Rattle.bench.specs.Calls as bench
 use Rattle.bench.specs.Pairs.{SlotBytes}
-use Rattle.bench.specs.Outcomes.{calledOf, endedOf, outcomeOf, BytesAfter}
+use Rattle.bench.specs.Outcomes.{outcomeOf}
+use Rattle.bench.specs.Ledger.{Ledger, ledgerFits}
+use Rattle.bench.specs.Kept.{slotWith, offWith, calledWith, ledgerWith, keptOf, BytesWith}
 use Rattle.plan_text.specs.Text.{writtenOf}
 use Rattle.plan_text.specs.declared.Written as text
 use Rattle.plan_program.specs.declared.Plan.{Plan}
@@ -133,41 +135,47 @@ sends v out =
 
 -- ---- the bench
 
-abbrev Runs : Command → Table → List ℕ → List ℕ → bench.Called → Type 0
-Runs c t out after called = RunsBy (numbersFor c) (outcomeOf c t called) (t, out) (called .table, after)
+abbrev Runs : Command → Table → Ledger → List ℕ → List ℕ → bench.Called → Type 0
+Runs c t ledger out after called = RunsBy (numbersFor c) (outcomeOf c t called) (t, ledger, out) (called .table, ledgerWith c t called ledger, after)
 
--- a call that is refused leaves the table; where it leaves the bytes, all is as it came
-untouched : (t : Table) (out after : List ℕ) → after ≡ out → _≡_ {A = Table × List ℕ} (t, after) (t, out)
-untouched t out after same = ap (λ (l : List ℕ). (t, l)) same
+-- a call that is refused leaves the table and the ledger; where it leaves the bytes, all is as it came
+untouched : (t : Table) (ledger : Ledger) (out after : List ℕ) → after ≡ out → _≡_ {A = Table × Ledger × List ℕ} (t, ledger, after) (t, ledger, out)
+untouched t ledger out after same = ap (λ (l : List ℕ). (t, ledger, l)) same
 
-runs : (c : Command) (t : Table) (out after : List ℕ) → BytesAfter c t out after → Runs c t out after (calledOf c (length out) t)
-unfolding bench.setUpOf bench.slotOf bench.offOf bench.restartOf bench.lookOf
-runs (command.SetUp n k) t out after same =
-    let P = Runs (command.SetUp n k) t out after in
-    let kept = untouched t out after same in
+runs : (c : Command) (t : Table) (ledger : Ledger) (out after : List ℕ) → BytesWith c ledger t out after → Runs c t ledger out after (calledWith c (length out) ledger t)
+unfolding bench.setUpOf bench.slotOf bench.offOf bench.restartOf bench.lookOf slotWith offWith
+runs (command.SetUp n k) t ledger out after same =
+    let P = Runs (command.SetUp n k) t ledger out after in
+    let kept = untouched t ledger out after same in
     either-passed P (ringSize n) 1
     (either-passed P (sponsorCount (cableOf n k)) 2
     (either-passed P (eqb (length t) n) 4 (tt, tt) (refl, kept)) (refl, kept)) (refl, kept)
-runs (command.Slot lost missed) t out after told =
-    let P : bench.Called → Type 0 = λ c. SlotBytes t c out after → Runs (command.Slot lost missed) t out after c in
-    let kept = untouched t out after in
+runs (command.Slot lost missed) t ledger out after told =
+    let P : bench.Called → Type 0 = λ c. SlotBytes t c out after → Runs (command.Slot lost missed) t ledger out after c in
+    let kept = untouched t ledger out after in
     either-passed P (tableSound t) 4
+    (either-passed P (within (nodeCount t) missed) 3
+    (either-passed P (ledgerFits (nodeCount t) (slotsOf t) ledger) 13
+    (either-passed P (tableSound t) 4
     (either-passed P (within (nodeCount t) missed) 3
     (either-passed P (ltb (slotsOf t) limit) 5
     (either-passed P (leb 64 (length out)) 9
-    (λ _. (tt, tt)) (λ same. (refl, kept same))) (λ same. (refl, kept same))) (λ same. (refl, kept same))) (λ same. (refl, kept same)) told
-runs (command.Off a) t out after same =
-    let P = Runs (command.Off a) t out after in
-    let kept = untouched t out after same in
-    either-passed P (tableSound t) 4 (either-passed P (nodeNumber (nodeCount t) a) 3 (tt, tt) (refl, kept)) (refl, kept)
-runs (command.Restart a) t out after same =
-    let P = Runs (command.Restart a) t out after in
-    let kept = untouched t out after same in
+    (λ _. (tt, tt)) (λ same. (refl, kept same))) (λ same. (refl, kept same))) (λ same. (refl, kept same))) (λ same. (refl, kept same))) (λ same. (refl, kept same))) (λ same. (refl, kept same))) (λ same. (refl, kept same)) told
+runs (command.Off a) t ledger out after same =
+    let P = Runs (command.Off a) t ledger out after in
+    let kept = untouched t ledger out after same in
+    either-passed P (tableSound t) 4
+    (either-passed P (nodeNumber (nodeCount t) a) 3
+    (either-passed P (ledgerFits (nodeCount t) (slotsOf t) ledger) 13
+    (either-passed P (tableSound t) 4 (either-passed P (nodeNumber (nodeCount t) a) 3 (tt, tt) (refl, kept)) (refl, kept)) (refl, kept)) (refl, kept)) (refl, kept)
+runs (command.Restart a) t ledger out after same =
+    let P = Runs (command.Restart a) t ledger out after in
+    let kept = untouched t ledger out after same in
     either-passed P (tableSound t) 4
     (either-passed P (nodeNumber (nodeCount t) a) 3
     (either-passed P (isOut (recordOf t a .state)) 11 (tt, tt) (refl, kept)) (refl, kept)) (refl, kept)
-runs (command.Look lost) t out after same =
-    either-passed (Runs (command.Look lost) t out after) (tableSound t) 4 (tt, tt) (refl, untouched t out after same)
+runs (command.Look lost) t ledger out after same =
+    either-passed (Runs (command.Look lost) t ledger out after) (tableSound t) 4 (tt, tt) (refl, untouched t ledger out after same)
 
 -- ---- plan texts
 
@@ -191,7 +199,7 @@ finishes p begun out = either (Prints out) (leb (0 + 80) (length out)) (tt, tt) 
 -- ---- the demand
 
 pub demand1 : Demand1
-unfolding endedOf
+unfolding keptOf
 demand1 = record {
   sender = λ n s. either (λ (a : Speaker). EndsBy (1 ∷ []) (ofSpeaker a)) (ringSize n) tt refl;
   before = finds-before;

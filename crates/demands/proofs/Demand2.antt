@@ -28,7 +28,8 @@ use Rattle.node.proofs.Sent.{sent-by, sent-read, not-its-turn}
 use Rattle.bench.specs.declared.Command.the-variants.{Slot}
 use Rattle.bench.specs.Table.{Table, recordOf, nodeCount, slotsOf, speaker, tableSound}
 use Rattle.bench.specs.Calls as bench
-use Rattle.bench.specs.Outcomes.{endedOf}
+use Rattle.bench.specs.Ledger.{Ledger, ledgerFits}
+use Rattle.bench.specs.Kept.{slotWith, keptOf}
 use Rattle.bench.proofs.Places.{sound-placed}
 use Rattle.bench.proofs.Runs.{after-slot-record}
 use Rattle.demands.specs.Demand2.{Demand2, nextSender}
@@ -55,16 +56,18 @@ passed : (b : Bool) (number : ℕ) (t : Table) (c : bench.Called) → bench.ifPa
 passed true number t c e = (refl, e)
 passed false number t c e = let z : _≡_ {A = ℕ} 0 1 = cc in absurd (omega arith)
 
-each-steps : (lost : Bool) (missed room : ℕ) (t : Table) → bench.slotOf lost missed room t .answer ≡ Done
+each-steps : (lost : Bool) (missed room : ℕ) (ledger : Ledger) (t : Table) → slotWith lost missed room ledger t .answer ≡ Done
     → (i : ℕ) → 1 ≤ i → i ≤ nodeCount t
-    → stepOf (bench.heardBy lost missed t i) (recordOf t i) ≡ done (recordOf (endedOf (Slot lost missed) room t .table) i)
-unfolding bench.slotOf endedOf
-each-steps lost missed room t e i low high =
+    → stepOf (bench.heardBy lost missed t i) (recordOf t i) ≡ done (recordOf (keptOf (Slot lost missed) room ledger t .table) i)
+unfolding bench.slotOf slotWith keptOf
+each-steps lost missed room ledger t e i low high =
     let p₁ = passed (tableSound t) 4 t _ e in
     let p₂ = passed (within (nodeCount t) missed) 3 t _ (p₁ .1) in
-    let p₃ = passed (ltb (slotsOf t) limit) 5 t _ (p₂ .1) in
+    let fits = passed (ledgerFits (nodeCount t) (slotsOf t) ledger) 13 t _ (p₂ .1) in
+    let again = passed (within (nodeCount t) missed) 3 t _ (passed (tableSound t) 4 t _ (fits .1) .1) in
+    let p₃ = passed (ltb (slotsOf t) limit) 5 t _ (again .1) in
     let p₄ = passed (leb 64 room) 9 t _ (p₃ .1) in
-    let left : bench.slotOf lost missed room t .table ≡ bench.tableAfterSlot lost missed t = simp (p₁ .0, p₂ .0, p₃ .0, p₄ .0) in
+    let left : slotWith lost missed room ledger t .table ≡ bench.tableAfterSlot lost missed t = simp (p₁ .0, p₂ .0, fits .0, p₃ .0, p₄ .0) in
     let placed = sound-placed t (p₁ .0) in
     let place = placed .at i low (omega (arith, placed .length-is)) in
     let below : recordOf t i .slots < limit = omega (arith, place .slots-is, ltb-true (slotsOf t) limit (p₃ .0)) in

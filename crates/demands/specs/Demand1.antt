@@ -30,7 +30,8 @@ use Rattle.bench.specs.declared.Command.the-variants as command
 use Rattle.bench.specs.declared.Outcome.{Outcome}
 use Rattle.bench.specs.declared.Outcome.the-variants as outcome
 use Rattle.bench.specs.Table.{Table}
-use Rattle.bench.specs.Outcomes.{endedOf, BytesAfter}
+use Rattle.bench.specs.Ledger.{Ledger}
+use Rattle.bench.specs.Kept.{keptOf, BytesWith}
 use Rattle.plan_text.specs.declared.Written as text
 use Rattle.plan_text.specs.declared.Written.the-variants as printed
 use Rattle.plan_program.specs.declared.Plan.{Plan}
@@ -90,14 +91,14 @@ abbrev pub Keeps : {A : Type 0} → Ending → A → A → Type 0
 Keeps result before after = Unit {0}
 Keeps (refusal cause) before after = after ≡ before
 
--- Both: of a call that writes into lent bytes, of one on a record, of one on a table with lent bytes, and of those on a plan text.
+-- Both: of a call that writes into lent bytes, of one on a record, of one on a table with a ledger and lent bytes, and of those on a plan text.
 abbrev pub WritesBy : List ℕ → List ℕ → Written × List ℕ → Type 0
 WritesBy numbers out r = EndsBy numbers (ofWritten (r .0)) × Keeps (ofWritten (r .0)) out (r .1)
 
 abbrev pub StepsBy : List ℕ → Node → Stepped → Type 0
 StepsBy numbers v r = EndsBy numbers (ofAnswer (r .answer)) × Keeps (ofAnswer (r .answer)) v (r .node)
 
-abbrev pub RunsBy : List ℕ → Outcome → Table × List ℕ → Table × List ℕ → Type 0
+abbrev pub RunsBy : List ℕ → Outcome → Table × Ledger × List ℕ → Table × Ledger × List ℕ → Type 0
 RunsBy numbers o before after = EndsBy numbers (ofOutcome o) × Keeps (ofOutcome o) before after
 
 abbrev pub PrintsBy : List ℕ → List ℕ → text.Written × List ℕ → Type 0
@@ -110,8 +111,8 @@ FeedsBy numbers p part out f =
 -- By which numbers a call of the bench may be refused, in the order of its tests.
 abbrev pub numbersFor : Command → List ℕ
 numbersFor (command.SetUp n k) = 1 ∷ 2 ∷ 4 ∷ []
-numbersFor (command.Slot lost missed) = 4 ∷ 3 ∷ 5 ∷ 9 ∷ []
-numbersFor (command.Off a) = 4 ∷ 3 ∷ []
+numbersFor (command.Slot lost missed) = 4 ∷ 3 ∷ 13 ∷ 5 ∷ 9 ∷ []
+numbersFor (command.Off a) = 4 ∷ 3 ∷ 13 ∷ []
 numbersFor (command.Restart a) = 4 ∷ 3 ∷ 11 ∷ []
 numbersFor (command.Look lost) = 4 ∷ []
 
@@ -135,8 +136,8 @@ pub record Demand1 : Type 0 where
   pub off : (v : Node) → StepsBy (4 ∷ []) v (offOf v)
   pub restart : (v : Node) → StepsBy (4 ∷ 11 ∷ []) v (restartOf v)
   -- the bench: set-up, slot, off, restart and a look; `out` are the lent bytes and `after` those after the call
-  pub bench : (c : Command) (t : Table) (out after : List ℕ) → BytesAfter c t out after
-      → let ended = endedOf c (length out) t in RunsBy (numbersFor c) (ended .reply .outcome) (t, out) (ended .table, after)
+  pub bench : (c : Command) (t : Table) (ledger : Ledger) (out after : List ℕ) → BytesWith c ledger t out after
+      → let kept = keptOf c (length out) ledger t in RunsBy (numbersFor c) (kept .reply .outcome) (t, ledger, out) (kept .table, kept .ledger, after)
   -- plan texts: a whole one; a piece of one, where this part of the next line has come; and the end
   pub print-plan : (input out : List ℕ) → PrintsBy (9 ∷ []) out (printedIn input out)
   pub feed : (p : Plan) (part : Part) (input out : List ℕ) → FeedsBy (4 ∷ 9 ∷ []) p part out (fedOf p part input out)

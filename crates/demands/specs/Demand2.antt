@@ -19,7 +19,8 @@ use Rattle.node.specs.Calls.{done, refused, unsent, stepOf, slotOf, sendOf}
 use Rattle.bench.specs.declared.Command.the-variants.{Slot}
 use Rattle.bench.specs.Table.{Table, recordOf, nodeCount, speaker, tableSound}
 use Rattle.bench.specs.Calls as bench
-use Rattle.bench.specs.Outcomes.{endedOf}
+use Rattle.bench.specs.Ledger.{Ledger}
+use Rattle.bench.specs.Kept.{slotWith, keptOf}
 
 -- Numbers that are bytes.
 abbrev pub AreBytes : List ℕ → Type 0
@@ -41,9 +42,9 @@ pub record Demand2 : Type 0 where
   -- what is heard is what the reader finds in the bytes that are handed over
   pub by-bytes : (bytes : List ℕ) (v : Node) → slotOf bytes v ≡ stepOf (readOf (v .cable .k) bytes) v
   -- a slot that runs on the bench is this slot of each record, and none is refused
-  pub on-bench : (lost : Bool) (missed room : ℕ) (t : Table) → bench.slotOf lost missed room t .answer ≡ Done
+  pub on-bench : (lost : Bool) (missed room : ℕ) (ledger : Ledger) (t : Table) → slotWith lost missed room ledger t .answer ≡ Done
       → (i : ℕ) → 1 ≤ i → i ≤ nodeCount t
-      → stepOf (bench.heardBy lost missed t i) (recordOf t i) ≡ done (recordOf (endedOf (Slot lost missed) room t .table) i)
+      → stepOf (bench.heardBy lost missed t i) (recordOf t i) ≡ done (recordOf (keptOf (Slot lost missed) room ledger t .table) i)
   -- and what its message is heard as there is what the reader finds in the bytes that the sender sends
   pub heard-on-bench : (t : Table) (out : List ℕ) (count : ℕ) (after : List ℕ) → sendOf (recordOf t (speaker t)) out ≡ (Bytes count, after)
       → readOf (recordOf t (speaker t) .cable .k) (take count after) ≡ bench.spoken t

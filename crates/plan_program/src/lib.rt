@@ -390,8 +390,9 @@ fn run_lines(plan: Plan, part: Part, input: &[u8], out: &mut [u8]) -> Ahead
 fn is_table(n: u32, rows: [Node; 32]) -> bool
     ensures { λ r. ⌜ r ≡ tableSound (tableOf n rows) ⌝ }
 {
+    let mut ledger = [[0u64; 3]; 1];
     let mut pairs = [0u8; 64];
-    let ran = bench_by_value::call(&mut pairs, rows, n, Command::Look(false));
+    let ran = bench_by_value::call(&mut ledger, &mut pairs, rows, n, Command::Look(false));
     let outcome = ran.outcome;
     !is_refused(outcome)
 }

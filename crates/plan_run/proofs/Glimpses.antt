@@ -20,18 +20,19 @@ use Rattle.node_record.specs.declared.Node.{Node}
 use Rattle.node_record.specs.States.{isOut}
 use Rattle.node.specs.Calls.{noNode}
 use Rattle.bench.specs.Table.{Table, eachFrom, recordOf, slotsOf, speaker, tableSound}
-use Rattle.bench.specs.Outcomes.{Ended, endedOf}
+use Rattle.bench.specs.Outcomes.{Ended, endedBy, endedOf}
 use Rattle.bench.specs.declared.Command.{Command}
 use Rattle.bench.specs.declared.Command.the-variants as command
 use Rattle.bench.proofs.Places.{sound-placed}
 use Rattle.bench_walks.specs.declared.Order.{Order}
 use Rattle.bench_walks.specs.declared.Order.the-variants as order
 use Rattle.bench_walks.specs.Survey.{fineTable, glimpseOf, membersOf, recordIn, senderAfter, surveyOf}
-use Rattle.bench_walks.specs.Orders.{carried, carriedFrom, ifGood, notesOf, orderOf, reachOf, replyBy, writtenBy}
+use Rattle.bench_walks.specs.Orders.{carried, carriedFrom, ifGood, notesOf, orderOf, orderFor, reachOf, replyBy, writtenBy}
 use Rattle.bench_walks.proofs.Numbers.{index-in}
 use Rattle.bench_calls.specs.Work.{workOf}
 use Rattle.bench_calls.proofs.Surveys.{fine-table, said, sender-after, with-own}
-use Rattle.bench_calls.proofs.Outcomes.{call-run}
+use Rattle.bench_calls.proofs.Works.{calledFit, called-fitting}
+use Rattle.bench_calls.proofs.Outcomes.{done-by, is-ended}
 use Rattle.bench_by_value.specs.ByValue.{Rows, callOf, ended, tableOf}
 use Rattle.plan_run.specs.declared.Act.{Act}
 use Rattle.plan_run.specs.declared.Act.the-variants as act
@@ -99,7 +100,7 @@ module _ (t : Table) (sound : tableSound t ≡ true) where
         ∙ ap (λ (v : Node). isOut (v .state)) is
         ∙ sym (said t sound .out a named)
 
-  same-order : (c : Command) → orderOf c (glimpseOf t (askedBy c)) (length t) 64 ≡ orderOf c (surveyOf t) (length t) 64
+  same-order : (c : Command) → orderOf c (glimpseOf t (askedBy c)) (length t) 64 true ≡ orderOf c (surveyOf t) (length t) 64 true
   same-order (command.SetUp n k) = refl
   same-order (command.Off a) = rw (fine-same 0, n-same 0) refl
   same-order (command.Restart a) =
@@ -110,17 +111,15 @@ module _ (t : Table) (sound : tableSound t ≡ true) where
 
 -- ---- an order that is carried out
 
-carried-call : (c : Command) (t : Table) (o : Order) → o ≡ orderOf c (surveyOf t) (length t) 64
-    → _≡_ {A = Ended} (record { table = carriedFrom o 0 t; reply = replyBy o (workOf o t .notes) (workOf o t .members) }) (endedOf c 64 t)
+carried-call : (c : Command) (t : Table) (o : Order) → o ≡ orderOf c (surveyOf t) (length t) 64 true → done-by o t ≡ endedOf c 64 t
+unfolding endedOf orderFor
 carried-call c t o is =
     let out : List ℕ = replicate 64 0 in
     let room : length out ≡ 64 = length-replicate {A = ℕ} 64 0 in
-    let m = notesOf o t in
-    let zs = carriedFrom o 0 t in
-    let ms = membersOf (take (reachOf m) zs) in
-    call-run c t out (surveyOf t) o m zs (reachOf m) ms (replyBy o m ms) (writtenBy o m out)
-    (ap surveyOf (sym (take-all (length t) t (omega arith)))) (is ∙ ap (orderOf c (surveyOf t) (length t)) (sym room)) (refl, refl) refl refl (refl, refl) .0
-    ∙ ap (λ (l : ℕ). endedOf c l t) room
+    ap (λ (x : Order). done-by x t) (is ∙ ap (λ (l : ℕ). orderFor c l true t) (sym room))
+    ∙ is-ended c true t out
+    ∙ ap (λ (l : ℕ). endedBy c t (calledFit c l true t)) room
+    ∙ ap (endedBy c t) (called-fitting c 64 t)
 
 -- a table that is to do nothing
 still : (cause : Refusal) (i : ℕ) (t : Table) → carriedFrom (order.Refuse cause) i t ≡ t
@@ -138,7 +137,7 @@ module _ (n : ℕ) (rows : Rows) where
   abbrev t : Table
   t = tableOf n rows
 
-  called : (c : Command) → orderOn (act.Call c) t ≡ orderOf c (surveyOf t) (length t) 64 → Does n rows (act.Call c)
+  called : (c : Command) → orderOn (act.Call c) t ≡ orderOf c (surveyOf t) (length t) 64 true → Does n rows (act.Call c)
   unfolding callOf
   called c is = let e = carried-call c t (orderOn (act.Call c) t) is in (ap (λ (x : Ended). ended n rows x .rows) e, ap (λ (x : Ended). ended n rows x .outcome) e)
 

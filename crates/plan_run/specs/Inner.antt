@@ -1,5 +1,6 @@
 -- Inner: what a line has a lent table do, where the table is taken as it is. The laws in proofs/Glimpses tie it to specs/Run.
 use Prim.Native.Nat.{ℕ}
+use mathlib.Core.Bool.{true}
 use lib.ListN.{length}
 use Rattle.bench.specs.Table.{Table}
 use Rattle.bench.specs.declared.Command.{Command}
@@ -34,9 +35,9 @@ abbrev pub asked : Act → ℕ
 asked (act.Call c) = askedBy c
 asked (act.Refuse cause) = 0
 
--- What each record is to do, with room for all pairs.
+-- What each record is to do, with room for all pairs. No ledger is kept.
 abbrev pub orderBy : Act → Survey → ℕ → Order
-orderBy (act.Call c) s size = orderOf c s size 64
+orderBy (act.Call c) s size = orderOf c s size 64 true
 orderBy (act.Refuse cause) s size = order.Refuse cause
 
 unfoldable pub orderOn : Act → Table → Order

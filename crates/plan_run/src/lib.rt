@@ -104,12 +104,12 @@ fn asked(act: Act) -> u32
     }
 }
 
-// What each record is to do, with room for all pairs.
+// What each record is to do, with room for all pairs. No ledger is kept.
 fn order_by(act: Act, s: Survey, size: usize) -> Order
     ensures { λ r. ⌜ r ≡ orderBy act s size ⌝ }
 {
     match act {
-        Act::Call(command) => bench_walks::order_of(command, s, size, 64),
+        Act::Call(command) => bench_walks::order_of(command, s, size, 64, true),
         Act::Refuse(cause) => Order::Refuse(cause),
     }
 }

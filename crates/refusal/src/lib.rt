@@ -1,4 +1,5 @@
-// The refusals of document 01 ("Causes and their numbers"), one case for each row of the table.
+// The refusals of document 01 ("Causes and their numbers"), one case for each row of the table, and
+// those that document 02 adds.
 ghost use mathlib.Core.Path.{_≡_};
 ghost use Rattle.refusal.specs.Causes.{numberOf};
 
@@ -15,9 +16,10 @@ pub enum Refusal {
     NotItsSlot,
     NotOut,
     PlanLine,
+    LedgerUnfit,
 }
 
-// The number that document 01 gives the cause.
+// The number of the cause.
 pub fn number(cause: Refusal) -> u32
     ensures { λ r. ⌜ r ≡ numberOf cause ⌝ }
 {
@@ -34,5 +36,6 @@ pub fn number(cause: Refusal) -> u32
         Refusal::NotItsSlot => 10,
         Refusal::NotOut => 11,
         Refusal::PlanLine => 12,
+        Refusal::LedgerUnfit => 13,
     }
 }

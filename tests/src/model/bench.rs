@@ -1,6 +1,7 @@
-//! Document 01, "The bench". The calls take a table of records and change it; a refused call gives the
-//! number of the refusal and leaves the table as it was.
+//! Document 01, "The bench". The calls take a table of records and change it, slot and off also the ledger
+//! of document 02, request a; a refused call gives the number of the refusal and leaves both as they were.
 
+use super::ledger::{self, Figures};
 use super::node::{Node, Said, State};
 use super::refusal;
 use super::ring::{self, Set};
@@ -97,11 +98,18 @@ fn check_node(nodes: &[Node], x: u32) -> Result<(), u32> {
     }
 }
 
-fn check_slot(nodes: &[Node], missed: Set, room: usize) -> Result<(), u32> {
+/// 4, then 3.
+fn check_missed(nodes: &[Node], missed: Set) -> Result<(), u32> {
     check_table(nodes)?;
-    if !missed.within(Set::full(nodes[0].n)) {
-        return Err(refusal::NODE);
+    if missed.within(Set::full(nodes[0].n)) {
+        Ok(())
+    } else {
+        Err(refusal::NODE)
     }
+}
+
+/// 5, then 9.
+fn check_room(nodes: &[Node], room: usize) -> Result<(), u32> {
     if nodes[0].slots == ring::LIMIT {
         return Err(refusal::LIMIT);
     }
@@ -112,16 +120,36 @@ fn check_slot(nodes: &[Node], missed: Set, room: usize) -> Result<(), u32> {
 }
 
 /// One slot: the message is lost to all or not, and these nodes miss it; `room` is the length of the
-/// lent buffer.
-pub fn slot(nodes: &mut [Node], lost: bool, missed: Set, room: usize) -> Result<Slot, u32> {
-    check_slot(nodes, missed, room)?;
-    Ok(run_slot(&Document01, nodes, lost, missed))
+/// lent buffer. A leaving is dated with the slot's number. "13, just before 5"
+pub fn slot(
+    nodes: &mut [Node],
+    ledger: &mut [Figures],
+    lost: bool,
+    missed: Set,
+    room: usize,
+) -> Result<Slot, u32> {
+    check_missed(nodes, missed)?;
+    ledger::check(ledger, nodes)?;
+    check_room(nodes, room)?;
+    let before = nodes.to_vec();
+    let slot = run_slot(&Document01, nodes, lost, missed);
+    ledger::enter(ledger, &before, nodes, before[0].slots + 1);
+    Ok(slot)
+}
+
+/// "`off` counts as a leaving if the node was a member, dated with the slots done so far."
+pub fn off(nodes: &mut [Node], ledger: &mut [Figures], x: u32) -> Result<(), u32> {
+    check_table(nodes)?;
+    check_node(nodes, x)?;
+    ledger::check(ledger, nodes)?;
+    let before = nodes.to_vec();
+    switch_off(nodes, x)?;
+    ledger::enter(ledger, &before, nodes, before[0].slots);
+    Ok(())
 }
 
 /// "`off` works in every state, giving cause 4."
-pub fn off(nodes: &mut [Node], x: u32) -> Result<(), u32> {
-    check_table(nodes)?;
-    check_node(nodes, x)?;
+fn switch_off(nodes: &mut [Node], x: u32) -> Result<(), u32> {
     let node = &mut nodes[x as usize - 1];
     *node = node.off()?;
     Ok(())
@@ -136,14 +164,19 @@ pub fn restart(nodes: &mut [Node], x: u32) -> Result<(), u32> {
     Ok(())
 }
 
-/// Any of the calls, by these rules; what happened, if it is a slot.
+/// Any of the calls on a table that has no ledger, by these rules; what happened, if it is a slot.
 pub fn run(rules: &impl Rules, nodes: &mut [Node], call: Call) -> Result<Option<Slot>, u32> {
     match call {
         Call::Slot { lost, missed } => {
-            check_slot(nodes, missed, ROOM)?;
+            check_missed(nodes, missed)?;
+            check_room(nodes, ROOM)?;
             Ok(Some(run_slot(rules, nodes, lost, missed)))
         }
-        Call::Off(x) => off(nodes, x).map(|()| None),
+        Call::Off(x) => {
+            check_table(nodes)?;
+            check_node(nodes, x)?;
+            switch_off(nodes, x).map(|()| None)
+        }
         Call::Restart(x) => restart(nodes, x).map(|()| None),
     }
 }

@@ -1,7 +1,8 @@
-//! The rules of document 01, written from its text alone.
+//! The rules of document 01 and the requests of document 02 that have landed, written from their texts alone.
 
 pub mod bench;
 pub mod demand;
+pub mod ledger;
 pub mod message;
 pub mod node;
 pub mod pieces;

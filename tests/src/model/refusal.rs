@@ -1,4 +1,4 @@
-//! The numbers of document 01's table "Causes and their numbers".
+//! The numbers of document 01's table "Causes and their numbers", and of document 02's requests.
 
 /// "n not 3 to 32"
 pub const N: u32 = 1;
@@ -24,3 +24,5 @@ pub const TURN: u32 = 10;
 pub const NOT_OUT: u32 = 11;
 /// "plan line unreadable or too long"
 pub const LINE: u32 = 12;
+/// request a: "a ledger whose length is not n, or with a count above the slot count plus one"
+pub const LEDGER: u32 = 13;

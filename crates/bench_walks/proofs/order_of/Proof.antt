@@ -1,15 +1,13 @@
 -- `bench_walks::order_of` meets its contract, command by command. Assumes nothing.
 use borrow.Author.Needs.{needs}
-use Prim.Native.Nat.{ℕ}
 use mathlib.Core.Path.{_≡_, sym, ap, _∙_}
 use Rattle.bench.specs.declared.Command.{Command}
-use Rattle.bench_walks.specs.declared.Survey.{Survey}
 use Rattle.bench_walks.specs.Orders.{orderOf}
 use Rattle.bench_walks.proofs.order_of.Statement.{statement}
 use Rattle.bench_walks.proofs.order_of.Tie as tie
 
-commanded : (s : Survey) (size room : ℕ) {c c′ : Command} → c ≡ c′ → orderOf c′ s size room ≡ orderOf c s size room
-commanded s size room e = sym (ap (λ (c : Command). orderOf c s size room) e)
+commanded : (start : tie.Start) {c c′ : Command} → c ≡ c′ → let a = start .args in orderOf c′ (a .s) (a .size) (a .room) (a .fits) ≡ orderOf c (a .s) (a .size) (a .room) (a .fits)
+commanded start e = let a = start .args in sym (ap (λ (c : Command). orderOf c (a .s) (a .size) (a .room) (a .fits)) e)
 
 enum-known-command : tie.Need-enum-known-command
 enum-known-command c = search needs
@@ -42,19 +40,19 @@ look-order-requires : tie.Need-look-order-requires
 look-order-requires c κs = search needs
 
 returns : tie.Need-returns
-returns c = c .set-up-order .ensures ∙ commanded (c .before .before .before .before .args .s) (c .before .before .before .before .args .size) (c .before .before .before .before .args .room) (c .before .before .command .given .1)
+returns c = c .set-up-order .ensures ∙ commanded (c .before .before .before .before) (c .before .before .command .given .1)
 
 returns-2 : tie.Need-returns-2
-returns-2 c = c .off-order .ensures ∙ commanded (c .before .before .before .before .args .s) (c .before .before .before .before .args .size) (c .before .before .before .before .args .room) (c .before .before .command2 .given .1)
+returns-2 c = c .off-order .ensures ∙ commanded (c .before .before .before .before) (c .before .before .command2 .given .1)
 
 returns-3 : tie.Need-returns-3
-returns-3 c = c .restart-order .ensures ∙ commanded (c .before .before .before .before .args .s) (c .before .before .before .before .args .size) (c .before .before .before .before .args .room) (c .before .before .command3 .given .1)
+returns-3 c = c .restart-order .ensures ∙ commanded (c .before .before .before .before) (c .before .before .command3 .given .1)
 
 returns-4 : tie.Need-returns-4
-returns-4 c = c .slot-order .ensures ∙ commanded (c .before .before .before .before .args .s) (c .before .before .before .before .args .size) (c .before .before .before .before .args .room) (c .before .before .command4 .given .1)
+returns-4 c = c .slot-order .ensures ∙ commanded (c .before .before .before .before) (c .before .before .command4 .given .1)
 
 returns-5 : tie.Need-returns-5
-returns-5 c = c .look-order .ensures ∙ commanded (c .before .before .before .before .args .s) (c .before .before .before .before .args .size) (c .before .before .before .before .args .room) (c .before .before .command5 .given .1)
+returns-5 c = c .look-order .ensures ∙ commanded (c .before .before .before .before) (c .before .before .command5 .given .1)
 
 pub order-of-spec : {M : Type 1} → statement M
 order-of-spec =

@@ -1,15 +1,27 @@
 //! One run of the program, call by call beside the model.
 
-use super::protocol::{Call, Command, Held, Told, HEAD, ROWS};
+use super::protocol::{entries_of, rows_of, Call, Command, Held, Told, FIGURES, HEAD, ROWS, TAIL};
+use super::tally::History;
 use comparison::child;
 use comparison::events::KINDS;
 use comparison::messages::hex;
-use comparison::record_bytes::{shown_record, Reader, RECORD};
+use comparison::model::node::{Node, State};
+use comparison::record_bytes::{shown_record, RECORD};
 use comparison::report::Count;
 use std::io::Read;
 
-/// Runs the program on the commands and compares every answer: what the call tells, each byte of the buffer
-/// and each of the rows, those after the table too. Notes what is expected.
+/// An off that is carried out, by the node's state before it.
+pub const OFFS: [&str; 5] = [
+    "off: of a member",
+    "off: of a listening node",
+    "off: of a following node",
+    "off: of a knocking node",
+    "off: of an out node",
+];
+
+/// Runs the program on the commands and compares every answer: what the call tells, each byte of the buffer,
+/// each of the rows, those after the table too, and each of the entries, those after the ledger too. Notes what
+/// is expected.
 pub fn compare(count: &mut Count, commands: &[Command]) -> Result<(), String> {
     let mut script = Vec::new();
     commands.iter().for_each(|command| command.push(&mut script));
@@ -20,17 +32,26 @@ fn answers(count: &mut Count, commands: &[Command], output: &mut dyn Read) -> Re
     let mut held = Held::first();
     let mut expected = Vec::new();
     let mut got = Vec::new();
+    let mut history = History::default();
     for (i, command) in commands.iter().enumerate() {
-        let Some(told) = held.run(command, &mut expected) else { continue };
+        let off = off_of(command, held.table());
+        let Some(told) = held.run(command, &mut expected) else {
+            history.follow(count, command, (held.size, held.lent), &[])?;
+            continue;
+        };
         let at = || format!("command {}: {}", i + 1, shown_command(command));
         note(count, command, &told, &expected);
+        off.filter(|_| told.number == 0).into_iter().for_each(|name| count.event(name));
         child::read_answer(output, expected.len(), &mut got)
             .map_err(|why| format!("{}: the answer cannot be read: {why}", at()))?;
         sort_pairs(command, &mut got);
         count.check(got == expected, || {
-            let table = shown_rows(&expected, held.size);
-            format!("{}, {} rows\n        {}{table}", at(), held.size, shown_difference(&got, &expected))
+            let (table, difference) = (shown_rows(&expected, held.size), shown_difference(&got, &expected));
+            format!("{}, {} rows, {} entries\n        {difference}{table}", at(), held.size, held.lent)
         })?;
+        history
+            .follow(count, command, (held.size, held.lent), &got)
+            .map_err(|why| format!("{}: {why}", at()))?;
     }
     Ok(())
 }
@@ -57,6 +78,19 @@ fn note(count: &mut Count, command: &Command, told: &Told, answer: &[u8]) {
     }
 }
 
+/// The event of an off of a node of this table.
+fn off_of(command: &Command, table: &[Node]) -> Option<&'static str> {
+    let Command::Call(Call::Off(x), _) = *command else { return None };
+    let node = table.iter().find(|node| node.own == x)?;
+    Some(match node.state {
+        State::Member => OFFS[0],
+        State::Listening => OFFS[1],
+        State::Following => OFFS[2],
+        State::Knocking => OFFS[3],
+        State::Out(_) => OFFS[4],
+    })
+}
+
 /// "The order among changes of one slot is left open.": the program's pairs by rising node number.
 fn sort_pairs(command: &Command, answer: &mut [u8]) {
     let Command::Call(_, room) = command else { return };
@@ -75,6 +109,8 @@ fn shown_command(command: &Command) -> String {
     match *command {
         Command::Size(size) => format!("size {size}"),
         Command::Load(row, ref node) => format!("load row {row}: {}", shown_record(node)),
+        Command::Lend(entries) => format!("lend {entries} entries"),
+        Command::Enter(entry, ref figures) => format!("entry {entry}: {figures:?}"),
         Command::Call(call, room) => format!("{}, buffer of {room} bytes", shown_call(call)),
     }
 }
@@ -95,7 +131,8 @@ fn shown_difference(got: &[u8], expected: &[u8]) -> String {
         return format!("only {} of {} bytes: [{}]", got.len(), expected.len(), hex(got));
     }
     let place = got.iter().zip(expected).take_while(|(a, b)| a == b).count();
-    let rows = expected.len() - ROWS * RECORD;
+    let rows = expected.len() - TAIL;
+    let entries = rows + ROWS * RECORD;
     let both =
         |what: &str, a: String, b: String| format!("{what}\n        program: {a}\n        model:   {b}");
     if place < HEAD {
@@ -106,19 +143,22 @@ fn shown_difference(got: &[u8], expected: &[u8]) -> String {
             hex(&got[HEAD..rows]),
             hex(&expected[HEAD..rows]),
         )
-    } else {
+    } else if place < entries {
         let row = (place - rows) / RECORD;
-        let shown = |answer: &[u8]| shown_record(&Reader(&answer[rows + row * RECORD..]).record());
+        let shown = |answer: &[u8]| shown_record(&rows_of(answer).nth(row).expect("a row"));
         both(&format!("row {row}"), shown(got), shown(expected))
+    } else {
+        let entry = (place - entries) / FIGURES;
+        let shown = |answer: &[u8]| format!("{:?}", entries_of(answer).nth(entry).expect("an entry"));
+        both(&format!("entry {entry}"), shown(got), shown(expected))
     }
 }
 
 /// The table as the model leaves it.
 fn shown_rows(answer: &[u8], size: usize) -> String {
-    let mut rows = Reader(&answer[answer.len() - ROWS * RECORD..]);
     let mut text = "\n        table after it:".to_string();
-    for _ in 0..size {
-        text += &format!("\n        {}", shown_record(&rows.record()));
+    for row in rows_of(answer).take(size) {
+        text += &format!("\n        {}", shown_record(&row));
     }
     text
 }

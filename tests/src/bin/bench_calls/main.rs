@@ -1,11 +1,14 @@
 //! The bench: the library, behind the program `bench_runs`, beside the model.
 
 mod compare;
+mod figures;
+mod ledgers;
 mod protocol;
 mod refusals;
 mod runs;
 mod script;
 mod tables;
+mod tally;
 mod vectors;
 
 use comparison::report::{self, Case};
@@ -19,23 +22,28 @@ fn main() -> ExitCode {
             run: vectors::pairs,
         },
         Case {
+            name: "vectors: figures of leavings, joinings and offs by request a, model and program",
+            meets: &[0],
+            run: vectors::figures,
+        },
+        Case {
             name: "set-up: any rows, every number of them, n and k in range and out of it",
             meets: &[0, 1, 2, 4],
             run: refusals::set_up,
         },
         Case {
-            name: "runs: every n and k, with losses, misses, offs, restarts, looks and refused calls",
-            meets: &[0, 2, 3, 4, 9, 11],
+            name: "runs: every n and k, with losses, misses, offs, restarts, looks and refused calls; tally",
+            meets: &[0, 2, 3, 4, 9, 11, 13],
             run: runs::every_n_and_k,
         },
         Case {
-            name: "runs: long ones of n from 3 to 9",
-            meets: &[0, 2, 3, 4, 9, 11],
+            name: "runs: long ones of n from 3 to 9; tally",
+            meets: &[0, 2, 3, 4, 9, 11, 13],
             run: runs::small_rings,
         },
         Case {
-            name: "runs: 6,000 calls in which the nodes go and come back all the time",
-            meets: &[0, 2, 3, 4, 9, 11],
+            name: "runs: 6,000 calls in which the nodes go and come back all the time; tally",
+            meets: &[0, 2, 3, 4, 9, 11, 13],
             run: runs::lasting,
         },
         Case { name: "tables: any sound records, every call", meets: &[0, 11], run: tables::sound },
@@ -51,7 +59,7 @@ fn main() -> ExitCode {
         },
         Case {
             name: "slot limit: tables at the limit and up to two slots below it",
-            meets: &[0, 5, 11],
+            meets: &[0, 5, 11, 13],
             run: tables::limit,
         },
         Case { name: "buffers: every length from 0 to 255, every call", meets: &[0, 9], run: tables::rooms },
@@ -62,8 +70,39 @@ fn main() -> ExitCode {
         },
         Case {
             name: "order: every choice of causes at once",
-            meets: &[0, 3, 4, 5, 9, 11],
+            meets: &[0, 3, 4, 5, 9, 11, 13],
             run: refusals::order,
+        },
+        Case {
+            name: "ledgers: lengths from 0 to 33 for every n, every call",
+            meets: &[0, 13],
+            run: ledgers::lengths,
+        },
+        Case {
+            name: "ledgers: each figure at the slot count plus one and past it",
+            meets: &[0, 5, 13],
+            run: ledgers::edges,
+        },
+        Case {
+            name: "ledgers: a count that does not fit, in every entry for every n",
+            meets: &[0, 13],
+            run: ledgers::every_entry,
+        },
+        Case { name: "ledgers: off in every state, any figures before it", meets: &[0], run: ledgers::offs },
+        Case {
+            name: "ledgers: an off that takes a count past what fits",
+            meets: &[0, 13],
+            run: ledgers::off_past,
+        },
+        Case {
+            name: "ledgers: all nodes leave in one slot, any figures before it",
+            meets: &[0],
+            run: ledgers::all_leave,
+        },
+        Case {
+            name: "ledgers: any small ones, sound tables of few slots, every call",
+            meets: &[0, 11, 13],
+            run: ledgers::small,
         },
     ])
 }

@@ -1,7 +1,8 @@
-//! What the program `bench_runs` takes and gives: commands on 32 rows, the first of which are the table. All
-//! numbers are lowest byte first.
+//! What the program `bench_runs` takes and gives: commands on 32 rows, the first of which are the table, and on
+//! 33 entries, the first of which are the ledger. All numbers are lowest byte first.
 
 use comparison::model::bench::{self, Fate};
+use comparison::model::ledger::Figures;
 use comparison::model::node::Node;
 use comparison::model::ring::Set;
 use comparison::record_bytes::{record_bytes, Reader, RECORD};
@@ -9,10 +10,19 @@ use comparison::record_bytes::{record_bytes, Reader, RECORD};
 /// The rows that there are; a table of more is not to be had.
 pub const ROWS: usize = 32;
 
+/// The entries that there are; a ledger of more is not to be had.
+pub const ENTRIES: usize = 33;
+
+/// The bytes of an entry.
+pub const FIGURES: usize = 24;
+
 /// Each byte of a lent buffer before the call.
 pub const FILL: u8 = 0xA5;
 
-/// The bytes of an answer before the buffer and the rows.
+/// The bytes of an answer after the buffer.
+pub const TAIL: usize = ROWS * RECORD + ENTRIES * FIGURES;
+
+/// The bytes of an answer before the buffer, the rows and the entries.
 pub const HEAD: usize = 27;
 
 #[derive(Clone, Copy)]
@@ -28,6 +38,9 @@ pub enum Call {
 pub enum Command {
     Size(u8),
     Load(u8, Node),
+    /// The number of entries that are lent with every call.
+    Lend(u8),
+    Enter(u8, Figures),
     /// A call, and the length of the buffer that is lent to it.
     Call(Call, u8),
 }
@@ -40,9 +53,35 @@ impl Command {
                 out.extend([b'L', row]);
                 out.extend(record_bytes(node));
             }
+            Command::Lend(entries) => out.extend([b'M', entries]),
+            Command::Enter(entry, ref figures) => {
+                out.extend([b'G', entry]);
+                push_figures(figures, out);
+            }
             Command::Call(call, room) => call.push(out, room),
         }
     }
+}
+
+fn push_figures(figures: &Figures, out: &mut Vec<u8>) {
+    for figure in [figures.left, figures.joined, figures.last] {
+        out.extend(figure.to_le_bytes());
+    }
+}
+
+/// The rows of a whole answer.
+pub fn rows_of(answer: &[u8]) -> impl Iterator<Item = Node> + '_ {
+    let rows = &answer[answer.len() - TAIL..][..ROWS * RECORD];
+    rows.chunks_exact(RECORD).map(|row| Reader(row).record())
+}
+
+/// The entries of a whole answer.
+pub fn entries_of(answer: &[u8]) -> impl Iterator<Item = Figures> + '_ {
+    let entries = &answer[answer.len() - ENTRIES * FIGURES..];
+    entries.chunks_exact(FIGURES).map(|entry| {
+        let mut bytes = Reader(entry);
+        Figures { left: bytes.u64(), joined: bytes.u64(), last: bytes.u64() }
+    })
 }
 
 impl Call {
@@ -117,18 +156,26 @@ fn fate_number(fate: Fate) -> u8 {
     }
 }
 
-/// The rows by the model.
+/// The rows and the entries by the model.
 pub struct Held {
     pub rows: Vec<Node>,
     pub size: usize,
+    pub entries: Vec<Figures>,
+    pub lent: usize,
 }
 
 impl Held {
-    /// Before the first command: no table, and all bytes of each row 0 but the state, 7.
+    /// Before the first command: no table, and all bytes of each row 0 but the state, 7; no ledger, and all
+    /// figures 0.
     pub fn first() -> Held {
         let mut bytes = [0; RECORD];
         bytes[20] = 7;
-        Held { rows: vec![Reader(&bytes).record(); ROWS], size: 0 }
+        Held {
+            rows: vec![Reader(&bytes).record(); ROWS],
+            size: 0,
+            entries: vec![Figures::default(); ENTRIES],
+            lent: 0,
+        }
     }
 
     pub fn table(&self) -> &[Node] {
@@ -142,12 +189,19 @@ impl Held {
         match *command {
             Command::Size(size) => self.size = usize::from(size).min(ROWS),
             Command::Load(row, node) => self.rows[usize::from(row)] = node,
+            Command::Lend(entries) => self.lent = usize::from(entries).min(ENTRIES),
+            Command::Enter(entry, figures) => {
+                if let Some(held) = self.entries.get_mut(usize::from(entry)) {
+                    *held = figures;
+                }
+            }
             Command::Call(call, room) => {
                 let mut buffer = vec![FILL; usize::from(room)];
                 let told = self.call(call, &mut buffer).unwrap_or_else(Told::refused);
                 told.push(out);
                 out.extend(buffer);
                 self.rows.iter().for_each(|row| out.extend(record_bytes(row)));
+                self.entries.iter().for_each(|figures| push_figures(figures, out));
                 return Some(told);
             }
         }
@@ -156,11 +210,12 @@ impl Held {
 
     fn call(&mut self, call: Call, buffer: &mut [u8]) -> Result<Told, u32> {
         let table = &mut self.rows[..self.size];
+        let ledger = &mut self.entries[..self.lent];
         match call {
             Call::SetUp { n, k } => table.copy_from_slice(&bench::set_up(n, k, self.size)?),
-            Call::Off(x) => bench::off(table, x)?,
+            Call::Off(x) => bench::off(table, ledger, x)?,
             Call::Restart(x) => bench::restart(table, x)?,
-            Call::Slot { lost, missed } => return slot(table, lost, missed, buffer),
+            Call::Slot { lost, missed } => return slot(table, ledger, lost, missed, buffer),
             Call::Look { lost } => return look(table, lost),
         }
         Ok(Told::default())
@@ -179,8 +234,14 @@ fn look(table: &[Node], lost: bool) -> Result<Told, u32> {
     })
 }
 
-fn slot(table: &mut [Node], lost: bool, missed: u32, buffer: &mut [u8]) -> Result<Told, u32> {
-    let slot = bench::slot(table, lost, Set(missed), buffer.len())?;
+fn slot(
+    table: &mut [Node],
+    ledger: &mut [Figures],
+    lost: bool,
+    missed: u32,
+    buffer: &mut [u8],
+) -> Result<Told, u32> {
+    let slot = bench::slot(table, ledger, lost, Set(missed), buffer.len())?;
     for (pair, &(node, kind)) in buffer.chunks_exact_mut(2).zip(&slot.changes) {
         pair.copy_from_slice(&[node as u8, kind as u8]);
     }

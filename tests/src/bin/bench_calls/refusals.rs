@@ -1,6 +1,7 @@
 //! Set-up's arguments, and several causes of refusal at once.
 
 use super::compare::compare;
+use super::figures;
 use super::protocol::{Call, Command, ROWS};
 use super::script::{any_record, no_node, Script, ENOUGH, SHORT};
 use super::tables::sound_table;
@@ -10,7 +11,7 @@ use comparison::random::Random;
 use comparison::records::sound_of;
 use comparison::report::Count;
 
-/// Every number of rows, for every n and k that could be one and a few that could not.
+/// Every number of rows, for every n and k that could be one and a few that could not. Any ledger is lent.
 pub fn set_up(count: &mut Count) -> Result<(), String> {
     let mut random = Random::new(96);
     let mut script = Script::new();
@@ -20,6 +21,8 @@ pub fn set_up(count: &mut Count) -> Result<(), String> {
             script.push(Command::Load(row as u8, node));
         }
         script.push(Command::Size(size));
+        let ledger = figures::small(&mut random, usize::from(size));
+        script.lend(&mut random, &ledger);
         for n in (0..=34).chain([64, 256 + 4, 1 << 31, u32::MAX]) {
             let near = n.wrapping_sub(1);
             for k in [0, 1, 2, 3, near, n, 31, 32, 256 + 2, u32::MAX] {
@@ -31,23 +34,39 @@ pub fn set_up(count: &mut Count) -> Result<(), String> {
     compare(count, &script.commands)
 }
 
-const CAUSES: [&str; 16] = [
+const CAUSES: [&str; 32] = [
     "slot: no cause",
     "slot: 9",
     "slot: 5",
     "slot: 5, 9",
+    "slot: 13",
+    "slot: 13, 9",
+    "slot: 13, 5",
+    "slot: 13, 5, 9",
     "slot: 3",
     "slot: 3, 9",
     "slot: 3, 5",
     "slot: 3, 5, 9",
+    "slot: 3, 13",
+    "slot: 3, 13, 9",
+    "slot: 3, 13, 5",
+    "slot: 3, 13, 5, 9",
     "slot: 4",
     "slot: 4, 9",
     "slot: 4, 5",
     "slot: 4, 5, 9",
+    "slot: 4, 13",
+    "slot: 4, 13, 9",
+    "slot: 4, 13, 5",
+    "slot: 4, 13, 5, 9",
     "slot: 4, 3",
     "slot: 4, 3, 9",
     "slot: 4, 3, 5",
     "slot: 4, 3, 5, 9",
+    "slot: 4, 3, 13",
+    "slot: 4, 3, 13, 9",
+    "slot: 4, 3, 13, 5",
+    "slot: 4, 3, 13, 5, 9",
 ];
 
 /// A table for these causes, 4 and 5, in which node x is out or is not.
@@ -63,18 +82,24 @@ fn table(random: &mut Random, (n, k, x): (u32, u32, u32), unsound: bool, at_limi
     table
 }
 
-/// Every choice of causes for a slot, and of those that the other calls share: 4, 3, and for restart 11.
+/// Every choice of causes for a slot, and of those that the other calls share: 4 and 3, for off 13, for
+/// restart 11.
 pub fn order(count: &mut Count) -> Result<(), String> {
     let mut random = Random::new(97);
     let mut script = Script::new();
-    for i in 0..16 * 150 {
-        let (unsound, outside, at_limit, short) = (i & 8 != 0, i & 4 != 0, i & 2 != 0, i & 1 != 0);
+    for i in 0..32 * 90 {
+        let (unsound, outside, unfit) = (i & 16 != 0, i & 8 != 0, i & 4 != 0);
+        let (at_limit, short) = (i & 2 != 0, i & 1 != 0);
         let n = random.within(3, 31) as u32;
         let k = random.within(2, u64::from(n) - 1) as u32;
         let x = random.within(1, u64::from(n)) as u32;
         let table = table(&mut random, (n, k, x), unsound, at_limit);
-        count.event(CAUSES[i & 15]);
+        count.event(CAUSES[i & 31]);
         script.load(&mut random, &table);
+        if unfit {
+            let ledger = figures::unfit(&mut random, n as usize, table[0].slots);
+            script.lend(&mut random, &ledger);
+        }
         let room = if short { SHORT[random.below(5) as usize] } else { ENOUGH[random.below(6) as usize] };
         let missed = 1 << if outside { random.within(u64::from(n), 31) as u32 } else { x - 1 };
         let x = if outside { no_node(&mut random, n) } else { x };

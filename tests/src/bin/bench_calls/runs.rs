@@ -1,12 +1,14 @@
-//! Runs from set-up on, with losses, misses, offs and restarts, and refused calls and looks in between.
+//! Runs from set-up and a ledger of zeros on, with losses, misses, offs and restarts, and refused calls and
+//! looks in between.
 
-use super::compare::compare;
+use super::compare::{compare, OFFS};
 use super::protocol::{Call, Command, ROWS};
 use super::script::{any_record, no_node, one_not_out, Script, SHORT};
 use comparison::adversary::Adversary;
 use comparison::events::KINDS;
 use comparison::lasting::Lasting;
 use comparison::model::bench;
+use comparison::model::ledger::Figures;
 use comparison::model::node::Node;
 use comparison::random::Random;
 use comparison::report::Count;
@@ -23,6 +25,9 @@ const TOLD: &[&str] = &[
     "told: knock",
     "told: sent",
     "told: a list",
+    "tally: a ledger",
+    "tally: a node that left and joined again",
+    "tally: a node that left twice",
 ];
 
 fn call_of(call: bench::Call) -> Call {
@@ -33,13 +38,14 @@ fn call_of(call: bench::Call) -> Call {
     }
 }
 
-/// Sets a table of n rows up, whatever they hold.
+/// Sets a table of n rows up, whatever they hold; the ledger holds zeros.
 fn set_up(script: &mut Script, random: &mut Random, n: u32, k: u32) {
     for row in 0..ROWS {
         let node = any_record(random);
         script.push(Command::Load(row as u8, node));
     }
     script.push(Command::Size(n as u8));
+    script.lend(random, &vec![Figures::default(); n as usize]);
     script.call(random, Call::SetUp { n, k });
 }
 
@@ -57,8 +63,18 @@ fn refused(random: &mut Random, table: &[Node]) -> Option<Call> {
     })
 }
 
+/// A slot and an off for which the ledger is an entry too short or too long.
+fn wrong_length(script: &mut Script, random: &mut Random) {
+    let n = script.table()[0].n as u8;
+    let (lost, x) = (random.bit(), random.within(1, u64::from(n)) as u32);
+    script.push(Command::Lend(if random.bit() { n - 1 } else { n + 1 }));
+    script.call(random, Call::Slot { lost, missed: 0 });
+    script.call(random, Call::Off(x));
+    script.push(Command::Lend(n));
+}
+
 /// What comes between two calls of a run: now and then both looks, a refused call, or a slot with a buffer that
-/// is too short.
+/// is too short or a ledger of a wrong length.
 fn between(script: &mut Script, random: &mut Random) {
     if random.below(3) == 0 {
         let lost = random.bit();
@@ -66,12 +82,16 @@ fn between(script: &mut Script, random: &mut Random) {
         script.call(random, Call::Look { lost: !lost });
     }
     if random.below(8) == 0 {
-        let call = refused(random, script.table());
-        call.into_iter().for_each(|call| script.call(random, call));
+        if let Some(call) = refused(random, script.table()) {
+            script.call(random, call);
+        }
     }
     if random.below(16) == 0 {
         let room = SHORT[random.below(5) as usize];
         script.push(Command::Call(Call::Slot { lost: random.bit(), missed: 0 }, room));
+    }
+    if random.below(32) == 0 {
+        wrong_length(script, random);
     }
 }
 
@@ -90,6 +110,7 @@ fn compare_met(count: &mut Count, script: &Script) -> Result<(), String> {
     compare(count, &script.commands)?;
     count.needs(TOLD)?;
     count.needs(&["told: sets that differ"])?;
+    count.needs(&OFFS)?;
     count.needs(&KINDS)
 }
 

@@ -1,7 +1,10 @@
-//! Commands in a row, made with the table before each of them in view.
+//! Commands in a row, made with the table and the ledger before each of them in view.
 
-use super::protocol::{Call, Command, Held, ROWS};
+use super::figures;
+use super::protocol::{Call, Command, Held, Told, ENTRIES, ROWS};
+use comparison::model::ledger::Figures;
 use comparison::model::node::{Node, State};
+use comparison::model::ring::LIMIT;
 use comparison::random::Random;
 use comparison::records::{disturb, sound, STATES};
 
@@ -31,18 +34,45 @@ impl Script {
         self.held.table()
     }
 
-    pub fn push(&mut self, command: Command) {
-        self.held.run(&command, &mut self.answer);
-        self.commands.push(command);
+    /// All entries, those after the ledger too.
+    pub fn entries(&self) -> &[Figures] {
+        &self.held.entries
     }
 
-    /// A call with a buffer that is long enough.
-    pub fn call(&mut self, random: &mut Random, call: Call) {
-        self.push(Command::Call(call, ENOUGH[random.below(6) as usize]));
+    /// What the model tells, if it is a call.
+    pub fn push(&mut self, command: Command) -> Option<Told> {
+        self.commands.push(command);
+        self.held.run(&command, &mut self.answer)
+    }
+
+    /// A call with a buffer that is long enough; the number of the refusal by the model, or 0.
+    pub fn call(&mut self, random: &mut Random, call: Call) -> u8 {
+        let told = self.push(Command::Call(call, ENOUGH[random.below(6) as usize]));
+        told.expect("a call is answered").number
+    }
+
+    /// Lends this ledger. An entry after it holds figures of any kind.
+    pub fn lend(&mut self, random: &mut Random, ledger: &[Figures]) {
+        self.push(Command::Lend(ledger.len() as u8));
+        for (entry, figures) in (0..).zip(ledger) {
+            self.push(Command::Enter(entry, *figures));
+        }
+        if ledger.len() < ENTRIES {
+            let entry = random.within(ledger.len() as u64, ENTRIES as u64 - 1) as u8;
+            self.push(Command::Enter(entry, figures::any(random)));
+        }
+    }
+
+    /// Loads the rows of a table and lends a ledger that fits it, if any does.
+    pub fn load(&mut self, random: &mut Random, table: &[Node]) {
+        self.load_rows(random, table);
+        let slots = table.first().map_or(0, |node| node.slots.min(LIMIT));
+        let ledger = figures::fitting(random, table.len(), slots);
+        self.lend(random, &ledger);
     }
 
     /// Loads the rows of a table. The rows after it hold records of any kind.
-    pub fn load(&mut self, random: &mut Random, table: &[Node]) {
+    pub fn load_rows(&mut self, random: &mut Random, table: &[Node]) {
         self.push(Command::Size(table.len() as u8));
         for (row, node) in (0..).zip(table) {
             self.push(Command::Load(row, *node));

@@ -1,6 +1,7 @@
 //! Tables that are loaded as they stand: ones of any sound records, and ones that are no table.
 
-use super::compare::compare;
+use super::compare::{compare, OFFS};
+use super::figures;
 use super::protocol::{Call, Command};
 use super::script::{Script, ENOUGH};
 use comparison::events::KINDS;
@@ -14,7 +15,7 @@ use comparison::records::{size, sound_of, Break, BREAKS, STATES};
 use comparison::report::Count;
 
 /// n, k and a slot count below the limit.
-fn ring(random: &mut Random) -> (u32, u32, u64) {
+pub fn ring(random: &mut Random) -> (u32, u32, u64) {
     let n = size(random);
     let k = random.within(2, u64::from(n) - 1) as u32;
     let slots = if random.bit() { random.below(3 * u64::from(n)) } else { random.below(LIMIT - 5) };
@@ -49,10 +50,12 @@ pub fn sound(count: &mut Count) -> Result<(), String> {
     }
     compare(count, &script.commands)?;
     count.needs(&KINDS)?;
+    count.needs(&OFFS)?;
     count.needs(&["told: no list", "told: a list", "told: sets that differ"])
 }
 
-/// Loads what is no table, and makes every call; then set-up, which takes it.
+/// Loads what is no table, with a ledger of as many entries or any small one, and makes every call; then
+/// set-up, which takes it.
 fn no_table(
     count: &mut Count,
     random: &mut Random,
@@ -63,6 +66,10 @@ fn no_table(
         format!("this is a table: {}", rows.iter().map(shown_record).collect::<Vec<_>>().join("\n        "))
     })?;
     script.load(random, rows);
+    if random.bit() {
+        let ledger = figures::small(random, rows.len());
+        script.lend(random, &ledger);
+    }
     script.every_call(random, (rows.len() as u32).clamp(3, 32), 2);
     Ok(())
 }
@@ -147,7 +154,8 @@ pub fn no_tables(count: &mut Count) -> Result<(), String> {
     compare(count, &script.commands)
 }
 
-/// Tables at the limit and up to two slots below it: slots up to it, then 5; no other call asks for it.
+/// Tables at the limit and up to two slots below it: slots up to it, then 5; no other call asks for it. An off
+/// can take a count past those that fit: then 13.
 pub fn limit(count: &mut Count) -> Result<(), String> {
     let mut random = Random::new(94);
     let mut script = Script::new();
@@ -194,7 +202,7 @@ pub fn rooms(count: &mut Count) -> Result<(), String> {
 }
 
 /// A table of members none of whom has marked another: all leave in the next slot if it is lost.
-fn all_leave(n: u32) -> Vec<Node> {
+pub fn all_leave(n: u32) -> Vec<Node> {
     let member = |own| Node { marks: Set::EMPTY.with(own), ..Node::set_up(n, 2, own).expect("in range") };
     (1..=n).map(member).collect()
 }

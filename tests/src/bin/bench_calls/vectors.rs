@@ -1,8 +1,12 @@
-//! Runs whose pairs are typed from document 01; neither side makes an expected answer.
+//! Runs whose pairs are typed from document 01 and whose figures are typed from request a; neither side makes an
+//! expected answer.
 
-use super::compare::compare;
+use super::compare::{compare, OFFS};
 use super::protocol::{Call, Command, Held, HEAD};
+use super::script::Script;
 use comparison::events::KINDS;
+use comparison::model::ledger::Figures;
+use comparison::random::Random;
 use comparison::report::Count;
 
 const OK: Call = Call::Slot { lost: false, missed: 0 };
@@ -50,7 +54,7 @@ const DEAF: Run = &[(MISS, &[]), (OK, &[(2, 3)]), (MISS, &[]), (MISS, &[(2, 6)])
 
 /// The model against the pairs; the commands are for the program.
 fn follow(count: &mut Count, runs: &[Run]) -> Result<Vec<Command>, String> {
-    let mut commands = vec![Command::Size(4), Command::Call(Call::SetUp { n: 4, k: 2 }, 0)];
+    let mut commands = vec![Command::Size(4), Command::Lend(4), Command::Call(Call::SetUp { n: 4, k: 2 }, 0)];
     let mut held = Held::first();
     let mut answer = Vec::new();
     for command in &commands {
@@ -74,4 +78,91 @@ pub fn pairs(count: &mut Count) -> Result<(), String> {
         compare(count, &commands)?;
     }
     count.needs(&KINDS)
+}
+
+/// A call that is made so many times, and node 2's figures after each: left, joined, slot of the last leaving.
+type Kept = &'static [(Call, u32, [u64; 3])];
+
+/// The calls of `RETURN`.
+const LEAVES_AND_FOLLOWS: Kept = &[
+    (OK, 1, [0, 0, 0]),
+    (LOST, 1, [0, 0, 0]),
+    (OK, 1, [0, 0, 0]),
+    (OK, 1, [1, 0, 4]),
+    (Call::Off(2), 1, [1, 0, 4]),
+    (Call::Restart(2), 1, [1, 0, 4]),
+    (OK, 8, [1, 0, 4]),
+];
+
+/// Those of `DEAF`, with which it stops following.
+const STOPS_FOLLOWING: Kept = &[(MISS, 1, [1, 0, 4]), (OK, 1, [1, 0, 4]), (MISS, 2, [1, 0, 4])];
+
+/// Switched off as it follows, then as it listens.
+const OFF_FOLLOWING: Kept = &[
+    (OK, 1, [1, 0, 4]),
+    (Call::Off(2), 1, [1, 0, 4]),
+    (Call::Restart(2), 1, [1, 0, 4]),
+    (Call::Off(2), 1, [1, 0, 4]),
+];
+
+/// Its knock is slot 14.
+const OFF_KNOCKING: Kept = &[(OK, 2, [1, 0, 4]), (Call::Off(2), 1, [1, 0, 4]), (OK, 4, [1, 0, 4])];
+
+/// The knock is answered and it joins in slot 17.
+const JOINS: Kept = &[(OK, 4, [1, 0, 4]), (OK, 1, [1, 1, 4])];
+
+/// Its message of slot 18 is lost, and it leaves in slot 20.
+const LEAVES_AGAIN: Kept =
+    &[(LOST, 1, [1, 1, 4]), (OK, 1, [1, 1, 4]), (OK, 1, [2, 1, 20]), (OK, 3, [2, 1, 20])];
+
+/// "dated with the slots done so far": 17, and off again counts nothing.
+const OFF_MEMBER: Kept = &[
+    (Call::Off(2), 2, [2, 1, 17]),
+    (OK, 2, [2, 1, 17]),
+    (Call::Restart(2), 1, [2, 1, 17]),
+    (OK, 1, [2, 1, 17]),
+];
+
+/// Before slot 1 no slot is done.
+const OFF_FIRST: Kept = &[(Call::Off(2), 2, [1, 0, 0]), (OK, 5, [1, 0, 0])];
+
+const KEPT: &[&[Kept]] = &[
+    &[LEAVES_AND_FOLLOWS, STOPS_FOLLOWING],
+    &[LEAVES_AND_FOLLOWS, OFF_FOLLOWING],
+    &[LEAVES_AND_FOLLOWS, OFF_KNOCKING],
+    &[LEAVES_AND_FOLLOWS, JOINS, LEAVES_AGAIN],
+    &[LEAVES_AND_FOLLOWS, JOINS, OFF_MEMBER],
+    &[OFF_FIRST],
+];
+
+/// A run by the model, n = 4 and k = 2: the figures of all other nodes stay 0.
+fn keep(count: &mut Count, script: &mut Script, runs: &[Kept]) -> Result<(), String> {
+    let mut random = Random::new(99);
+    script.push(Command::Size(4));
+    script.lend(&mut random, &[Figures::default(); 4]);
+    script.call(&mut random, Call::SetUp { n: 4, k: 2 });
+    for &(call, times, [left, joined, last]) in runs.iter().flat_map(|run| run.iter()) {
+        let mut expected = [Figures::default(); 4];
+        expected[1] = Figures { left, joined, last };
+        for _ in 0..times {
+            let number = script.call(&mut random, call);
+            let (ledger, slots) = (&script.entries()[..4], script.table()[0].slots);
+            let same = number == 0 && ledger == expected;
+            count.check(same, || {
+                format!("{slots} slots done: {ledger:?}, not {expected:?}, refusal {number}")
+            })?;
+        }
+    }
+    Ok(())
+}
+
+/// Node 2 leaves, stops following, joins, and is switched off in every state.
+pub fn figures(count: &mut Count) -> Result<(), String> {
+    let mut script = Script::new();
+    for runs in KEPT {
+        keep(count, &mut script, runs)?;
+    }
+    compare(count, &script.commands)?;
+    count.needs(&OFFS)?;
+    count.needs(&[KINDS[0], KINDS[3], KINDS[5]])
 }

@@ -1,6 +1,7 @@
-//! The refusals of the bench's calls and the pairs of a slot, typed from document 01.
+//! The refusals of the bench's calls and the pairs of a slot, typed from document 01 and request a.
 
 use comparison::model::bench::{self, Call, Document01, Fate, Kind};
+use comparison::model::ledger::Figures;
 use comparison::model::node::{Node, State};
 use comparison::model::ring::{Set, LIMIT};
 use comparison::report::Count;
@@ -47,39 +48,70 @@ fn bad_tables() -> Vec<Vec<Node>> {
     ]
 }
 
-/// A refused call gives this number and leaves the table as it was.
+/// A refused call gives this number and leaves the table and the ledger as they were.
 fn refused(
     count: &mut Count,
-    nodes: &[Node],
+    (nodes, ledger): (&[Node], &[Figures]),
     expected: u32,
-    call: impl Fn(&mut [Node]) -> Result<(), u32>,
+    call: impl Fn(&mut [Node], &mut [Figures]) -> Result<(), u32>,
 ) -> Result<(), String> {
     count.expected(expected);
-    let mut after = nodes.to_vec();
-    let got = call(&mut after);
-    count.check(got == Err(expected) && after == nodes, || format!("{got:?}, expected refusal {expected}"))
+    let (mut after, mut entries) = (nodes.to_vec(), ledger.to_vec());
+    let got = call(&mut after, &mut entries);
+    let same = got == Err(expected) && after == nodes && entries == ledger;
+    count.check(same, || format!("{got:?}, expected refusal {expected}"))
 }
 
-/// "Checks run in table order, except that .. 4 comes just before 3 where n is taken from a record."
+/// Ledgers that do not fit a table of four nodes with this slot count: a wrong length, a count past it plus one.
+fn bad_ledgers(slots: u64) -> Vec<Vec<Figures>> {
+    let with = |figures| vec![Figures::default(), figures, Figures::default(), Figures::default()];
+    vec![
+        vec![],
+        vec![Figures::default(); 3],
+        vec![Figures::default(); 5],
+        with(Figures { left: slots + 2, joined: 0, last: 0 }),
+        with(Figures { left: 0, joined: slots + 2, last: 0 }),
+        with(Figures { left: u64::MAX, joined: u64::MAX, last: u64::MAX }),
+    ]
+}
+
+/// "Checks run in table order, except that .. 4 comes just before 3 where n is taken from a record." "13, just
+/// before 5"
 pub fn refusals(count: &mut Count) -> Result<(), String> {
-    let slot = |missed, room| move |nodes: &mut [Node]| bench::slot(nodes, false, missed, room).map(|_| ());
+    let slot = |missed, room| {
+        move |nodes: &mut [Node], ledger: &mut [Figures]| {
+            bench::slot(nodes, ledger, false, missed, room).map(|_| ())
+        }
+    };
+    let off = |x| move |nodes: &mut [Node], ledger: &mut [Figures]| bench::off(nodes, ledger, x);
+    let restart = |x| move |nodes: &mut [Node], _: &mut [Figures]| bench::restart(nodes, x);
     for nodes in bad_tables() {
-        refused(count, &nodes, 4, slot(Set(0x80), 0))?;
-        refused(count, &nodes, 4, |nodes| bench::off(nodes, 9))?;
-        refused(count, &nodes, 4, |nodes| bench::restart(nodes, 9))?;
+        refused(count, (&nodes, &[]), 4, slot(Set(0x80), 0))?;
+        refused(count, (&nodes, &[]), 4, off(9))?;
+        refused(count, (&nodes, &[]), 4, restart(9))?;
     }
     let mut nodes = table(4, 2);
-    refused(count, &nodes, 9, slot(Set(0xf), 63))?;
-    refused(count, &nodes, 11, |nodes| bench::restart(nodes, 4))?;
+    // A count of one more than there were slots fits, and so does every date.
+    let fitting = [Figures { left: 1, joined: 1, last: u64::MAX }; 4];
+    refused(count, (&nodes, &fitting), 9, slot(Set(0xf), 63))?;
+    refused(count, (&nodes, &fitting), 11, restart(4))?;
     nodes.iter_mut().for_each(|node| node.slots = LIMIT);
-    refused(count, &nodes, 3, slot(Set(0x10), 0))?;
-    refused(count, &nodes, 5, slot(Set(0xf), 0))?;
+    for ledger in bad_ledgers(LIMIT) {
+        refused(count, (&nodes, &ledger), 3, slot(Set(0x10), 0))?;
+        refused(count, (&nodes, &ledger), 13, slot(Set(0xf), 0))?;
+        refused(count, (&nodes, &ledger), 3, off(5))?;
+        refused(count, (&nodes, &ledger), 13, off(4))?;
+        refused(count, (&nodes, &ledger), 11, restart(4))?;
+    }
+    refused(count, (&nodes, &fitting), 3, slot(Set(0x10), 0))?;
+    refused(count, (&nodes, &fitting), 5, slot(Set(0xf), 0))?;
     for x in [0, 5, 33, u32::MAX] {
-        refused(count, &nodes, 3, |nodes| bench::off(nodes, x))?;
-        refused(count, &nodes, 3, |nodes| bench::restart(nodes, x))?;
+        refused(count, (&nodes, &fitting), 3, off(x))?;
+        refused(count, (&nodes, &fitting), 3, restart(x))?;
     }
     // "Off and restart don't test 5."
-    let switched = bench::off(&mut nodes, 1).and_then(|()| bench::restart(&mut nodes, 1));
+    let mut ledger = fitting;
+    let switched = bench::off(&mut nodes, &mut ledger, 1).and_then(|()| bench::restart(&mut nodes, 1));
     count.check(switched == Ok(()), || format!("off and restart at the limit: {switched:?}"))
 }
 

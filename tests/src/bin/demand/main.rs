@@ -12,8 +12,8 @@ fn main() -> ExitCode {
     report::run(&[
         Case { name: "bench: set-up, its refusals", meets: &[0, 1, 2, 4], run: calls::set_up },
         Case {
-            name: "bench: refusals in order, the table as it was",
-            meets: &[3, 4, 5, 9, 11],
+            name: "bench: refusals in order, table and ledger as they were",
+            meets: &[3, 4, 5, 9, 11, 13],
             run: calls::refusals,
         },
         Case { name: "bench: the changes of each slot", meets: &[], run: calls::changes },

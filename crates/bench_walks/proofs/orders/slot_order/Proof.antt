@@ -1,6 +1,6 @@
 -- `bench_walks::orders::slot_order` meets its contract: its tests are those of the definition. Assumes nothing.
 use borrow.Author.Needs.{needs}
-use mathlib.Core.Path.{sym, ap, _∙_}
+use mathlib.Core.Path.{refl, sym, ap, _∙_}
 use Rattle.nodeset.proofs.Tests.{failed, passed, chosen, otherwise}
 use borrow.Author.Tests.{le-leb, lt-leb, lt-ltb, le-ltb}
 use Rattle.bench_walks.specs.declared.Order.{Order}
@@ -22,16 +22,19 @@ returns-2 : tie.Need-returns-2
 returns-2 c = sym (chosen _ _ (passed (c .before .before .before .is-fine .ensures) (c .before .before .if1 .left)) ∙ otherwise _ _ (failed (c .before .is-within .ensures) (c .if2 .taken)))
 
 returns-3 : tie.Need-returns-3
-returns-3 c = sym (chosen _ _ (passed (c .before .before .before .before .before .is-fine .ensures) (c .before .before .before .before .if1 .left)) ∙ chosen _ _ (passed (c .before .before .before .is-within .ensures) (c .before .before .if2 .left)) ∙ otherwise _ _ (le-ltb _ _ (c .if3 .taken)))
+returns-3 c = sym (chosen _ _ (passed (c .before .before .before .before .is-fine .ensures) (c .before .before .before .if1 .left)) ∙ chosen _ _ (passed (c .before .before .is-within .ensures) (c .before .if2 .left)) ∙ otherwise _ _ (failed {r = c .before .before .before .before .before .args .fits} refl (c .if3 .taken)))
 
 returns-4 : tie.Need-returns-4
-returns-4 c = sym (chosen _ _ (passed (c .before .before .before .before .before .before .is-fine .ensures) (c .before .before .before .before .before .if1 .left)) ∙ chosen _ _ (passed (c .before .before .before .before .is-within .ensures) (c .before .before .before .if2 .left)) ∙ chosen _ _ (lt-ltb _ _ (c .before .if3 .left)) ∙ otherwise _ _ (lt-leb _ _ (c .if4 .taken)))
+returns-4 c = sym (chosen _ _ (passed (c .before .before .before .before .before .before .is-fine .ensures) (c .before .before .before .before .before .if1 .left)) ∙ chosen _ _ (passed (c .before .before .before .before .is-within .ensures) (c .before .before .before .if2 .left)) ∙ chosen _ _ (passed {r = c .before .before .before .before .before .before .before .args .fits} refl (c .before .before .if3 .left)) ∙ otherwise _ _ (le-ltb _ _ (c .if4 .taken)))
+
+returns-5 : tie.Need-returns-5
+returns-5 c = sym (chosen _ _ (passed (c .before .before .before .before .before .before .before .is-fine .ensures) (c .before .before .before .before .before .before .if1 .left)) ∙ chosen _ _ (passed (c .before .before .before .before .before .is-within .ensures) (c .before .before .before .before .if2 .left)) ∙ chosen _ _ (passed {r = c .before .before .before .before .before .before .before .before .args .fits} refl (c .before .before .before .if3 .left)) ∙ chosen _ _ (lt-ltb _ _ (c .before .if4 .left)) ∙ otherwise _ _ (lt-leb _ _ (c .if5 .taken)))
 
 turn-of-requires : tie.Need-turn-of-requires
 turn-of-requires c κs = search needs
 
-returns-5 : tie.Need-returns-5
-returns-5 c = ap {B = Order} (λ (t : Turn). order.Slot t) (c .turn-of .ensures) ∙ sym (chosen _ _ (passed (c .before .before .before .before .before .before .before .is-fine .ensures) (c .before .before .before .before .before .before .if1 .left)) ∙ chosen _ _ (passed (c .before .before .before .before .before .is-within .ensures) (c .before .before .before .before .if2 .left)) ∙ chosen _ _ (lt-ltb _ _ (c .before .before .if3 .left)) ∙ chosen _ _ (le-leb _ _ (c .before .if4 .left)))
+returns-6 : tie.Need-returns-6
+returns-6 c = ap {B = Order} (λ (t : Turn). order.Slot t) (c .turn-of .ensures) ∙ sym (chosen _ _ (passed (c .before .before .before .before .before .before .before .before .is-fine .ensures) (c .before .before .before .before .before .before .before .if1 .left)) ∙ chosen _ _ (passed (c .before .before .before .before .before .before .is-within .ensures) (c .before .before .before .before .before .if2 .left)) ∙ chosen _ _ (passed {r = c .before .before .before .before .before .before .before .before .before .args .fits} refl (c .before .before .before .before .if3 .left)) ∙ chosen _ _ (lt-ltb _ _ (c .before .before .if4 .left)) ∙ chosen _ _ (le-leb _ _ (c .before .if5 .left)))
 
 pub slot-order-spec : {M : Type 1} → statement M
 slot-order-spec =
@@ -43,5 +46,6 @@ slot-order-spec =
     returns-2
     returns-3
     returns-4
+    returns-5
     turn-of-requires
-    returns-5)
+    returns-6)
