@@ -5,8 +5,7 @@ use mathlib.Core.Path.{_≡_, refl, sym, ap, ap₂, subst, _∙_}
 use mathlib.Core.Bool.{Bool, true}
 use mathlib.Core.List.{List, [], _∷_, _++_}
 use native.Mathlib.Omega.{arith}
-use lib.ListN.{length, drop, getD, replicate, take, length-replicate, take-append-drop}
-use lib.Seq.{take-all}
+use lib.ListN.{length, drop, getD, replicate, length-replicate, take-append-drop}
 use borrow.Author.Tests.{eq-eqb}
 use Rattle.refusal.specs.declared.Refusal.{Refusal}
 use Rattle.refusal.specs.declared.Refusal.the-variants.{NodeNumber, NotOut, Unsound}
@@ -26,10 +25,9 @@ use Rattle.bench.specs.declared.Command.the-variants as command
 use Rattle.bench.proofs.Places.{sound-placed}
 use Rattle.bench_walks.specs.declared.Order.{Order}
 use Rattle.bench_walks.specs.declared.Order.the-variants as order
-use Rattle.bench_walks.specs.Survey.{fineTable, glimpseOf, membersOf, recordIn, senderAfter, surveyOf}
-use Rattle.bench_walks.specs.Orders.{carried, carriedFrom, ifGood, notesOf, orderOf, orderFor, reachOf, replyBy, writtenBy}
+use Rattle.bench_walks.specs.Survey.{fineTable, glimpseOf, recordIn, senderAfter, surveyOf}
+use Rattle.bench_walks.specs.Orders.{carried, carriedFrom, ifGood, orderOf, orderFor}
 use Rattle.bench_walks.proofs.Numbers.{index-in}
-use Rattle.bench_calls.specs.Work.{workOf}
 use Rattle.bench_calls.proofs.Surveys.{fine-table, said, sender-after, with-own}
 use Rattle.bench_calls.proofs.Works.{calledFit, called-fitting}
 use Rattle.bench_calls.proofs.Outcomes.{done-by, is-ended}
