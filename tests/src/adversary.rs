@@ -231,6 +231,6 @@ fn returns(node: &Node) -> bool {
 pub fn sponsors(nodes: &[Node], x: u32) -> Set {
     let Node { n, k, .. } = nodes[0];
     let list = bench::list(nodes).unwrap_or(Set::EMPTY);
-    let sponsor = |&y: &u32| members_before(n, list, y).take(k as usize).any(|z| z == x);
+    let sponsor = |&y: &u32| members_before(n, list, y).take(k as usize).any(|met| met.member == x);
     list.nodes().filter(sponsor).fold(Set::EMPTY, Set::with)
 }

@@ -8,6 +8,9 @@ mod c {
         pub safe fn ring_before(n: u32, set: u32, x: u32, j: u32) -> u64;
         pub safe fn ring_sponsored(n: u32, k: u32, set: u32, x: u32, j: u32) -> u64;
         pub safe fn ring_decided(n: u32, k: u32, set: u32, x: u32) -> u64;
+        pub safe fn ring_before_back(n: u32, set: u32, x: u32, j: u32) -> u64;
+        pub safe fn ring_sponsored_back(n: u32, k: u32, set: u32, x: u32, j: u32) -> u64;
+        pub safe fn ring_decided_back(n: u32, k: u32, set: u32, x: u32) -> u64;
     }
 }
 
@@ -58,25 +61,35 @@ pub fn sender(n: u32, done: u64) -> Result<u64, u64> {
     value(c::ring_sender(n, done))
 }
 
-/// A member or nobody, or the number of the refusal.
-pub type Found = Result<Option<u64>, u64>;
+/// A number or, where there is nobody, none; or the number of the refusal.
+pub type Answer = Result<Option<u64>, u64>;
 
-/// Nobody has 2^32 in the place of a member.
-fn found(answer: u64) -> Found {
+/// Nobody has 2^32 in the place of a number.
+fn answer(answer: u64) -> Answer {
     value(answer).map(|v| if v == 1 << 32 { None } else { Some(v) })
+}
+
+/// A member, and how many slots back it speaks: the answers of two functions.
+#[derive(Clone, Copy, PartialEq, Eq, Debug)]
+pub struct Found {
+    pub member: Answer,
+    pub back: Answer,
 }
 
 /// The j-th member before node x.
 pub fn before(n: u32, set: u32, x: u32, j: u32) -> Found {
-    found(c::ring_before(n, set, x, j))
+    Found { member: answer(c::ring_before(n, set, x, j)), back: answer(c::ring_before_back(n, set, x, j)) }
 }
 
 /// The j-th member that node x sponsors.
 pub fn sponsored(n: u32, k: u32, set: u32, x: u32, j: u32) -> Found {
-    found(c::ring_sponsored(n, k, set, x, j))
+    Found {
+        member: answer(c::ring_sponsored(n, k, set, x, j)),
+        back: answer(c::ring_sponsored_back(n, k, set, x, j)),
+    }
 }
 
 /// The member that node x decides.
 pub fn decided(n: u32, k: u32, set: u32, x: u32) -> Found {
-    found(c::ring_decided(n, k, set, x))
+    Found { member: answer(c::ring_decided(n, k, set, x)), back: answer(c::ring_decided_back(n, k, set, x)) }
 }

@@ -8,16 +8,15 @@ use mathlib.Core.Bool.{Bool, true, false, _||_}
 use mathlib.Core.List.{List, [], _∷_}
 use native.Mathlib.Omega.{arith}
 use native.Mathlib.Decide.{ℕ-discrete, decLe}
-use lib.Dec.{leb}
-use borrow.Author.Tests.{le-leb, lt-leb}
+use lib.Dec.{eqb, leb}
+use borrow.Author.Tests.{le-leb, lt-leb, eqb-true, eqb-false}
 use Rattle.nodeset.specs.Sums.{sum, num}
 use Rattle.nodeset.specs.Sets.{has, size, distance}
 use Rattle.nodeset.proofs.Tests.{by-cases, both}
 use Rattle.nodeset.proofs.Sums.{sum-none}
 use Rattle.nodeset.proofs.Counts.{distance-same}
 use Rattle.ring.specs.declared.Cable.{Cable}
-use Rattle.ring.specs.declared.Found.the-variants.{Member}
-use Rattle.ring.specs.Ring.{sender, isFound}
+use Rattle.ring.specs.Ring.{sender}
 use Rattle.ring.proofs.Ranges.{ring-size}
 use Rattle.ring.proofs.Senders.{sender-period}
 use Rattle.node_record.specs.Soundness.{sound, limit}
@@ -28,7 +27,6 @@ use Rattle.agreement.specs.Demand.{AtEach, AfterEach, KeepsList, HearEve
 use Rattle.agreement.proofs.Past.{pastOf, past, entryIn, entry-is}
 use Rattle.agreement.proofs.History.{World, lst, full-round, num-is, num-isnt}
 use Rattle.agreement.proofs.Marks.{no-both}
-use Rattle.agreement.proofs.Returns.{found-it}
 use Rattle.agreement.proofs.Alike.{member-tracks}
 use Rattle.bench.proofs.Places.{Placed}
 use Rattle.bench.proofs.Accepted.{off-no-slot, restart-no-slot}
@@ -36,7 +34,7 @@ use Rattle.bench.proofs.Runs.{start-placed, below-limit, placed-run, slots-next
 use Rattle.agreement.proofs.Beginnings.{Beginning, whole, shorter, past-stable, decided-later, at-each, after-each}
 use Rattle.agreement.proofs.Tables.{list-is}
 use Rattle.agreement.proofs.Slots.{speaker-is, list, listed-is}
-use Rattle.agreement.proofs.Leaving.{not-found, deciding, undecided}
+use Rattle.agreement.proofs.Leaving.{deciding, undecided}
 use Rattle.agreement.proofs.Kept as kept
 use Rattle.agreement.proofs.Kept.{Given, Run, run, none-yet, past-at}
 
@@ -108,7 +106,7 @@ module _ (G : Given) where
       go false = refl
 
   deciding-parts : (c : Call) (cs : List Call) (s : ℕ) → isSlot c (tableAfter start cs) ≡ true → s ≤ slotsOf (tableAfter start cs)
-      → isDeciding cable start s c cs ≡ isFound (speaker (tableAfter start cs)) (memberAfter n (listOf (tableAfter start cs)) (sender n s) k)
+      → isDeciding cable start s c cs ≡ eqb (memberAfter n (listOf (tableAfter start cs)) (sender n s) k) (speaker (tableAfter start cs))
   unfolding isDeciding
   deciding-parts c cs s e h = let l : leb s (slotsOf (tableAfter start cs)) ≡ true = le-leb s (slotsOf (tableAfter start cs)) h in rw (e, l) refl
 
@@ -116,17 +114,17 @@ module _ (G : Given) where
   same-sender s h = sender-period n pos s h
 
   -- the test of the statement, in the terms of the run
-  test-yes : (c : Call) (cs : List Call) (N L s : ℕ) → Slot c cs N L → 1 ≤ s → isFound (speaker (tableAfter start cs)) (memberAfter n (listOf (tableAfter start cs)) (sender n s) k) ≡ true
-      → memberAfter n L (sender n (s + n)) k ≡ Member (sender n (suc N))
+  test-yes : (c : Call) (cs : List Call) (N L s : ℕ) → Slot c cs N L → 1 ≤ s → eqb (memberAfter n (listOf (tableAfter start cs)) (sender n s) k) (speaker (tableAfter start cs)) ≡ true
+      → memberAfter n L (sender n (s + n)) k ≡ sender n (suc N)
   test-yes c cs N L s f h e =
       ap (λ (x : ℕ). memberAfter n L x k) (same-sender s h) ∙ ap (λ (x : ℕ). memberAfter n x (sender n s) k) (sym (f .list-at))
-      ∙ found-it (speaker (tableAfter start cs)) (memberAfter n (listOf (tableAfter start cs)) (sender n s) k) e ∙ ap Member (f .speaker-at)
+      ∙ eqb-true (memberAfter n (listOf (tableAfter start cs)) (sender n s) k) (speaker (tableAfter start cs)) e ∙ f .speaker-at
 
-  test-no : (c : Call) (cs : List Call) (N L s : ℕ) → Slot c cs N L → 1 ≤ s → isFound (speaker (tableAfter start cs)) (memberAfter n (listOf (tableAfter start cs)) (sender n s) k) ≡ false
-      → memberAfter n L (sender n (s + n)) k ≢ Member (sender n (suc N))
+  test-no : (c : Call) (cs : List Call) (N L s : ℕ) → Slot c cs N L → 1 ≤ s → eqb (memberAfter n (listOf (tableAfter start cs)) (sender n s) k) (speaker (tableAfter start cs)) ≡ false
+      → memberAfter n L (sender n (s + n)) k ≢ sender n (suc N)
   test-no c cs N L s f h e q =
-      not-found (speaker (tableAfter start cs)) (memberAfter n (listOf (tableAfter start cs)) (sender n s) k) e
-      (ap (λ (x : ℕ). memberAfter n x (sender n s) k) (f .list-at) ∙ ap (λ (x : ℕ). memberAfter n L x k) (sym (same-sender s h)) ∙ q ∙ ap Member (sym (f .speaker-at)))
+      eqb-false (memberAfter n (listOf (tableAfter start cs)) (sender n s) k) (speaker (tableAfter start cs)) e
+      (ap (λ (x : ℕ). memberAfter n x (sender n s) k) (f .list-at) ∙ ap (λ (x : ℕ). memberAfter n L x k) (sym (same-sender s h)) ∙ q ∙ sym (f .speaker-at))
 
   new-status : (c : Call) (cs : List Call) (s : ℕ) → isSlot c (tableAfter start cs) ≡ true → s ≡ slotsOf (tableAfter start cs) + 1 → Status (slotsOf (tableAfter start (c ∷ cs)) + n) (s + n) (decidingRan cable start s (c ∷ cs))
   unfolding decidingRan isDeciding

@@ -18,7 +18,7 @@ use Rattle.ring.proofs.Senders.{sender-range, sender-period, same-slot}
 use Rattle.ring.proofs.Walks as walks
 use Rattle.ring.proofs.Walks.{Met, walk-meets, before-is, others}
 use Rattle.agreement.proofs.History.{World, K, KFact, lst, one-knock, size-from, num-is, num-isnt}
-use Rattle.agreement.proofs.Marks.{no-both, not-true, same-member}
+use Rattle.agreement.proofs.Marks.{no-both, not-true, same-member, At}
 use Rattle.agreement.proofs.Listed.{ListedSlot, other-sender, same-window}
 
 module _ (W : World) where
@@ -123,7 +123,7 @@ module _ (W : World) where
       pub some-way : 1 ≤ e
       pub member : has L₁ (sender n u) ≡ true
       pub alone : sum (walks.member n n-pos L₁) u e ≡ 1
-      pub it : memberBefore n L₁ (sender n w) 1 ≡ Member (sender n u)
+      pub it : memberBefore n L₁ (sender n w) 1 ≡ Member (sender n u) e
 
     pub nearest : (w : ℕ) → 1 ≤ w → has L₁ (sender n w) ≡ false → Nearest w
     nearest w hw off = go (walk-meets n n-pos L₁ (n - 1) (suc w) 1 (omega arith) (omega arith) (omega (arith, others n n-pos L₁ (suc w) (omega arith), L₁-size, k-two, its-last)))
@@ -135,21 +135,23 @@ module _ (W : World) where
         its-last = ap (walks.member n n-pos L₁) z ∙ ap (λ (x : ℕ). num (has L₁ x)) (sender-period n n-pos w hw) ∙ num-isnt off
 
         go : Met n n-pos L₁ (n - 1) (suc w) 1 → Nearest w
-        go m = record {
-          u = m .u;
-          e = m .e;
-          later = m .from;
-          upto = m .upto ∙ z;
-          some-way = m .back;
-          member = m .listed;
-          alone = m .count;
-          it = before-is n n-pos L₁ (sender n w) 1
-              ∙ ap (λ (x : ℕ). walk (n - 1) n L₁ x 1) (sym (sender-period n n-pos w hw) ∙ ap (sender n) (sym z)) ∙ m .found;
-        }
+        go m =
+            let back : n - suc (m .u - suc w) ≡ m .e = omega (arith, m .from, m .upto, m .back, n-pos) in
+            record {
+              u = m .u;
+              e = m .e;
+              later = m .from;
+              upto = m .upto ∙ z;
+              some-way = m .back;
+              member = m .listed;
+              alone = m .count;
+              it = before-is n n-pos L₁ (sender n w) 1
+                  ∙ ap (λ (x : ℕ). walk (n - 1) n L₁ x 1) (sym (sender-period n n-pos w hw) ∙ ap (sender n) (sym z)) ∙ m .found ∙ ap (Member (sender n (m .u))) back;
+            }
 
     -- If slot N + 1 is that of the nearest member, then k listed slots have been since w.
     pub enough-since : (w e : ℕ) → w + e ≡ N → suc e < n → E w .outside ≡ true → has L (sender n w) ≡ false
-        → memberBefore n L₁ (sender n w) 1 ≡ Member (sender n (suc N)) → k ≤ sum (lst W) (suc w) (suc e)
+        → At (sender n (suc N)) (memberBefore n L₁ (sender n w) 1) → k ≤ sum (lst W) (suc w) (suc e)
     enough-since w e z h out off q = go (nearest w hw off₁)
       where
         hw : 1 ≤ w
@@ -171,7 +173,7 @@ module _ (W : World) where
 
         go : Nearest w → k ≤ sum (lst W) (suc w) (suc e)
         go r =
-            let same : r .u ≡ suc N = same-slot n n-pos (w - 1) (r .u) (suc N) (omega (arith, r .later)) (omega (arith, r .upto, r .some-way)) (omega arith) (omega arith) (same-member (sym (r .it) ∙ q)) in
+            let same : r .u ≡ suc N = same-slot n n-pos (w - 1) (r .u) (suc N) (omega (arith, r .later)) (omega (arith, r .upto, r .some-way)) (omega arith) (omega arith) (same-member (sym (r .it) ∙ q .it)) in
             let a₁ : sum m (suc N) (r .e) ≡ 1 = rw (← same) (r .alone) in
             let a₂ : suc e + r .e ≡ n = omega (arith, r .upto) in
             let a₃ : w + suc e ≡ suc N = omega arith in

@@ -169,7 +169,7 @@ module _ (W : World) where
     pub recent : suc e < n
     pub listed : has L (sender n u) ≡ true
     pub count : sum (walks.member n n-pos L) u (suc e) ≡ j
-    pub it : memberBefore n L (sender n (suc N)) j ≡ Member (sender n u)
+    pub it : memberBefore n L (sender n (suc N)) j ≡ Member (sender n u) (suc e)
 
   pub before : (N L j : ℕ) → n ≤ N → 1 ≤ j → j < size n L → Before N L j
   before N L j hn hj hs = go (walk-meets n n-pos L (n - 1) a j (omega arith) hj (omega (arith, others n n-pos L a (omega arith), num-le (has L (sender n (a + (n - 1)))))))
@@ -183,6 +183,7 @@ module _ (W : World) where
       go : Met n n-pos L (n - 1) a j → Before N L j
       go m =
           let y : suc (m .e - 1) ≡ m .e = omega (arith, m .back) in
+          let back : n - suc (m .u - a) ≡ suc (m .e - 1) = omega (arith, m .from, m .upto, m .back, n-pos) in
           record {
             u = m .u;
             e = m .e - 1;
@@ -190,7 +191,7 @@ module _ (W : World) where
             recent = omega (arith, m .from, m .upto, m .back, z);
             listed = m .listed;
             count = ap (sum (walks.member n n-pos L) (m .u)) y ∙ m .count;
-            it = before-is n n-pos L (sender n (suc N)) j ∙ ap (λ (x : ℕ). walk (n - 1) n L (sender n x) j) (sym z) ∙ m .found;
+            it = before-is n n-pos L (sender n (suc N)) j ∙ ap (λ (x : ℕ). walk (n - 1) n L (sender n x) j) (sym z) ∙ m .found ∙ ap (Member (sender n (m .u))) back;
           }
 
   -- the member that the sender of the next slot decides
@@ -202,7 +203,7 @@ module _ (W : World) where
     pub listed : E u .listed ≡ true
     pub member : has L (sender n u) ≡ true
     pub exact : suc (sum lst (suc u) e) ≡ k
-    pub it : decided cable L (sender n (suc N)) ≡ Member (sender n u)
+    pub it : decided cable L (sender n (suc N)) ≡ Member (sender n u) (suc e)
 
   pub decision : (N L : ℕ) → n ≤ N → K N L → k < size n L → Decision N L
   decision N L hn κ hs = go (before N L k hn (omega (arith, k-two)) hs)
@@ -227,7 +228,8 @@ module _ (W : World) where
   pub record Sponsored (N L u : ℕ) : Type 0 where
     pub j : ℕ
     pub few : j < k
-    pub it : sponsored cable L (sender n (suc N)) (suc j) ≡ Member (sender n u)
+    pub back : ℕ
+    pub it : sponsored cable L (sender n (suc N)) (suc j) ≡ Member (sender n u) back
 
   pub sponsored-since : (N L : ℕ) → n ≤ N → K N L → k < size n L → (u e : ℕ) → u + e ≡ N → suc e < n → has L (sender n u) ≡ true → sum lst (suc u) e < k → Sponsored N L u
   sponsored-since N L hn κ hs u e z he hm l = go (before N L (suc j) hn (omega arith) (omega (arith, c)))
@@ -245,4 +247,4 @@ module _ (W : World) where
       go b =
           let c′ : sum m u (suc e) ≡ suc j = omega (arith, sum-first m u e, num-is hm) in
           let same : b .u ≡ u = one-place m (suc j) (b .u) (suc (b .e)) u (suc e) (omega (arith, b .ago)) (b .count) c′ (omega (arith, num-is (b .listed))) (omega (arith, num-is hm)) in
-          record { j = j; few = omega (arith, c); it = sponsored-before cable L (sender n (suc N)) (suc j) (omega arith) (omega (arith, c, sponsors-are L hs)) ∙ b .it ∙ ap (λ (q : ℕ). Member (sender n q)) same }
+          record { j = j; few = omega (arith, c); back = suc (b .e); it = sponsored-before cable L (sender n (suc N)) (suc j) (omega arith) (omega (arith, c, sponsors-are L hs)) ∙ b .it ∙ ap (λ (q : ℕ). Member (sender n q) (suc (b .e))) same }

@@ -22,7 +22,7 @@ use Rattle.node_steps.specs.Steps.{readMarks, joins}
 use Rattle.node_steps.specs.Inner.{readReturn, readHeard, readMarked}
 use Rattle.agreement.proofs.History.{World, sender-most, Untold, lst, told-in-time, num-is}
 use Rattle.agreement.proofs.Invariant.{Tracking, Off, Knock, Awaits, aware, unaware}
-use Rattle.agreement.proofs.Marks.{no-both, not-true, not-false, has-with-keeps}
+use Rattle.agreement.proofs.Marks.{no-both, not-true, not-false, has-with-keeps, At}
 use Rattle.agreement.proofs.Outcome.{Gone, Settled, gone, kept, backed, became, joined, listedAs}
 use Rattle.agreement.proofs.Listed.{ListedSlot, Hearer, same-window, off-after, on-after}
 use Rattle.agreement.proofs.Depart.{drop-sub, L₁, sender-stays, not-dropped, Nearest, nearest, enough-since}
@@ -47,7 +47,7 @@ module _ (W : World) where
       pub sent : E w .sent ≡ true
       pub away : has L (sender n w) ≡ false
       pub since : k ≤ sum (lst W) (suc w) (suc e)
-      pub near : memberBefore n A (sender n w) 1 ≡ found.Member (sender n (suc N))
+      pub near : At (sender n (suc N)) (memberBefore n A (sender n w) 1)
 
     pub data Next (L′ : ℕ) : Type 0 where
       plain : ((w e : ℕ) → Joining w e → ⊥) → L′ ≡ A → Next L′
@@ -80,8 +80,8 @@ module _ (W : World) where
       nearest-is : (w : ℕ) → v .returning ≡ sender n w → memberBefore (v .cable .n) A (v .returning) 1 ≡ memberBefore n A (sender n w) 1
       nearest-is w q = ap₂ (λ (c : Cable) (x : ℕ). memberBefore (c .n) A x 1) vc q
 
-      joins-at : (w : ℕ) → v .returning ≡ sender n w → memberBefore n A (sender n w) 1 ≡ found.Member s → joins s (withSet A v₁) ≡ true
-      joins-at w q e = joins-if s (withSet A v₁) (λ z. omega (arith, sender-range n n-pos w)) (nearest-is w q ∙ e)
+      joins-at : (w : ℕ) → v .returning ≡ sender n w → At s (memberBefore n A (sender n w) 1) → joins s (withSet A v₁) ≡ true
+      joins-at w q a = joins-if s (withSet A v₁) (λ z. omega (arith, sender-range n n-pos w)) (record { back = a .back; it = nearest-is w q ∙ a .it })
 
       knock-kept : joins s (withSet A v₁) ≡ false → Knock W N L v → Knock W (suc N) A (withSet A v₁)
       knock-kept j κ = go (the-nearest κ)
@@ -104,7 +104,7 @@ module _ (W : World) where
           }
             where
               ne : t .u ≢ suc N
-              ne q = no-both (joins-at (κ .w) (sym (κ .it)) (t .it ∙ ap (λ (x : ℕ). found.Member (sender n x)) q)) j
+              ne q = no-both (joins-at (κ .w) (sym (κ .it)) (record { back = t .e; it = t .it ∙ ap (λ (x : ℕ). found.Member (sender n x) (t .e)) q })) j
 
               not-before : t .u < suc N → ⊥
               not-before l =
@@ -175,7 +175,8 @@ module _ (W : World) where
       -- who joins somebody
       joining-from : joins s (withSet A v₁) ≡ true → (κ : Knock W N L v) → E (κ .w) .sent ≡ true → Joining (κ .w) (κ .e)
       joining-from j κ sent =
-          let at-s : memberBefore n A (sender n (κ .w)) 1 ≡ found.Member s = sym (nearest-is (κ .w) (sym (κ .it))) ∙ joins-yes s (withSet A v₁) j .1 in
+          let yes = joins-yes s (withSet A v₁) j .1 in
+          let at-s : At s (memberBefore n A (sender n (κ .w)) 1) = record { back = yes .back; it = sym (nearest-is (κ .w) (sym (κ .it))) ∙ yes .it } in
           record {
             ago = κ .ago;
             recent = knock-recent κ;

@@ -1,31 +1,20 @@
 -- The leaving time: the slot of the k-th member after a failed sender is the one in which k listed slots have been since. Assumes nothing.
 use Prim.Native.Nat.{ℕ, suc, _+_, _-_, _≤_, _<_}
-use mathlib.Core.Path.{_≡_, refl, sym, ap, _∙_}
+use mathlib.Core.Path.{_≡_, sym, ap, _∙_}
 use mathlib.Core.Logic.{_≢_}
-use mathlib.Core.Bool.{false, true≢false}
 use native.Mathlib.Omega.{arith}
 use native.Mathlib.Decide.{decLt}
-use borrow.Author.Tests.{eq-eqb}
 use Rattle.nodeset.specs.Sums.{sum, num}
 use Rattle.nodeset.specs.Sets.{has, size}
 use Rattle.nodeset.proofs.Sums.{sum-next}
 use Rattle.ring.specs.declared.Cable.{Cable}
-use Rattle.ring.specs.declared.Found.{Found}
-use Rattle.ring.specs.declared.Found.the-variants.{Member}
-use Rattle.ring.specs.Ring.{sender, isFound}
+use Rattle.ring.specs.Ring.{sender}
 use Rattle.ring.proofs.Senders.{same-slot, size-round}
 use Rattle.ring.proofs.Walks.{member}
 use Rattle.agreement.specs.Demand.{memberAfter}
 use Rattle.agreement.proofs.History.{World, K, lst, span, num-is, sum-more}
 use Rattle.agreement.proofs.Depart.{since-next}
 use Rattle.agreement.proofs.Onwards.{Ahead, onwards-meets}
-
-same-member : (x y : ℕ) → Member x ≡ Member y → x ≡ y
-same-member x y e = cc
-
--- the test of the found member says no
-pub not-found : (x : ℕ) (f : Found) → isFound x f ≡ false → f ≢ Member x
-not-found x f e q = true≢false (sym (ap (isFound x) q ∙ eq-eqb x x refl) ∙ e)
 
 module _ (W : World) where
   open World W using (cable, n-pos, k-two, E)
@@ -45,17 +34,17 @@ module _ (W : World) where
         let z : suc u + e ≡ suc N = omega arith in
         omega (arith, sum-next m (suc u) e, ap m z, span W N L κ e u ago (omega arith) waits, since-next W N u e ago, ap num listed-is)
 
-    pub deciding : memberAfter n L (sender n u) k ≡ Member (sender n (suc N)) → k ≤ sum (lst W) (suc u) (suc e)
+    pub deciding : memberAfter n L (sender n u) k ≡ sender n (suc N) → k ≤ sum (lst W) (suc u) (suc e)
     deciding q = go ahead
       where
         go : Ahead n n-pos L n u k → k ≤ sum (lst W) (suc u) (suc e)
         go r =
-            let same : sender n (u + r .e) ≡ sender n (suc N) = same-member (sender n (u + r .e)) (sender n (suc N)) (sym (r .found) ∙ q) in
+            let same : sender n (u + r .e) ≡ sender n (suc N) = sym (r .found) ∙ q in
             let at : u + r .e ≡ suc N = same-slot n n-pos u (u + r .e) (suc N) (omega (arith, r .on)) (omega (arith, r .within)) (omega arith) (omega arith) same in
             let z : r .e ≡ suc e = omega arith in
             omega (arith, ap (sum m (suc u)) z, r .count, counts)
 
-    pub undecided : memberAfter n L (sender n u) k ≢ Member (sender n (suc N)) → sum (lst W) (suc u) (suc e) < k
+    pub undecided : memberAfter n L (sender n u) k ≢ sender n (suc N) → sum (lst W) (suc u) (suc e) < k
     undecided q = go ahead (decLt (sum (lst W) (suc u) (suc e)) k)
       where
         before : (r : Ahead n n-pos L n u k) → r .e < suc e → ⊥
@@ -73,7 +62,7 @@ module _ (W : World) where
 
         go : Ahead n n-pos L n u k → Dec (sum (lst W) (suc u) (suc e) < k) → sum (lst W) (suc u) (suc e) < k
         go r (yes h) = h
-        go r (no h) = absurd (q (r .found ∙ ap (λ (x : ℕ). Member (sender n x)) (here (decLt (r .e) (suc e)) (decLt (suc e) (r .e)))))
+        go r (no h) = absurd (q (r .found ∙ ap (sender n) (here (decLt (r .e) (suc e)) (decLt (suc e) (r .e)))))
           where
             here : Dec (r .e < suc e) → Dec (suc e < r .e) → u + r .e ≡ suc N
             here (yes b) a = absurd (before r b)

@@ -11,7 +11,6 @@ use Rattle.nodeset.specs.Sets.{has, size}
 use Rattle.nodeset.proofs.Tests.{by-cases}
 use Rattle.nodeset.proofs.Sums.{sum-at, num-le}
 use Rattle.ring.specs.declared.Cable.{Cable}
-use Rattle.ring.specs.declared.Found.the-variants.{Member}
 use Rattle.ring.specs.Ring.{sender, sponsors, sponsored}
 use Rattle.ring.proofs.Senders.{sender-range, sender-once, same-slot}
 use Rattle.message.specs.declared.Reading.{Reading}
@@ -22,7 +21,7 @@ use Rattle.node_steps.specs.Steps.{isHeard, returnIn, readMarks}
 use Rattle.node_steps.specs.Digests.{bitsHeard}
 use Rattle.agreement.proofs.History.{World, sender-most, Untold, K, lst, told-in-time, sponsors-are, Decision, sponsored-since, Sponsored, num-is}
 use Rattle.agreement.proofs.Invariant.{Tracking, Off}
-use Rattle.agreement.proofs.Marks.{no-both, not-true, not-false, Told, mark-of-sender, off-before, on-before}
+use Rattle.agreement.proofs.Marks.{no-both, not-true, not-false, Told, mark-of-sender, off-before, on-before, At}
 
 module _ (W : World) where
   open World W using (cable, n-pos, E, fair)
@@ -46,7 +45,7 @@ module _ (W : World) where
     pub z : Node
     pub inv : Tracking W N L (sender n (suc N)) z
     pub member : isMember (z .state) ≡ true
-    pub bits : (j x : ℕ) → j < k → sponsored cable L (sender n (suc N)) (suc j) ≡ Member x → has (bitsHeard r) (suc j) ≡ has (z .present) x
+    pub bits : (j x : ℕ) → j < k → At x (sponsored cable L (sender n (suc N)) (suc j)) → has (bitsHeard r) (suc j) ≡ has (z .present) x
     pub ret : returnIn r ≡ not (eqb (z .returning) 0)
 
   -- the sender of an earlier slot of the round is another
@@ -105,7 +104,7 @@ module _ (W : World) where
     -- what is told is the sender's mark
     told-mark : (x : ℕ) (Z : Says N L r) → Told s (bitsHeard r) v x (sponsorsIn v) → has (Z .z .present) x ≡ true
     told-mark x Z t =
-        sym (Z .bits (t .i) x (omega (arith, t .below, sponsors-is)) (sym (sponsored-is (suc (t .i))) ∙ t .it)) ∙ t .yes-bit
+        sym (Z .bits (t .i) x (omega (arith, t .below, sponsors-is)) (record { back = t .it .back; it = sym (sponsored-is (suc (t .i))) ∙ t .it .it })) ∙ t .yes-bit
 
     pub off-after : (u e : ℕ) → u + e ≡ suc N → e < n → E u .listed ≡ true → E u .sent ≡ false → has (readMarks s r v) (sender n u) ≡ false
     off-after u zero z l p q =
@@ -143,8 +142,8 @@ module _ (W : World) where
 
         heard-with : isHeard r ≡ true → (Z : Says N L r) → Sponsored W N L u → lst W (suc N) ≤ E (suc N) .failures + num (E u .missed s)
         heard-with p Z sp =
-            let nb : has (bitsHeard r) (suc (sp .j)) ≡ false = not-true (has (bitsHeard r) (suc (sp .j))) (λ b. off-before s r v (sender n u) (sender-range n n-pos u .0) (sender-most W u) ne off .1 p (record { i = sp .j; below = omega (arith, sp .few, sponsors-is); yes-bit = b; it = sponsored-is (suc (sp .j)) ∙ sp .it })) in
-            let zo : has (Z .z .present) (sender n u) ≡ false = sym (Z .bits (sp .j) (sender n u) (sp .few) (sp .it)) ∙ nb in
+            let nb : has (bitsHeard r) (suc (sp .j)) ≡ false = not-true (has (bitsHeard r) (suc (sp .j))) (λ b. off-before s r v (sender n u) (sender-range n n-pos u .0) (sender-most W u) ne off .1 p (record { i = sp .j; below = omega (arith, sp .few, sponsors-is); yes-bit = b; it = record { back = sp .back; it = sponsored-is (suc (sp .j)) ∙ sp .it } })) in
+            let zo : has (Z .z .present) (sender n u) ≡ false = sym (Z .bits (sp .j) (sender n u) (sp .few) (record { back = sp .back; it = sp .it })) ∙ nb in
             the-sender (Z .inv .marks-on u e ago (omega arith) sent on zo .who)
 
         heard-case : isHeard r ≡ true → Says N L r → lst W (suc N) ≤ E (suc N) .failures + num (E u .missed s)

@@ -29,8 +29,13 @@ pub not-false : (b : Bool) → (b ≡ false → ⊥) → b ≡ true
 not-false true f = refl
 not-false false f = absurd (f refl)
 
-pub same-member : {x y : ℕ} → found.Member x ≡ found.Member y → x ≡ y
+pub same-member : {x y b d : ℕ} → found.Member x b ≡ found.Member y d → x ≡ y
 same-member e = cc
+
+-- Node x was found, so many slots back.
+pub record At (x : ℕ) (f : Found) : Type 0 where
+  pub back : ℕ
+  pub it : f ≡ found.Member x back
 
 pub has-with-keeps : (m y x : ℕ) → 1 ≤ x → x ≤ 32 → has m x ≡ true → has (with m y) x ≡ true
 has-with-keeps m y x h l e = go (ℕ-discrete y x)
@@ -44,24 +49,24 @@ pub record Told (s bits : ℕ) (v : Node) (x j : ℕ) : Type 0 where
   pub i : ℕ
   pub below : i < j
   pub yes-bit : has bits (suc i) ≡ true
-  pub it : sponsoredIn s (suc i) v ≡ found.Member x
+  pub it : At x (sponsoredIn s (suc i) v)
 
 module _ (s bits : ℕ) (v : Node) (x : ℕ) (pos : 1 ≤ x) (most : x ≤ 32) where
   -- the j-th sponsored member
   abbrev sponsor : ℕ → Found
   sponsor j = sponsoredIn s j v
 
-  found-marks : (marks : ℕ) (f : Found) → f ≡ found.Member x → has (with marks (memberIn f)) x ≡ true
-  found-marks marks f e = rw e (has-with marks x pos most)
+  found-marks : (marks : ℕ) (f : Found) → At x f → has (with marks (memberIn f)) x ≡ true
+  found-marks marks f a = rw (a .it) (has-with marks x pos most)
 
-  found-only : (marks : ℕ) (f : Found) → has (with marks (memberIn f)) x ≡ true → (has marks x ≡ true) ⊎ (f ≡ found.Member x)
+  found-only : (marks : ℕ) (f : Found) → has (with marks (memberIn f)) x ≡ true → (has marks x ≡ true) ⊎ At x f
   found-only marks f e = go (ℕ-discrete (memberIn f) x)
     where
-      it : (f : Found) → memberIn f ≡ x → f ≡ found.Member x
-      it (found.Member m) p = ap found.Member p
+      it : (f : Found) → memberIn f ≡ x → At x f
+      it (found.Member m back) p = record { back = back; it = ap (λ (y : ℕ). found.Member y back) p }
       it found.Nobody p = let z : ⊥ = omega arith in absurd z
 
-      go : Dec (memberIn f ≡ x) → (has marks x ≡ true) ⊎ (f ≡ found.Member x)
+      go : Dec (memberIn f ≡ x) → (has marks x ≡ true) ⊎ At x f
       go (yes p) = inr (it f p)
       go (no p) = inl (sym (has-with-other marks (memberIn f) x p) ∙ e)
 
@@ -93,7 +98,7 @@ module _ (s bits : ℕ) (v : Node) (x : ℕ) (pos : 1 ≤ x) (most : x ≤ 32) w
       go : (t .i < j → has (confirmed j s bits v) x ≡ true) → Dec (t .i ≡ j) → has (confirmed (suc j) s bits v) x ≡ true
       go r (yes e) =
           let b : has bits (suc j) ≡ true = ap (λ (q : ℕ). has bits (suc q)) (sym e) ∙ t .yes-bit in
-          let y : sponsor (suc j) ≡ found.Member x = ap (λ (q : ℕ). sponsor (suc q)) (sym e) ∙ t .it in
+          let y : At x (sponsor (suc j)) = record { back = t .it .back; it = ap (λ (q : ℕ). sponsor (suc q)) (sym e) ∙ t .it .it } in
           ap (λ (m : ℕ). has m x) (confirmed-yes j b) ∙ found-marks (confirmed j s bits v) (sponsor (suc j)) y
       go r (no e) =
           let h : has (confirmed j s bits v) x ≡ true = r (omega (arith, t .below)) in
@@ -112,7 +117,7 @@ module _ (s bits : ℕ) (v : Node) (x : ℕ) (pos : 1 ≤ x) (most : x ≤ 32) w
       more (inl h) = inl h
       more (inr t) = inr (record { i = t .i; below = omega (arith, t .below); yes-bit = t .yes-bit; it = t .it })
 
-      two : has bits (suc j) ≡ true → (has (confirmed j s bits v) x ≡ true) ⊎ (sponsor (suc j) ≡ found.Member x)
+      two : has bits (suc j) ≡ true → (has (confirmed j s bits v) x ≡ true) ⊎ At x (sponsor (suc j))
           → (has (confirmed j s bits v) x ≡ true → (has (with (v .present) s) x ≡ true) ⊎ Told s bits v x j)
           → (has (with (v .present) s) x ≡ true) ⊎ Told s bits v x (suc j)
       two b (inl h) r = more (r h)

@@ -159,11 +159,11 @@ module _ (W : World) where
         abbrev T : Hearer W (S .N) (S .L)
         T = record { r = r; says = says; i = i; i-pos = i-pos; i-le = i-le; v = counted v; vc = nv .cable-is; vo = nv .own-is; iv = iv; h = hv }
 
-        decides-it : decidedIn s v ≡ found.Member d
+        decides-it : decidedIn s v ≡ found.Member d (suc (D .e))
         decides-it = ap₂ (λ (c : Cable) (set : ℕ). decided c set s) (nv .cable-is) (nv .track tr .set-is) ∙ D .it
 
         outcome : Inside s d r (counted v) (insideSlot s r (counted v))
-        outcome = inside-law s d r (counted v) decides-it
+        outcome = inside-law s d (suc (D .e)) r (counted v) decides-it
 
         settled-at : (x : Node) → Settled true s (withSet (setAfter d (readMarked s r (counted v))) (readMarked s r (counted v))) x
             → Settled true s (withSet (A W S) (readMarked s r (counted v))) x

@@ -10,7 +10,6 @@ use Rattle.nodeset.specs.Sums.{sum, num}
 use Rattle.nodeset.specs.Sets.{has}
 use Rattle.nodeset.proofs.Tests.{both, by-cases, chosen, otherwise}
 use Rattle.nodeset.proofs.Sums.{sum-none, sum-first}
-use Rattle.ring.specs.declared.Found.the-variants.{Member}
 use Rattle.ring.specs.Ring.{sender}
 use Rattle.ring.proofs.Senders.{sender-range, sender-add}
 use Rattle.ring.proofs.Walks.{member}
@@ -40,17 +39,17 @@ module _ (n : ℕ) (pos : 1 ≤ n) (set : ℕ) where
     pub within : e ≤ left
     pub listed : has set (sender n (a + e)) ≡ true
     pub count : sum (member n pos set) (suc a) e ≡ j
-    pub found : onwards left n set (sender n a) j ≡ Member (sender n (a + e))
+    pub found : onwards left n set (sender n a) j ≡ sender n (a + e)
 
   -- the j-th member is met in slot q
   abbrev met : ℕ → ℕ → Bool
   met q j = has set (sender n q) && eqb j 1
 
   -- one slot of the walk
-  one-on : (l a j : ℕ) → 1 ≤ a → onwards (suc l) n set (sender n a) j ≡ cond (met (suc a) j) (Member (sender n (suc a))) (onwards l n set (sender n (suc a)) (j - m (suc a)))
+  one-on : (l a j : ℕ) → 1 ≤ a → onwards (suc l) n set (sender n a) j ≡ cond (met (suc a) j) (sender n (suc a)) (onwards l n set (sender n (suc a)) (j - m (suc a)))
   unfolding onwards
   one-on l a j h =
-      ap (λ (y : ℕ). cond (has set y && eqb j 1) (Member y) (onwards l n set y (j - num (has set y)))) (next-sender n pos a h)
+      ap (λ (y : ℕ). cond (has set y && eqb j 1) y (onwards l n set y (j - num (has set y)))) (next-sender n pos a h)
 
   here : (l a j : ℕ) → 1 ≤ a → met (suc a) j ≡ true → Ahead (suc l) a j
   here l a j ha t =
@@ -63,7 +62,7 @@ module _ (n : ℕ) (pos : 1 ≤ n) (set : ℕ) where
         within = omega arith;
         listed = ap (λ (q : ℕ). has set (sender n q)) (sym z) ∙ on .0;
         count = omega (arith, sum-first m (suc a) 0, sum-none m (suc (suc a)), one, eqb-true j 1 (on .1));
-        found = one-on l a j ha ∙ chosen _ _ t ∙ ap (λ (q : ℕ). Member (sender n q)) z;
+        found = one-on l a j ha ∙ chosen _ _ t ∙ ap (sender n) z;
       }
 
   -- where it is not met there are more to come
@@ -83,7 +82,7 @@ module _ (n : ℕ) (pos : 1 ≤ n) (set : ℕ) where
         within = omega (arith, r .within);
         listed = ap (λ (q : ℕ). has set (sender n q)) (sym z) ∙ r .listed;
         count = omega (arith, r .count, sum-first m (suc a) (r .e), more (suc a) j hj t);
-        found = one-on l a j ha ∙ otherwise _ _ t ∙ r .found ∙ ap (λ (q : ℕ). Member (sender n q)) z;
+        found = one-on l a j ha ∙ otherwise _ _ t ∙ r .found ∙ ap (sender n) z;
       }
 
   -- Where there are j members or more on the way, the j-th is met.

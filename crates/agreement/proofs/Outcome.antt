@@ -122,8 +122,8 @@ judged-law s m v = go (has (v .present) m) refl
         (λ f. left (leave-law _ v))
         (λ f. one e (eqb-false m (v .own) f))
 
-depart-law : (s m : ℕ) (v : Node) → decidedIn s v ≡ found.Member m → Departed s m v (departing s v)
-depart-law s m v e = rw (ap (λ (f : Found). departs s f v) e) (judged-law s m v)
+depart-law : (s m back : ℕ) (v : Node) → decidedIn s v ≡ found.Member m back → Departed s m v (departing s v)
+depart-law s m back v e = rw (ap (λ (f : Found). departs s f v) e) (judged-law s m v)
 
 -- ---- a slot whose sender is in the set
 
@@ -131,12 +131,12 @@ pub data Inside (s m : ℕ) (r : Reading) (v w : Node) : Type 0 where
   missed : Gone v w → Inside s m r v w
   went : readReturn r v ≡ false → Departed s m (readMarked s r v) w → Inside s m r v w
 
-pub inside-law : (s m : ℕ) (r : Reading) (v : Node) → decidedIn s v ≡ found.Member m → Inside s m r v (insideSlot s r v)
+pub inside-law : (s m back : ℕ) (r : Reading) (v : Node) → decidedIn s v ≡ found.Member m back → Inside s m r v (insideSlot s r v)
 unfolding insideSlot
-inside-law s m r v e =
+inside-law s m back r v e =
     choose (λ (w : Node). Inside s m r v w) (readReturn r v) (leave MissedReturn v) (departing s (readMarked s r v))
     (λ f. missed (leave-law MissedReturn v))
-    (λ f. went f (depart-law s m (readMarked s r v) e))
+    (λ f. went f (depart-law s m back (readMarked s r v) e))
 
 -- ---- step 2
 

@@ -26,7 +26,7 @@ use Rattle.node_steps.specs.Steps.{isHeard, returnIn, readMarks, joins}
 use Rattle.node_steps.specs.Inner.{readReturn, readHeard, readMarked}
 use Rattle.agreement.proofs.History.{World, Untold, lst, told-in-time, one-knock, num-is}
 use Rattle.agreement.proofs.Invariant.{Knock, Awaits, aware, unaware}
-use Rattle.agreement.proofs.Marks.{no-both, not-true, not-false}
+use Rattle.agreement.proofs.Marks.{no-both, not-true, not-false, At}
 use Rattle.agreement.proofs.Outcome.{setAfter}
 use Rattle.agreement.proofs.Listed.{Says, ListedSlot, Hearer, same-window, extend, missed-failure, off-after, on-after}
 use Rattle.agreement.proofs.Depart.{drop-sub, drop-keeps, since-next, L₁}
@@ -36,17 +36,17 @@ use Rattle.agreement.proofs.Depart.{drop-sub, drop-keeps, since-next, L
 pub or-true : (a b : Bool) → a ≡ true → (a || b) ≡ true
 or-true a b e = rw e
 
-pub found-it : (s : ℕ) (f : Found) → isFound s f ≡ true → f ≡ found.Member s
-found-it s (found.Member m) e = ap found.Member (eqb-true m s e)
+found-it : (s : ℕ) (f : Found) → isFound s f ≡ true → At s f
+found-it s (found.Member m back) e = record { back = back; it = ap (λ (x : ℕ). found.Member x back) (eqb-true m s e) }
 found-it s found.Nobody e = absurd (false≢true e)
 
-pub joins-yes : (s : ℕ) (v : Node) → joins s v ≡ true → (v .returning ≢ 0) × (memberBefore (v .cable .n) (v .set) (v .returning) 1 ≡ found.Member s)
+pub joins-yes : (s : ℕ) (v : Node) → joins s v ≡ true → (v .returning ≢ 0) × At s (memberBefore (v .cable .n) (v .set) (v .returning) 1)
 joins-yes s v e =
     let t = both (not (eqb (v .returning) 0)) (isFound s (memberBefore (v .cable .n) (v .set) (v .returning) 1)) e in
     (λ z. no-both (t .0) (ap not (eq-eqb (v .returning) 0 z)), found-it s (memberBefore (v .cable .n) (v .set) (v .returning) 1) (t .1))
 
-pub joins-if : (s : ℕ) (v : Node) → v .returning ≢ 0 → memberBefore (v .cable .n) (v .set) (v .returning) 1 ≡ found.Member s → joins s v ≡ true
-joins-if s v nz e = all (ap not (ne-eqb (v .returning) 0 nz)) (ap (isFound s) e ∙ eq-eqb s s refl)
+pub joins-if : (s : ℕ) (v : Node) → v .returning ≢ 0 → At s (memberBefore (v .cable .n) (v .set) (v .returning) 1) → joins s v ≡ true
+joins-if s v nz a = all (ap not (ne-eqb (v .returning) 0 nz)) (ap (isFound s) (a .it) ∙ eq-eqb s s refl)
 
 pub not-missed : (r : Reading) (v : Node) → readReturn r v ≡ false → v .returning ≡ 0 → returnIn r ≡ false
 not-missed r v e z =

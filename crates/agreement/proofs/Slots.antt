@@ -18,7 +18,6 @@ use Rattle.ring.proofs.Senders.{sender-range, sender-period}
 use Rattle.message.specs.declared.Reading.{Reading}
 use Rattle.message.specs.declared.Reading.the-variants as reading
 use Rattle.node_record.specs.declared.Node.{Node}
-use Rattle.node_record.specs.declared.State.the-variants.{Member}
 use Rattle.node_record.specs.States.{isMember, isListening, isOut}
 use Rattle.node_record.specs.Soundness.{sound, limit}
 use Rattle.node_record.specs.Sponsoring.{sponsoredIn}
@@ -39,7 +38,7 @@ use Rattle.agreement.specs.Demand.{AllHear}
 use Rattle.agreement.proofs.Past.{Past, pastOf}
 use Rattle.agreement.proofs.History.{World, K, decision, sponsors-are}
 use Rattle.agreement.proofs.Invariant.{Tracking}
-use Rattle.agreement.proofs.Marks.{no-both, not-true, not-false}
+use Rattle.agreement.proofs.Marks.{no-both, not-true, not-false, At}
 use Rattle.agreement.proofs.Listed.{Begins, Says, ListedSlot}
 use Rattle.agreement.proofs.Join.{Next}
 use Rattle.agreement.proofs.Outside.{OwnSlot}
@@ -148,11 +147,11 @@ module _ (W : World) where
             ap₂ (λ (c : Cable) (set : ℕ). sponsored c set (recordOf t s .own) j) (nv .cable-is) (iv .set-is)
             ∙ ap (λ (x : ℕ). sponsored cable L x j) (nv .own-is)
 
-        bits : (j x : ℕ) → j < k → sponsored cable L s (suc j) ≡ found.Member x → has (bitsSent (recordOf t s)) (suc j) ≡ has (recordOf t s .present) x
+        bits : (j x : ℕ) → j < k → At x (sponsored cable L s (suc j)) → has (bitsSent (recordOf t s)) (suc j) ≡ has (recordOf t s .present) x
         bits j x h e =
             ap (λ (b : ℕ). has b (suc j)) sent-bits
             ∙ has-markBits (recordOf t s) k (suc j) (omega arith) (omega arith) (omega (arith, k-lt, n-most))
-            ∙ ap (λ (f : Found). has (recordOf t s .present) (memberIn f)) (here (suc j) ∙ e)
+            ∙ ap (λ (f : Found). has (recordOf t s .present) (memberIn f)) (here (suc j) ∙ e .it)
 
     says : has L s ≡ true → (i : ℕ) → isHeard (hd i) ≡ true → Says W N L (hd i)
     says onL i e = subst (λ (r : Reading). Says W N L r) (sym (heard-message i e)) (message-says onL (sym transmits-is ∙ sent))

@@ -10,9 +10,7 @@ use lib.ListN.{length}
 use Rattle.nodeset.specs.Sums.{sum, num}
 use Rattle.nodeset.specs.Sets.{has, size, distance}
 use Rattle.ring.specs.declared.Cable.{Cable}
-use Rattle.ring.specs.declared.Found.{Found}
-use Rattle.ring.specs.declared.Found.the-variants.{Member, Nobody}
-use Rattle.ring.specs.Ring.{ringSize, sponsorCount, sender, isFound}
+use Rattle.ring.specs.Ring.{ringSize, sponsorCount, sender}
 use Rattle.node_record.specs.States.{isMember, isOut}
 use Rattle.bench.specs.Table.{Table, recordOf, slotsOf, speaker}
 use Rattle.bench.specs.Calls.{transmits, setUpOf}
@@ -46,15 +44,15 @@ AllHear n (restart a) t = Unit {0}
 unfoldable pub next : ℕ → ℕ → ℕ
 next n x = cond (eqb x n) 1 (x + 1)
 
--- The j-th member met from node x onwards, in at most `left` slots.
-unfoldable pub onwards : ℕ → ℕ → ℕ → ℕ → ℕ → Found
-onwards zero n set x j = Nobody
+-- The j-th member met from node x onwards, in at most `left` slots; 0 where there is none.
+unfoldable pub onwards : ℕ → ℕ → ℕ → ℕ → ℕ → ℕ
+onwards zero n set x j = 0
 onwards (suc left) n set x j =
     let p = next n x in
-    cond (has set p && eqb j 1) (Member p) (onwards left n set p (j - num (has set p)))
+    cond (has set p && eqb j 1) p (onwards left n set p (j - num (has set p)))
 
 -- "The k-th member after that node, round the ring". (With k + 1 members it is another node.)
-abbrev pub memberAfter : ℕ → ℕ → ℕ → ℕ → Found
+abbrev pub memberAfter : ℕ → ℕ → ℕ → ℕ → ℕ
 memberAfter n set x k = onwards n n set x k
 
 abbrev pub MemberAt : ℕ → Table → ℕ → Type 0
@@ -108,7 +106,7 @@ module _ (cable : Cable) (start : Table) where
   isDeciding s c cs =
       isSlot c (tableAfter cs)
       && (leb s (slotsOf (tableAfter cs))
-      && isFound (speaker (tableAfter cs)) (memberAfter n (listOf (tableAfter cs)) (sender n s) k))
+      && eqb (memberAfter n (listOf (tableAfter cs)) (sender n s) k) (speaker (tableAfter cs)))
 
   -- "Its deciding slot is the first" such: has it been?
   unfoldable pub decidingRan : ℕ → List Call → Bool

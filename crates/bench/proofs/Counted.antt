@@ -80,7 +80,7 @@ judged-same s m v =
     (λ _. settle-same true s (withSet (without (v .set) m) v)))
 
 departs-same : (s : ℕ) (f : Found) (v : Node) → Same v (departs s f v)
-departs-same s (found.Member m) v = judged-same s m v
+departs-same s (found.Member m back) v = judged-same s m v
 departs-same s found.Nobody v = settle-same true s v
 
 inside-same : (s : ℕ) (r : Reading) (v : Node) → Same v (insideSlot s r v)

@@ -130,7 +130,7 @@ judged-ok a s m v t e =
     (ways (Ok a) (eqb m (v .own)) (leave-ok a Unconfirmed v t e) (settle-ok a true s (withSet (without (v .set) m) v) t e))
 
 departs-ok : (a : State) (s : ℕ) (f : Found) (v : Node) → tracked a ≡ true → v .state ≡ a → Ok a (departs s f v)
-departs-ok a s (found.Member m) v t e = judged-ok a s m v t e
+departs-ok a s (found.Member m back) v t e = judged-ok a s m v t e
 departs-ok a s found.Nobody v t e = settle-ok a true s v t e
 
 inside-ok : (a : State) (s : ℕ) (heard : Reading) (v : Node) → tracked a ≡ true → v .state ≡ a → Ok a (insideSlot s heard v)

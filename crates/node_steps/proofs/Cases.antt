@@ -50,7 +50,7 @@ departs-is : (s : ℕ) (d : Found) (v : Node)
     → cond (isFound (v .own) d && not (has (v .present) (v .own))) (leave (leavingCause 1) v)
     (settle true s (withSet (cond (isFound (memberIn d) d && not (has (v .present) (memberIn d))) (without (v .set) (memberIn d)) (v .set)) v)) ≡ departs s d v
 unfolding judged has without
-departs-is s (found.Member m) v =
+departs-is s (found.Member m back) v =
     let self : eqb m m ≡ true = eq-eqb m m refl in
     rw self (struck (λ (set : ℕ). settle true s (withSet set v)) (leave (leavingCause 1) v) (v .set) (without (v .set) m) (eqb m (v .own)) (has (v .present) m) (has (v .present) (v .own)) (λ e. ap (has (v .present)) (eqb-true m (v .own) e)))
 departs-is s found.Nobody v = refl

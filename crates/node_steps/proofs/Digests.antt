@@ -105,7 +105,7 @@ somebody s m w false false = refl
 
 departs-by : (s : ℕ) (f : Found) (w : Node) → 1 ≤ w .own → departingBy true (memberIn f) s w ≡ departs s f w
 unfolding judged
-departs-by s (found.Member m) w h =
+departs-by s (found.Member m back) w h =
     ap (λ (d : Bool). cond (d && not (has (w .present) m)) (leave Unconfirmed w) (settle true s (withSet (cond (has (w .present) m) (w .set) (without (w .set) m)) w))) (eqb-swap (w .own) m)
     ∙ somebody s m w (has (w .present) m) (eqb m (w .own))
 departs-by s found.Nobody w h = nobody true s w h

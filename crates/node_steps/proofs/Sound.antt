@@ -61,9 +61,9 @@ without-marks n set marks m k = record { lt = without-lt n marks m (k .lt); with
 -- ---- step 1
 
 -- a sponsored member, if there is one, is marked
-found-marks : (n set marks : ℕ) (f : Found) → n ≤ 32 → set < 2 ^ n → ((m : ℕ) → f ≡ found.Member m → has set m ≡ true) → Marks n set marks → Marks n set (with marks (memberIn f))
+found-marks : (n set marks : ℕ) (f : Found) → n ≤ 32 → set < 2 ^ n → ((m back : ℕ) → f ≡ found.Member m back → has set m ≡ true) → Marks n set marks → Marks n set (with marks (memberIn f))
 unfolding with
-found-marks n set marks (found.Member m) h l e k = with-marks n set marks m h l (e m refl) k
+found-marks n set marks (found.Member m back) h l e k = with-marks n set marks m h l (e m back refl) k
 found-marks n set marks found.Nobody h l e k = k
 
 confirmed-marks : (j s bits : ℕ) (v : Node) → v .cable .n ≤ 32 → v .set < 2 ^ v .cable .n → has (v .set) s ≡ true → Marks (v .cable .n) (v .set) (v .present) → Marks (v .cable .n) (v .set) (confirmed j s bits v)
@@ -351,7 +351,7 @@ judged-sound s m v k =
     (λ o. rw o (settle-sound true s (withSet (without (v .set) m) v) (departed-tracks m v t (eqb-false m (v .own) o) k)))))
 
 departs-sound : (s : ℕ) (f : Found) (v : Node) → Tracking v → sound (departs s f v) ≡ true
-departs-sound s (found.Member m) v k = judged-sound s m v k
+departs-sound s (found.Member m back) v k = judged-sound s m v k
 departs-sound s found.Nobody v k = settle-sound true s v k
 
 pub slot-sound : (s : ℕ) (heard : Reading) (v : Node) → s ≤ v .cable .n → Tracking v → sound (slotByCases s heard v) ≡ true

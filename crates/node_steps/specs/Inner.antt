@@ -31,7 +31,7 @@ judged s m v =
 
 -- "With one member nobody is decided" ("The ring").
 abbrev pub departs : ℕ → Found → Node → Node
-departs s (found.Member m) v = judged s m v
+departs s (found.Member m back) v = judged s m v
 departs s found.Nobody v = settle true s v
 
 abbrev pub departing : ℕ → Node → Node

@@ -81,7 +81,7 @@ fn member_in(found: Found) -> u32
     ensures { λ r. ⌜ r ≡ memberIn found ⌝ }
 {
     match found {
-        Found::Member(m) => m,
+        Found::Member(m, _) => m,
         Found::Nobody => 0,
     }
 }
@@ -238,7 +238,7 @@ fn is_found(x: u32, found: Found) -> bool
     ensures { λ r. ⌜ r ≡ isFound x found ⌝ }
 {
     match found {
-        Found::Member(m) => m == x,
+        Found::Member(m, _) => m == x,
         Found::Nobody => false,
     }
 }

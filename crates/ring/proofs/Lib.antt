@@ -6,3 +6,4 @@ pub mod Walks
 pub mod Members
 pub mod Places
 pub mod Tested
+pub mod Distances

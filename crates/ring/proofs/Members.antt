@@ -9,35 +9,40 @@ use Rattle.nodeset.specs.Sums.{num}
 use Rattle.nodeset.specs.Sets.{has}
 use Rattle.nodeset.proofs.Tests.{by-cases, both, all, chosen, otherwise}
 use Rattle.ring.specs.declared.Cable.{Cable}
+use Rattle.ring.specs.declared.Found.{Found}
 use Rattle.ring.specs.declared.Found.the-variants.{Member, Nobody}
 use Rattle.ring.specs.Ring.{previous, walk, memberBefore, sponsors, sponsored, decided}
 
-same-member : (x y : ℕ) → Member x ≡ Member y → x ≡ y
-same-member x y e = cc
+pub same-member : (x y b d : ℕ) → Member x b ≡ Member y d → x ≡ y
+same-member x y b d e = cc
 
-nobody-found : (m : ℕ) → Nobody ≡ Member m → ⊥
-nobody-found m e = let z : _≡_ {A = ℕ} 0 1 = cc in omega arith
+pub same-back : (x y b d : ℕ) → Member x b ≡ Member y d → b ≡ d
+same-back x y b d e = cc
 
-walk-member : (left n set x j m : ℕ) → walk left n set x j ≡ Member m → has set m ≡ true
+pub nobody-found : (m back : ℕ) → Nobody ≡ Member m back → ⊥
+nobody-found m back e = let z : _≡_ {A = ℕ} 0 1 = cc in omega arith
+
+walk-member : (left n set x j m back : ℕ) → walk left n set x j ≡ Member m back → has set m ≡ true
 unfolding walk
-walk-member zero n set x j m e = absurd (nobody-found m e)
-walk-member (suc left) n set x j m e =
+walk-member zero n set x j m back e = absurd (nobody-found m back e)
+walk-member (suc left) n set x j m back e =
     let p : ℕ = previous n x in
+    let here : Found = Member p (n - suc left) in
     let more : ℕ = j - num (has set p) in
     by-cases (has set p && eqb j 1)
-    (λ t. sym (ap (has set) (same-member p m (sym (chosen (Member p) (walk left n set p more) t) ∙ e))) ∙ both (has set p) (eqb j 1) t .0)
-    (λ t. walk-member left n set p more m (sym (otherwise (Member p) (walk left n set p more) t) ∙ e))
+    (λ t. sym (ap (has set) (same-member p m (n - suc left) back (sym (chosen here (walk left n set p more) t) ∙ e))) ∙ both (has set p) (eqb j 1) t .0)
+    (λ t. walk-member left n set p more m back (sym (otherwise here (walk left n set p more) t) ∙ e))
 
-pub before-member : (n set x j m : ℕ) → memberBefore n set x j ≡ Member m → has set m ≡ true
+pub before-member : (n set x j m back : ℕ) → memberBefore n set x j ≡ Member m back → has set m ≡ true
 unfolding memberBefore
-before-member n set x j m e = walk-member (n - 1) n set x j m e
+before-member n set x j m back e = walk-member (n - 1) n set x j m back e
 
-pub sponsored-member : (cable : Cable) (set x j m : ℕ) → sponsored cable set x j ≡ Member m → has set m ≡ true
+pub sponsored-member : (cable : Cable) (set x j m back : ℕ) → sponsored cable set x j ≡ Member m back → has set m ≡ true
 unfolding sponsored
-sponsored-member cable set x j m e =
+sponsored-member cable set x j m back e =
     by-cases (leb 1 j && leb j (sponsors cable set))
-    (λ t. before-member (cable .n) set x j m (sym (chosen _ Nobody t) ∙ e))
-    (λ t. absurd (nobody-found m (sym (otherwise (memberBefore (cable .n) set x j) Nobody t) ∙ e)))
+    (λ t. before-member (cable .n) set x j m back (sym (chosen _ Nobody t) ∙ e))
+    (λ t. absurd (nobody-found m back (sym (otherwise (memberBefore (cable .n) set x j) Nobody t) ∙ e)))
 
 -- as far as ks, the j-th sponsored member is the j-th before
 pub sponsored-before : (cable : Cable) (set x j : ℕ) → 1 ≤ j → j ≤ sponsors cable set → sponsored cable set x j ≡ memberBefore (cable .n) set x j

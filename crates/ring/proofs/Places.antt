@@ -5,7 +5,7 @@ use mathlib.Core.Logic.{_≢_}
 use mathlib.Core.Bool.{true, false, _&&_, true≢false}
 use native.Mathlib.Omega.{arith}
 use lib.Dec.{eqb}
-use borrow.Author.Tests.{ne-eqb}
+use borrow.Author.Tests.{ne-eqb, eqb-true}
 use Rattle.nodeset.specs.Sums.{num}
 use Rattle.nodeset.specs.Sets.{has}
 use Rattle.nodeset.proofs.Tests.{by-cases, both}
@@ -13,7 +13,7 @@ use Rattle.ring.specs.declared.Cable.{Cable}
 use Rattle.ring.specs.declared.Found.the-variants.{Member}
 use Rattle.ring.specs.declared.Place.{Place}
 use Rattle.ring.specs.Ring.{previous, walk, memberBefore, sponsors, sponsored, memberIn}
-use Rattle.ring.specs.Places.{startAt, reach, nearestOf, foundAs}
+use Rattle.ring.specs.Places.{startAt, reach, nearestOf, foundAt}
 use Rattle.ring.proofs.Walks.{walk-past, walk-on}
 use Rattle.ring.proofs.Members.{sponsored-before}
 
@@ -34,18 +34,19 @@ reach-on left n set x j h e = rw (e, ne-eqb j 1 h) refl
 -- ---- what it finds
 
 -- node 0 is in no set
-some-node : (set x : ℕ) → has set x ≡ true → foundAs x ≡ Member x
+some-node : (n set x left : ℕ) → has set x ≡ true → foundAt n (record { node = x; left = left }) ≡ Member x (n - 1 - left)
 unfolding has
-some-node set zero e = absurd (true≢false (sym e))
-some-node set (suc x) e = rw (ne-eqb (suc x) 0 (λ z. omega arith)) refl
+some-node n set zero left e = absurd (true≢false (sym e))
+some-node n set (suc x) left e = rw (ne-eqb (suc x) 0 (λ z. omega arith)) refl
 
-pub reach-finds : (left n set x j : ℕ) → foundAs (reach left n set x j .node) ≡ walk left n set x j
+pub reach-finds : (left n set x j : ℕ) → foundAt n (reach left n set x j) ≡ walk left n set x j
 unfolding walk reach
 reach-finds zero n set x j = refl
 reach-finds (suc left) n set x j =
     let p = previous n x in
+    let back : n - 1 - left ≡ n - suc left = omega arith in
     by-cases (has set p && eqb j 1)
-    (λ t. rw t (some-node set p (both (has set p) (eqb j 1) t .0)))
+    (λ t. rw t (some-node n set p left (both (has set p) (eqb j 1) t .0) ∙ ap (Member p) back))
     (λ t. rw t (reach-finds left n set p (j - num (has set p))))
 
 -- ---- going on from there
@@ -82,15 +83,14 @@ one-on n set x j place a = record {
       ap (memberBefore n set x) z ∙ a .further (1 + i) (omega arith) ∙ goes-on (place .left) n set (place .node) i h;
 }
 
-member-as : (m : ℕ) → memberIn (foundAs m) ≡ m
-member-as zero = refl
-member-as (suc m) = rw (ne-eqb (suc m) 0 (λ z. omega arith)) refl
+member-at : (n : ℕ) (place : Place) → memberIn (foundAt n place) ≡ place .node
+member-at n place = by-cases (eqb (place .node) 0) (λ e. rw e (sym (eqb-true (place .node) 0 e))) (λ e. rw e refl)
 
 -- and the nearest member from there is the next that is sponsored
 pub next-sponsored : (cable : Cable) (set x j : ℕ) (place : Place) → suc j ≤ sponsors cable set → After (cable .n) set x j place
     → nearestOf (cable .n) set place .node ≡ memberIn (sponsored cable set x (j + 1))
 next-sponsored cable set x j place l a =
-    sym (member-as (nearestOf (cable .n) set place .node))
+    sym (member-at (cable .n) (nearestOf (cable .n) set place))
     ∙ ap memberIn (
     reach-finds (place .left) (cable .n) set (place .node) 1
     ∙ sym (a .further 1 (omega arith))

@@ -26,7 +26,7 @@ pub walk-past : (left n set x j : ℕ) → has set (previous n x) ≡ false → 
 unfolding walk
 walk-past left n set x j e = let z : j - 0 ≡ j = omega arith in rw (e, z) refl
 
-pub walk-here : (left n set x : ℕ) → has set (previous n x) ≡ true → walk (suc left) n set x 1 ≡ Member (previous n x)
+pub walk-here : (left n set x : ℕ) → has set (previous n x) ≡ true → walk (suc left) n set x 1 ≡ Member (previous n x) (n - suc left)
 unfolding walk
 walk-here left n set x e = rw e refl
 
@@ -50,7 +50,7 @@ module _ (n : ℕ) (pos : 1 ≤ n) (set : ℕ) where
     pub back : 1 ≤ e
     pub listed : has set (sender n u) ≡ true
     pub count : sum member u e ≡ j
-    pub found : walk left n set (sender n (a + left)) j ≡ Member (sender n u)
+    pub found : walk left n set (sender n (a + left)) j ≡ Member (sender n u) (n - suc (u - a))
 
   -- the walk from slot p, one slot back at q
   step-past : (l q j p : ℕ) → 1 ≤ q → p ≡ suc q → has set (sender n q) ≡ false → walk (suc l) n set (sender n p) j ≡ walk l n set (sender n q) j
@@ -58,10 +58,10 @@ module _ (n : ℕ) (pos : 1 ≤ n) (set : ℕ) where
       let b : previous n (sender n p) ≡ sender n q = ap (λ (y : ℕ). previous n (sender n y)) e ∙ previous-sender n pos q h in
       walk-past l n set (sender n p) j (ap (has set) b ∙ f) ∙ ap (λ (y : ℕ). walk l n set y j) b
 
-  step-here : (l q p : ℕ) → 1 ≤ q → p ≡ suc q → has set (sender n q) ≡ true → walk (suc l) n set (sender n p) 1 ≡ Member (sender n q)
+  step-here : (l q p : ℕ) → 1 ≤ q → p ≡ suc q → has set (sender n q) ≡ true → walk (suc l) n set (sender n p) 1 ≡ Member (sender n q) (n - suc l)
   step-here l q p h e f =
       let b : previous n (sender n p) ≡ sender n q = ap (λ (y : ℕ). previous n (sender n y)) e ∙ previous-sender n pos q h in
-      walk-here l n set (sender n p) (ap (has set) b ∙ f) ∙ ap Member b
+      walk-here l n set (sender n p) (ap (has set) b ∙ f) ∙ ap (λ (y : ℕ). Member y (n - suc l)) b
 
   step-on : (l q j p : ℕ) → 1 ≤ q → 2 ≤ j → p ≡ suc q → has set (sender n q) ≡ true → walk (suc l) n set (sender n p) j ≡ walk l n set (sender n q) (j - 1)
   step-on l q j p h i e f =
@@ -78,7 +78,9 @@ module _ (n : ℕ) (pos : 1 ≤ n) (set : ℕ) where
     back = omega arith;
     listed = e;
     count = omega (arith, sum-next member (a + l) 0, sum-none member (a + l), ap num e, ap member (add-zero (a + l)));
-    found = step-here l (a + l) (a + suc l) (omega arith) (omega arith) e;
+    found =
+        let z : l ≡ a + l - a = omega arith in
+        step-here l (a + l) (a + suc l) (omega arith) (omega arith) e ∙ ap (λ (y : ℕ). Member (sender n (a + l)) (n - suc y)) z;
   }
 
   -- the j-th member of the rest of the walk, after i members in the slot just before
@@ -148,7 +150,7 @@ module _ (n : ℕ) (pos : 1 ≤ n) (set : ℕ) where
 
   -- Each member on the way is met, as the one whose number is the count of members from its slot on.
   pub walk-at : (left a u e : ℕ) → 1 ≤ a → a ≤ u → u + e ≡ a + left → 1 ≤ e → has set (sender n u) ≡ true
-      → walk left n set (sender n (a + left)) (sum member u e) ≡ Member (sender n u)
+      → walk left n set (sender n (a + left)) (sum member u e) ≡ Member (sender n u) (n - suc (u - a))
   walk-at left a u e h f p b t =
       let some : 1 ≤ sum member u e = omega (arith, sum-at member u e u (omega arith) (omega arith), ap num t) in
       let d : ℕ = u - a in
@@ -157,10 +159,10 @@ module _ (n : ℕ) (pos : 1 ≤ n) (set : ℕ) where
       let enough : sum member u e ≤ sum member a left = omega (arith, sum-split member a d e, ap (sum member a) x, ap (λ (q : ℕ). sum member q e) y) in
       go (walk-meets left a (sum member u e) h some enough)
     where
-      go : Met left a (sum member u e) → walk left n set (sender n (a + left)) (sum member u e) ≡ Member (sender n u)
+      go : Met left a (sum member u e) → walk left n set (sender n (a + left)) (sum member u e) ≡ Member (sender n u) (n - suc (u - a))
       go m =
           let same : m .u ≡ u = one-place member (sum member u e) (m .u) (m .e) u e (m .upto ∙ sym p) (m .count) refl (omega (arith, ap num (m .listed))) (omega (arith, ap num t)) in
-          m .found ∙ ap (λ (q : ℕ). Member (sender n q)) same
+          m .found ∙ ap (λ (q : ℕ). Member (sender n q) (n - suc (q - a))) same
 
   -- ---- the walk of n - 1 slots: all but the node where it starts
 

@@ -1,3 +1,4 @@
 pub mod Ring
+pub mod Back
 pub mod Answers
 pub mod Places

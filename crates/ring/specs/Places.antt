@@ -40,6 +40,6 @@ reach (suc left) n set x j =
 abbrev pub nearestOf : ℕ → ℕ → Place → Place
 nearestOf n set place = reach (place .left) n set (place .node) 1
 
--- The member with this number; nobody where it is 0.
-abbrev pub foundAs : ℕ → Found
-foundAs m = cond (eqb m 0) Nobody (Member m)
+-- The member at a place, and how many slots back from the start of the walk it speaks; nobody where the node is 0.
+abbrev pub foundAt : ℕ → Place → Found
+foundAt n place = cond (eqb (place .node) 0) Nobody (Member (place .node) (n - 1 - place .left))

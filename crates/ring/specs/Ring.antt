@@ -39,15 +39,16 @@ ks cable c = min (cable .k) (c - 1)
 unfoldable pub previous : ℕ → ℕ → ℕ
 previous n x = cond (leb x 1) n (x - 1)
 
--- "The walk back along the ring is a recursion with a falling number of slots": the j-th member met from node x, in at most `left` slots. (There is no 0th.)
+-- "The walk back along the ring is a recursion with a falling number of slots": the j-th member met from node x, and "how many slots back round the ring that member speaks". Of a round of n slots
+-- the walk may still go `left`, so that the next is n - left slots back from its start. (There is no 0th member.)
 unfoldable pub walk : ℕ → ℕ → ℕ → ℕ → ℕ → Found
 walk zero n set x j = Nobody
 walk (suc left) n set x j =
     let p = previous n x in
     let more = j - num (has set p) in
-    cond (has set p && eqb j 1) (Member p) (walk left n set p more)
+    cond (has set p && eqb j 1) (Member p (n - suc left)) (walk left n set p more)
 
--- The j-th member before node x. The walk ends before it comes round to x.
+-- The j-th member before node x. The walk ends before it comes round to x. (specs/Back says what its distance is by the ring alone.)
 unfoldable pub memberBefore : ℕ → ℕ → ℕ → ℕ → Found
 memberBefore n set x j = walk (n - 1) n set x j
 
@@ -65,10 +66,10 @@ decided cable set x = sponsored cable set x (sponsors cable set)
 
 -- The number of the member found; 0, which is in no set, where there is none.
 abbrev pub memberIn : Found → ℕ
-memberIn (Member m) = m
+memberIn (Member m back) = m
 memberIn Nobody = 0
 
 -- The member found is x.
 abbrev pub isFound : ℕ → Found → Bool
-isFound x (Member m) = eqb m x
+isFound x (Member m back) = eqb m x
 isFound x Nobody = false

@@ -6,7 +6,7 @@ ghost use Prim.Native.Nat.{_+_, _-_};
 ghost use Rattle.nodeset.specs.Sums.{num};
 ghost use Rattle.ring.specs.Ring.{sameCable, ringSize, nodeNumber, sponsorCount, ks, previous, memberBefore, sponsors, sponsored, decided};
 ghost use Rattle.ring.specs.Answers.{senderOf, beforeOf, sponsoredOf, decidedOf};
-ghost use Rattle.ring.specs.Places.{testsOf, startAt, reach, nearestOf, foundAs};
+ghost use Rattle.ring.specs.Places.{testsOf, startAt, reach, nearestOf, foundAt};
 
 // What set-up chooses for the whole cable: how many nodes are on it, and how many others a member
 // sponsors at the most.
@@ -21,9 +21,9 @@ pub enum Speaker {
     Refused(Refusal),
 }
 
-// What a walk back along the ring finds.
+// What a walk back along the ring finds: a member, and how many slots back it speaks.
 pub enum Found {
-    Member(u32),
+    Member(u32, u32),
     Nobody,
 }
 
@@ -83,7 +83,7 @@ pub fn ks(cable: Cable, c: u32) -> u32
 // ---- Inner: the walk back, which takes every number as it is; the rules of a slot use it.
 
 // A place on the walk back: the node that it reached, and the slots that it may still go back from
-// there. Node 0: it met no further member.
+// there, which tell how far back it is. Node 0: it met no further member.
 pub struct Place {
     pub node: u32,
     pub left: u32,
@@ -145,14 +145,23 @@ pub fn nearest(n: u32, set: u32, place: Place) -> Place
     walk(place.left, n, set, place.node, 1)
 }
 
-// The member of this number; nobody where it is 0.
-fn found_as(m: u32) -> Found
-    ensures { λ r. ⌜ r ≡ foundAs m ⌝ }
+// Of two numbers, by how much the first is greater; 0 where it is not.
+fn less(a: u32, b: u32) -> u32
+    ensures { λ r. ⌜ r ≡ a - b ⌝ }
 {
-    if m == 0 {
+    if a < b { 0 } else { a - b }
+}
+
+// The member at a place, and how many slots back from the start of the walk it speaks; nobody where the
+// node is 0.
+fn found_at(n: u32, place: Place) -> Found
+    ensures { λ r. ⌜ r ≡ foundAt n place ⌝ }
+{
+    let back = less(less(n, 1), place.left);
+    if place.node == 0 {
         return Found::Nobody;
     }
-    Found::Member(m)
+    Found::Member(place.node, back)
 }
 
 // The j-th member before node x.
@@ -161,7 +170,7 @@ pub fn member_before(n: u32, set: u32, x: u32, j: u32) -> Found
 {
     let start = start_at(n, x);
     let place = walk(start.left, n, set, x, j);
-    found_as(place.node)
+    found_at(n, place)
 }
 
 // How many of the set's members one of them sponsors.

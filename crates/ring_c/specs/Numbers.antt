@@ -14,11 +14,19 @@ abbrev pub speakerNumber : Speaker → ℕ
 speakerNumber (speaker.Node x) = 2 ^ 33 + x
 speakerNumber (speaker.Refused cause) = numberOf cause
 
--- the member; nobody is 2 ^ 32 in its place, which is no number of 32 bits
+-- the member, and in a call of its own how many slots back it speaks; nobody is 2 ^ 32 in their place, which is no number of 32 bits
 abbrev pub foundNumber : Found → ℕ
-foundNumber (found.Member x) = 2 ^ 33 + x
+foundNumber (found.Member x back) = 2 ^ 33 + x
 foundNumber found.Nobody = 2 ^ 33 + 2 ^ 32
+
+abbrev pub backNumber : Found → ℕ
+backNumber (found.Member x back) = 2 ^ 33 + back
+backNumber found.Nobody = 2 ^ 33 + 2 ^ 32
 
 abbrev pub lookupNumber : Lookup → ℕ
 lookupNumber (lookup.Found found) = foundNumber found
 lookupNumber (lookup.Refused cause) = numberOf cause
+
+abbrev pub lookupBack : Lookup → ℕ
+lookupBack (lookup.Found found) = backNumber found
+lookupBack (lookup.Refused cause) = numberOf cause

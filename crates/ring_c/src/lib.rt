@@ -9,7 +9,7 @@ ghost use Prim.Native.Nat.{_+_};
 ghost use Rattle.nodeset.specs.Sets.{has, with, without, union, full, within, subset, size, distance, run};
 ghost use Rattle.ring.specs.Ring.{cableOf, ringSize, nodeNumber, sponsorCount, ks};
 ghost use Rattle.ring.specs.Answers.{senderOf, beforeOf, sponsoredOf, decidedOf};
-ghost use Rattle.ring_c.specs.Numbers.{speakerNumber, foundNumber, lookupNumber};
+ghost use Rattle.ring_c.specs.Numbers.{speakerNumber, foundNumber, backNumber, lookupNumber, lookupBack};
 
 // ---- Sets
 
@@ -129,8 +129,18 @@ fn found_number(found: Found) -> u64
     ensures { λ r. ⌜ r ≡ foundNumber found ⌝ }
 {
     match found {
-        Found::Member(x) => 0x2_0000_0000 + x as u64,
+        Found::Member(x, _) => 0x2_0000_0000 + x as u64,
         Found::Nobody => 0x3_0000_0000,
+    }
+}
+
+// 2^33 and how many slots back the member speaks, or 2^33 and 2^32 for nobody.
+fn back_number(found: Found) -> u64
+    ensures { λ r. ⌜ r ≡ backNumber found ⌝ }
+{
+    match found {
+        Found::Member(_, back) => 0x2_0000_0000 + back as u64,
+        Found::Nobody => 0x0003_0000_0000,
     }
 }
 
@@ -140,6 +150,16 @@ fn lookup_number(lookup: Lookup) -> u64
 {
     match lookup {
         Lookup::Found(found) => found_number(found),
+        Lookup::Refused(cause) => refusal::number(cause) as u64,
+    }
+}
+
+// The refusal's number, or how many slots back the member speaks that is found.
+fn lookup_back(lookup: Lookup) -> u64
+    ensures { λ r. ⌜ r ≡ lookupBack lookup ⌝ }
+{
+    match lookup {
+        Lookup::Found(found) => back_number(found),
         Lookup::Refused(cause) => refusal::number(cause) as u64,
     }
 }
@@ -163,4 +183,25 @@ pub extern "C" fn ring_decided(n: u32, k: u32, set: u32, x: u32) -> u64
     ensures { λ r. ⌜ r ≡ lookupNumber (decidedOf (cableOf n k) set x) ⌝ }
 {
     lookup_number(ring::decided(Cable { n, k }, set, x))
+}
+
+#[no_mangle]
+pub extern "C" fn ring_before_back(n: u32, set: u32, x: u32, j: u32) -> u64
+    ensures { λ r. ⌜ r ≡ lookupBack (beforeOf n set x j) ⌝ }
+{
+    lookup_back(ring::before(n, set, x, j))
+}
+
+#[no_mangle]
+pub extern "C" fn ring_sponsored_back(n: u32, k: u32, set: u32, x: u32, j: u32) -> u64
+    ensures { λ r. ⌜ r ≡ lookupBack (sponsoredOf (cableOf n k) set x j) ⌝ }
+{
+    lookup_back(ring::sponsored(Cable { n, k }, set, x, j))
+}
+
+#[no_mangle]
+pub extern "C" fn ring_decided_back(n: u32, k: u32, set: u32, x: u32) -> u64
+    ensures { λ r. ⌜ r ≡ lookupBack (decidedOf (cableOf n k) set x) ⌝ }
+{
+    lookup_back(ring::decided(Cable { n, k }, set, x))
 }

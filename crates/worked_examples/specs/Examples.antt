@@ -130,14 +130,14 @@ examples lent =
     (senderOf 4 4 gives speaker.Node 4)
     ∷ (senderOf 4 5 gives speaker.Node 1)
     -- "set {1,3,4}, k = 2: node 1 sponsors 4, 3 and decides 3."
-    ∷ (sponsoredOf (cableOf 4 2) (these (1 ∷ 3 ∷ 4 ∷ [])) 1 1 gives finds (found.Member 4))
-    ∷ (sponsoredOf (cableOf 4 2) (these (1 ∷ 3 ∷ 4 ∷ [])) 1 2 gives finds (found.Member 3))
+    ∷ (sponsoredOf (cableOf 4 2) (these (1 ∷ 3 ∷ 4 ∷ [])) 1 1 gives finds (found.Member 4 1))
+    ∷ (sponsoredOf (cableOf 4 2) (these (1 ∷ 3 ∷ 4 ∷ [])) 1 2 gives finds (found.Member 3 2))
     ∷ (sponsoredOf (cableOf 4 2) (these (1 ∷ 3 ∷ 4 ∷ [])) 1 3 gives finds found.Nobody)
-    ∷ (decidedOf (cableOf 4 2) (these (1 ∷ 3 ∷ 4 ∷ [])) 1 gives finds (found.Member 3))
+    ∷ (decidedOf (cableOf 4 2) (these (1 ∷ 3 ∷ 4 ∷ [])) 1 gives finds (found.Member 3 2))
     -- "set {2,5}, k = 3: node 5 sponsors and decides 2."
-    ∷ (sponsoredOf (cableOf 5 3) (these (2 ∷ 5 ∷ [])) 5 1 gives finds (found.Member 2))
+    ∷ (sponsoredOf (cableOf 5 3) (these (2 ∷ 5 ∷ [])) 5 1 gives finds (found.Member 2 3))
     ∷ (sponsoredOf (cableOf 5 3) (these (2 ∷ 5 ∷ [])) 5 2 gives finds found.Nobody)
-    ∷ (decidedOf (cableOf 5 3) (these (2 ∷ 5 ∷ [])) 5 gives finds (found.Member 2))
+    ∷ (decidedOf (cableOf 5 3) (these (2 ∷ 5 ∷ [])) 5 gives finds (found.Member 2 3))
     -- "set {2}: nobody."
     ∷ (sponsoredOf (cableOf 5 3) (these (2 ∷ [])) 2 1 gives finds found.Nobody)
     ∷ (decidedOf (cableOf 5 3) (these (2 ∷ [])) 2 gives finds found.Nobody)

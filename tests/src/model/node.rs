@@ -206,8 +206,8 @@ impl Node {
     /// "bit 1 concerns the nearest member before the sender"; "Acknowledgement bits past ks are sent as 0"
     fn acknowledgements(&self) -> u32 {
         let mut acks = 0;
-        for (bit, member) in ring::sponsored(self.n, self.k, self.set, self.own).enumerate() {
-            if self.marks.has(member) {
+        for (bit, met) in ring::sponsored(self.n, self.k, self.set, self.own).enumerate() {
+            if self.marks.has(met.member) {
                 acks |= 1 << bit;
             }
         }
@@ -267,9 +267,9 @@ impl Node {
         };
         self.marks = self.marks.with(sender);
         // "ignored when heard": bits past ks concern nobody.
-        for (bit, member) in ring::sponsored(self.n, self.k, self.set, sender).enumerate() {
+        for (bit, met) in ring::sponsored(self.n, self.k, self.set, sender).enumerate() {
             if acks >> bit & 1 == 1 {
-                self.marks = self.marks.with(member);
+                self.marks = self.marks.with(met.member);
             }
         }
         if return_bit && self.returning == 0 {
@@ -298,11 +298,11 @@ impl Node {
     /// "the decided member leaves if its mark is off. If that is this node, it leaves with cause 1"
     pub fn step_3(&mut self, sender: u32) -> Result<(), Leaving> {
         match ring::decided(self.n, self.k, self.set, sender) {
-            Some(member) if !self.marks.has(member) => {
-                if member == self.own {
+            Some(met) if !self.marks.has(met.member) => {
+                if met.member == self.own {
                     return Err(Leaving::With(Cause::Unconfirmed));
                 }
-                self.set = self.set.without(member);
+                self.set = self.set.without(met.member);
             }
             _ => {}
         }
@@ -334,7 +334,7 @@ impl Node {
             return;
         }
         let nearest = ring::members_before(self.n, self.set, self.returning).next();
-        if nearest != Some(sender) {
+        if nearest.is_none_or(|met| met.member != sender) {
             return;
         }
         if self.state == State::Knocking && !self.return_heard {

@@ -1,4 +1,4 @@
-//! Document 01, "The ring".
+//! Document 01, "The ring", and document 02, request b.
 
 use super::refusal;
 
@@ -92,10 +92,18 @@ impl Set {
     }
 }
 
-/// The members before x, the nearest first, "going back round the ring in slot order".
-pub fn members_before(n: u32, set: Set, x: u32) -> impl Iterator<Item = u32> {
+/// A member that the walk back meets, and "how many slots back round the ring that member speaks".
+#[derive(Clone, Copy, PartialEq, Eq, Debug)]
+pub struct Met {
+    pub member: u32,
+    pub back: u32,
+}
+
+/// The members before x, the nearest first, "going back round the ring in slot order"; "the number of slots,
+/// from 1 to n - 1".
+pub fn members_before(n: u32, set: Set, x: u32) -> impl Iterator<Item = Met> {
     let node = move |back| if back < x { x - back } else { x + n - back };
-    (1..n).map(node).filter(move |&y| set.has(y))
+    (1..n).map(move |back| Met { member: node(back), back }).filter(move |met| set.has(met.member))
 }
 
 /// "With c members, ks is the smaller of k and c - 1." Nobody is sponsored where there is no member.
@@ -104,11 +112,11 @@ pub fn ks(k: u32, c: u32) -> u32 {
 }
 
 /// "A member *sponsors* the ks members before it": the nearest first, as the acknowledgement bits.
-pub fn sponsored(n: u32, k: u32, set: Set, x: u32) -> impl Iterator<Item = u32> {
+pub fn sponsored(n: u32, k: u32, set: Set, x: u32) -> impl Iterator<Item = Met> {
     members_before(n, set, x).take(ks(k, set.count()) as usize)
 }
 
 /// "The one furthest back is the member it *decides*. With one member nobody is decided."
-pub fn decided(n: u32, k: u32, set: Set, x: u32) -> Option<u32> {
+pub fn decided(n: u32, k: u32, set: Set, x: u32) -> Option<Met> {
     sponsored(n, k, set, x).last()
 }

@@ -1,9 +1,9 @@
--- `ring::member_before` meets its contract: the node of the place that the walk reaches says what it finds. Assumes nothing.
+-- `ring::member_before` meets its contract: the place that the walk reaches says what it finds. Assumes nothing.
 use mathlib.Core.Path.{ap, _∙_}
 use borrow.Author.Needs.{needs}
 use Rattle.ring.specs.declared.Place.{Place}
 use Rattle.ring.specs.Ring.{memberBefore}
-use Rattle.ring.specs.Places.{startAt, reach, foundAs}
+use Rattle.ring.specs.Places.{startAt, reach, foundAt}
 use Rattle.ring.proofs.Places.{reach-finds}
 use Rattle.ring.proofs.member_before.Statement.{statement}
 use Rattle.ring.proofs.member_before.Tie as tie
@@ -14,17 +14,17 @@ start-at-requires c κs = search needs
 walk-requires : tie.Need-walk-requires
 walk-requires c κs = search needs
 
-found-as-requires : tie.Need-found-as-requires
-found-as-requires c κs = search needs
+found-at-requires : tie.Need-found-at-requires
+found-at-requires c κs = search needs
 
 returns : tie.Need-returns
 unfolding memberBefore
 returns c =
     let a = c .before .before .before .args in
-    c .found-as .ensures
-    ∙ ap (λ (p : Place). foundAs (p .node)) (c .before .walk .ensures)
-    ∙ ap (λ (p : Place). foundAs (reach (p .left) (a .n) (a .set) (a .x) (a .j) .node)) (c .before .before .start-at .ensures)
+    c .found-at .ensures
+    ∙ ap (foundAt (a .n)) (c .before .walk .ensures)
+    ∙ ap (λ (p : Place). foundAt (a .n) (reach (p .left) (a .n) (a .set) (a .x) (a .j))) (c .before .before .start-at .ensures)
     ∙ reach-finds (startAt (a .n) (a .x) .left) (a .n) (a .set) (a .x) (a .j)
 
 pub member-before-spec : {M : Type 1} → statement M
-member-before-spec = tie.close (tie.spec start-at-requires walk-requires found-as-requires returns)
+member-before-spec = tie.close (tie.spec start-at-requires walk-requires found-at-requires returns)

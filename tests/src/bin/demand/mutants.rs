@@ -86,7 +86,8 @@ fn own_mark_stays(node: &Node, heard: Option<Said>) -> Node {
 
 /// The nodes before x by number: as many as a member sponsors, members or not.
 fn by_number(node: &Node, x: u32) -> impl Iterator<Item = u32> {
-    ring::members_before(node.n, Set::full(node.n), x).take(ring::ks(node.k, node.set.count()) as usize)
+    let sponsored = ring::ks(node.k, node.set.count()) as usize;
+    ring::members_before(node.n, Set::full(node.n), x).take(sponsored).map(|met| met.member)
 }
 
 fn acks_by_number(node: &Node) -> u32 {
@@ -97,7 +98,7 @@ fn acks_by_number(node: &Node) -> u32 {
 fn acks_by_member(node: &Node, sender: u32, acks: u32) -> u32 {
     let said_yes = |x| by_number(node, sender).position(|y| y == x).is_some_and(|bit| acks >> bit & 1 == 1);
     let sponsored = ring::sponsored(node.n, node.k, node.set, sender);
-    sponsored.enumerate().fold(0, |acks, (bit, x)| acks | u32::from(said_yes(x)) << bit)
+    sponsored.enumerate().fold(0, |acks, (bit, met)| acks | u32::from(said_yes(met.member)) << bit)
 }
 
 impl Mutant {

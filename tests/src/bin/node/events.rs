@@ -202,6 +202,6 @@ impl Slot<'_> {
         let Node { n, k, set, marks, .. } = *self.before;
         let yes = self.heard.is_some_and(|(acks, _)| acks & 1 == 1);
         let decided = ring::decided(n, k, set, self.sender);
-        set.has(self.sender) && set.count() == 2 && decided.is_some_and(|x| !marks.has(x) && !yes)
+        set.has(self.sender) && set.count() == 2 && decided.is_some_and(|met| !marks.has(met.member) && !yes)
     }
 }

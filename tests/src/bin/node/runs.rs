@@ -115,7 +115,8 @@ impl Trouble {
 fn sponsors(cable: &Cable, sender: u32) -> Set {
     let list =
         cable.nodes.iter().find(|node| node.state == State::Member).map_or(Set::EMPTY, |node| node.set);
-    let sponsor = |&x: &u32| members_before(cable.n, list, x).take(cable.k as usize).any(|y| y == sender);
+    let sponsor =
+        |&x: &u32| members_before(cable.n, list, x).take(cable.k as usize).any(|met| met.member == sender);
     list.nodes().filter(sponsor).fold(Set::EMPTY, Set::with)
 }
 

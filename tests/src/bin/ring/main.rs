@@ -1,5 +1,6 @@
 //! Sets of nodes and the ring: the library beside the model.
 
+mod answers;
 mod inputs;
 mod sets;
 mod slots;
@@ -16,7 +17,7 @@ const CASES: &[Case] = &[
         run: vectors::senders,
     },
     Case {
-        name: "vectors: members sponsored and decided by document 01, model and library",
+        name: "vectors: members sponsored and decided, slots back, by document 01 and request b, model and library",
         meets: &[0, 1, 2, 3],
         run: vectors::walks,
     },

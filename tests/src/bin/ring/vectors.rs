@@ -1,8 +1,9 @@
-//! Literal inputs and answers, typed from document 01; neither side makes an expected answer.
+//! Literal inputs and answers, typed from document 01 and request b; neither side makes an expected answer.
 
-use comparison::library;
+use super::answers::{found, Expected};
+use comparison::library::{self, Found};
 use comparison::model::refusal;
-use comparison::model::ring::{self, Set};
+use comparison::model::ring::{self, Met, Set};
 use comparison::report::Count;
 
 /// n, the slot, its sender or the number of the refusal.
@@ -45,25 +46,36 @@ pub fn senders(count: &mut Count) -> Result<(), String> {
     Ok(())
 }
 
-/// n, k, the set, the node; the members that it sponsors, the nearest first, of which it decides the
-/// last; or the number of the refusal.
-type Walk = (u32, u32, u32, u32, Result<&'static [u32], u32>);
+/// n, k, the set, the node; the members that it sponsors, the nearest first, each with the number of slots
+/// back, of which it decides the last; or the number of the refusal.
+type Walk = (u32, u32, u32, u32, Result<&'static [(u32, u32)], u32>);
 
 #[rustfmt::skip]
 const WALKS: &[Walk] = &[
     // "P: set {1,3,4}, k = 2: node 1 sponsors 4, 3 and decides 3."
-    (4, 2, 0b1101, 1, Ok(&[4, 3])),
+    (4, 2, 0b1101, 1, Ok(&[(4, 1), (3, 2)])),
     // "P: set {2,5}, k = 3: node 5 sponsors and decides 2."
-    (5, 3, 0b1_0010, 5, Ok(&[2])),
-    (32, 3, 0b1_0010, 5, Ok(&[2])),
+    (5, 3, 0b1_0010, 5, Ok(&[(2, 3)])),
+    (32, 3, 0b1_0010, 5, Ok(&[(2, 3)])),
+    // The other way, past node 1 to node n.
+    (5, 3, 0b1_0010, 2, Ok(&[(5, 2)])),
+    (32, 3, 0b1_0010, 2, Ok(&[(5, 29)])),
     // "P: set {2}: nobody."
     (5, 3, 0b10, 2, Ok(&[])),
     (3, 2, 0b10, 2, Ok(&[])),
-    // "going back round the ring in slot order": not by number across gaps, and past node 1 to node n.
-    (8, 3, 0b1100_0110, 7, Ok(&[3, 2, 8])),
-    (32, 2, 0x8000_0001, 1, Ok(&[32])),
+    // "going back round the ring in slot order": not by number across gaps.
+    (8, 3, 0b1100_0110, 7, Ok(&[(3, 4), (2, 5), (8, 7)])),
+    (32, 2, 0x8000_0001, 1, Ok(&[(32, 1)])),
+    // "from 1 to n - 1"
+    (32, 2, 0x8000_0001, 32, Ok(&[(1, 31)])),
+    (3, 2, 0b11, 1, Ok(&[(2, 2)])),
+    (4, 3, 0b1111, 2, Ok(&[(1, 1), (4, 2), (3, 3)])),
+    // A node outside the set.
+    (6, 3, 0b10_0101, 2, Ok(&[(1, 1), (6, 2)])),
     (32, 31, 0xFFFF_FFFF, 32, Ok(&[
-        31, 30, 29, 28, 27, 26, 25, 24, 23, 22, 21, 20, 19, 18, 17, 16, 15, 14, 13, 12, 11, 10, 9, 8, 7, 6, 5, 4, 3, 2, 1,
+        (31, 1), (30, 2), (29, 3), (28, 4), (27, 5), (26, 6), (25, 7), (24, 8), (23, 9), (22, 10), (21, 11),
+        (20, 12), (19, 13), (18, 14), (17, 15), (16, 16), (15, 17), (14, 18), (13, 19), (12, 20), (11, 21),
+        (10, 22), (9, 23), (8, 24), (7, 25), (6, 26), (5, 27), (4, 28), (3, 29), (2, 30), (1, 31),
     ])),
     // "Checks run in table order".
     (2, 1, 0b11, 9, Err(1)),
@@ -74,41 +86,47 @@ const WALKS: &[Walk] = &[
     (4, 2, 0b11, 5, Err(3)),
 ];
 
-/// What the library answers to each j from 1 until nobody is found, and to j = 0.
-fn by_library(n: u32, k: u32, set: u32, x: u32) -> Result<Vec<u64>, u64> {
-    let mut members = Vec::new();
-    if let Some(zeroth) = library::sponsored(n, k, set, x, 0)? {
-        members.push(zeroth);
-    }
-    for j in 1..=40 {
-        match library::sponsored(n, k, set, x, j)? {
-            Some(member) => members.push(member),
-            None => break,
-        }
-    }
-    Ok(members)
+fn met(&(member, back): &(u32, u32)) -> Met {
+    Met { member, back }
 }
 
+/// What both sides answer beside what is typed.
+fn same(
+    count: &mut Count,
+    typed: Expected,
+    by_model: Expected,
+    by_library: Found,
+    call: impl Fn() -> String,
+) -> Result<(), String> {
+    for (who, got) in [("model", found(by_model)), ("library", by_library)] {
+        count.check(got == found(typed), || format!("{}: {who} {got:?}, expected {typed:?}", call()))?;
+    }
+    Ok(())
+}
+
+/// The members sponsored, from the 0th, which is nobody, to the 40th; those before the node, as far as they are
+/// typed; and the one decided.
 pub fn walks(count: &mut Count) -> Result<(), String> {
     for &(n, k, set, x, expected) in WALKS {
         count.expected(expected.err().unwrap_or(0));
-        let checked = ring::check(n, Some(k), x).map_err(u64::from);
-        let sponsored = checked.map(|()| ring::sponsored(n, k, Set(set), x).map(u64::from).collect());
-        let decided = checked.map(|()| ring::decided(n, k, Set(set), x).map(u64::from));
-        let sides = [
-            ("model", sponsored, decided),
-            ("library", by_library(n, k, set, x), library::decided(n, k, set, x)),
-        ];
-        let members: Result<Vec<u64>, u64> =
-            expected.map(|nodes| nodes.iter().copied().map(u64::from).collect()).map_err(u64::from);
-        let last = members.as_ref().map(|nodes| nodes.last().copied()).map_err(|&number| number);
-        for (who, sponsored, decided) in sides {
-            count.check(sponsored == members && decided == last, || {
-                format!(
-                    "n = {n}, k = {k}, set = {set:#X}, node {x}: {who} sponsors {sponsored:?} and decides {decided:?}, document 01 {expected:?}"
-                )
+        let call = |name: String| format!("{name} n = {n}, k = {k}, set = {set:#X}, node {x}");
+        let checked = ring::check(n, Some(k), x);
+        let sponsored = |j: u32| ring::sponsored(n, k, Set(set), x).nth(j.checked_sub(1)? as usize);
+        for j in 0..=40u32 {
+            let typed = expected.map(|members| members.get(j.checked_sub(1)? as usize).map(met));
+            let by_library = library::sponsored(n, k, set, x, j);
+            same(count, typed, checked.map(|()| sponsored(j)), by_library, || {
+                call(format!("{j}. sponsored"))
             })?;
         }
+        for (j, member) in (1..).zip(expected.into_iter().flatten()) {
+            let by_model = ring::members_before(n, Set(set), x).nth(j as usize - 1);
+            let by_library = library::before(n, set, x, j);
+            same(count, Ok(Some(met(member))), Ok(by_model), by_library, || call(format!("{j}. before")))?;
+        }
+        let typed = expected.map(|members| members.last().map(met));
+        let by_model = checked.map(|()| ring::decided(n, k, Set(set), x));
+        same(count, typed, by_model, library::decided(n, k, set, x), || call("decided".to_string()))?;
     }
     Ok(())
 }

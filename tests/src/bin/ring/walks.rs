@@ -1,37 +1,77 @@
-//! The walk back: the members before a node, sponsored and decided.
+//! The walk back: the members before a node, sponsored and decided, and how many slots back each speaks.
 
+use super::answers::{found, Expected};
 use super::inputs::{chosen_sets, small_sets};
-use comparison::library;
-use comparison::model::ring::{self, Set};
+use comparison::library::{self, Found};
+use comparison::model::ring::{self, Met, Set};
+use comparison::model::roll::Roll;
 use comparison::numbers::small_and_large;
 use comparison::random::Random;
 use comparison::report::Count;
 
-/// A member or nobody, or the number of the refusal.
-type Found = Result<Option<u32>, u32>;
+/// A node x of a ring of n with this set, and a number of members.
+#[derive(Clone, Copy)]
+struct Walk {
+    n: u32,
+    set: u32,
+    x: u32,
+    j: u32,
+}
 
+impl Walk {
+    /// Counted by slots: the member is that of so many slots before a slot of x, 1 to n - 1, and just j members
+    /// speak from there on, it the first.
+    fn meets(self, met: Met) -> bool {
+        let slot = u64::from(self.n + self.x);
+        let speaker = |back: u32| ring::sender(self.n, slot - u64::from(back));
+        let set = Roll::of(self.set);
+        (1..self.n).contains(&met.back)
+            && speaker(met.back) == met.member
+            && set.has(met.member)
+            && (1..=met.back).filter(|&back| set.has(speaker(back))).count() == self.j as usize
+    }
+}
+
+fn note(count: &mut Count, n: u32, expected: Expected) {
+    count.expected(expected.err().unwrap_or(0));
+    match expected {
+        Ok(Some(met)) => {
+            count.event("found: a member");
+            count.event(match met.back {
+                1 => "slots back: 1",
+                back if back == n - 1 => "slots back: n - 1",
+                _ => "slots back: 2 to n - 2",
+            });
+        }
+        Ok(None) => count.event("found: nobody"),
+        Err(_) => {}
+    }
+}
+
+/// The library beside the model, and what is found beside the slots that are walked.
 fn same(
     count: &mut Count,
-    expected: Found,
-    got: library::Found,
-    call: impl FnOnce() -> String,
+    walk: Walk,
+    expected: Expected,
+    got: Found,
+    call: impl Fn() -> String,
 ) -> Result<(), String> {
-    count.expected(expected.err().unwrap_or(0));
-    if let Ok(found) = expected {
-        count.event(if found.is_some() { "found: a member" } else { "found: nobody" });
+    note(count, walk.n, expected);
+    count.check(got == found(expected), || format!("{}: library {got:?}, model {expected:?}", call()))?;
+    match expected {
+        Ok(Some(met)) => count.check(walk.meets(met), || format!("{}: by slots not {met:?}", call())),
+        _ => Ok(()),
     }
-    let answer = expected.map(|x| x.map(u64::from)).map_err(u64::from);
-    count.check(got == answer, || format!("{}: library {got:?}, model {expected:?}", call()))
 }
 
 /// The j-th of the members met; there is no 0th.
-fn jth(mut members: impl Iterator<Item = u32>, j: u32) -> Option<u32> {
+fn jth(mut members: impl Iterator<Item = Met>, j: u32) -> Option<Met> {
     members.nth(j.checked_sub(1)? as usize)
 }
 
 fn before(count: &mut Count, n: u32, set: u32, x: u32, j: u32) -> Result<(), String> {
     let expected = ring::check(n, None, x).map(|()| jth(ring::members_before(n, Set(set), x), j));
-    same(count, expected, library::before(n, set, x, j), || {
+    same(count, Walk { n, set, x, j }, expected, library::before(n, set, x, j), || {
         format!("before n = {n}, set = {set:#X}, node {x}, j = {j}")
     })
 }
@@ -40,15 +80,17 @@ fn before(count: &mut Count, n: u32, set: u32, x: u32, j: u32) -> Result<(), Str
 fn sponsored(count: &mut Count, n: u32, k: u32, set: u32, x: u32, j: u32) -> Result<(), String> {
     let members = Set(set).up_to(n);
     let expected = ring::check(n, Some(k), x).map(|()| jth(ring::sponsored(n, k, members, x), j));
-    same(count, expected, library::sponsored(n, k, set, x, j), || {
+    same(count, Walk { n, set, x, j }, expected, library::sponsored(n, k, set, x, j), || {
         format!("sponsored n = {n}, k = {k}, set = {set:#X}, node {x}, j = {j}")
     })
 }
 
+/// The ks-th member before it.
 fn decided(count: &mut Count, n: u32, k: u32, set: u32, x: u32) -> Result<(), String> {
     let members = Set(set).up_to(n);
     let expected = ring::check(n, Some(k), x).map(|()| ring::decided(n, k, members, x));
-    same(count, expected, library::decided(n, k, set, x), || {
+    let j = ring::ks(k, Roll::of(set).up_to(n).count());
+    same(count, Walk { n, set, x, j }, expected, library::decided(n, k, set, x), || {
         format!("decided n = {n}, k = {k}, set = {set:#X}, node {x}")
     })
 }
@@ -76,8 +118,9 @@ fn ring_of(count: &mut Count, n: u32, set: u32) -> Result<(), String> {
 }
 
 /// What the inputs of each case must lead to.
-fn both_found(count: &Count) -> Result<(), String> {
-    count.needs(&["found: a member", "found: nobody"])
+fn all_found(count: &Count) -> Result<(), String> {
+    count.needs(&["found: a member", "found: nobody"])?;
+    count.needs(&["slots back: 1", "slots back: 2 to n - 2", "slots back: n - 1"])
 }
 
 pub fn small_rings(count: &mut Count) -> Result<(), String> {
@@ -86,7 +129,7 @@ pub fn small_rings(count: &mut Count) -> Result<(), String> {
             ring_of(count, n, set)?;
         }
     }
-    both_found(count)
+    all_found(count)
 }
 
 pub fn large_rings(count: &mut Count) -> Result<(), String> {
@@ -95,7 +138,7 @@ pub fn large_rings(count: &mut Count) -> Result<(), String> {
             ring_of(count, n, set)?;
         }
     }
-    both_found(count)
+    all_found(count)
 }
 
 /// Random sets for each n: with numbers above n, without these, and with about half of the rest.
@@ -110,7 +153,7 @@ pub fn all_rings(count: &mut Count) -> Result<(), String> {
             }
         }
     }
-    both_found(count)
+    all_found(count)
 }
 
 /// A number to n + 1 for most calls, else a small or a large one.
@@ -136,5 +179,5 @@ pub fn random(count: &mut Count) -> Result<(), String> {
         sponsored(count, n, k, set, x, j)?;
         decided(count, n, k, set, x)?;
     }
-    both_found(count)
+    all_found(count)
 }
