@@ -5,3 +5,4 @@ pub mod Accepted
 pub mod Runs
 pub mod SlotKinds
 pub mod Computed
+pub mod Ledgers

@@ -1,4 +1,4 @@
--- What each call of the bench answers and what table it leaves, refusals included (document 01, "The bench" and "Causes and their numbers"):
+-- What each call of the bench answers and what table it leaves, refusals included (document 01, "The bench" and "Causes and their numbers"; the ledger of document 02 is added in specs/Kept):
 -- "Checks run in table order, except that .. 4 comes just before 3 where n is taken from a record .. Off and restart don't test 5." A refused call
 -- leaves the table as it was.
 use Prim.Native.Nat.{ℕ, max}

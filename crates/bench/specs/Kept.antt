@@ -1,9 +1,12 @@
 -- Slot and off with the ledger that is lent beside the table (document 02, request a): "In slot and off, a ledger whose length is not n, or with a count above the slot count plus one:
 -- 13, just before 5." The other calls neither test nor change it.
 use Prim.Native.Nat.{ℕ, _+_}
+use mathlib.Core.Path.{_≡_}
+use mathlib.Core.Logic.{_⊎_}
 use mathlib.Core.Bool.{Bool}
 use mathlib.Core.List.{List}
 use lib.ListN.{length}
+use Rattle.refusal.specs.Causes.{cause}
 use Rattle.nodeset.specs.Sets.{within}
 use Rattle.ring.specs.Ring.{nodeNumber}
 use Rattle.node.specs.declared.Answer.{Answer}
@@ -42,6 +45,13 @@ calledWith (command.Off a) room ledger t = offWith a ledger t
 calledWith (command.Restart a) room ledger t = calledOf (command.Restart a) room t
 calledWith (command.Slot lost missed) room ledger t = slotWith lost missed room ledger t
 calledWith (command.Look lost) room ledger t = calledOf (command.Look lost) room t
+
+-- With any ledger a call is the one without it, or it is refused by 13 and leaves the table. So what is said of all sequences of calls on tables (demand 3) is said of those with a ledger, too: one that
+-- is refused by 13 is no slot and changes nothing.
+abbrev pub OnlyRefuses : Type 0
+OnlyRefuses =
+    (c : Command) (room : ℕ) (ledger : Ledger) (t : Table)
+    → (calledWith c room ledger t ≡ calledOf c room t) ⊎ (calledWith c room ledger t ≡ record { table = t; answer = answer.Refused (cause 13) })
 
 -- A leaving in a slot has that slot's number; "`off` counts as a leaving if the node was a member, dated with the slots done so far".
 abbrev pub dateOf : Command → Table → ℕ

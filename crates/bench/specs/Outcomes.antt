@@ -1,4 +1,4 @@
--- What each call leaves and answers (document 01, "The bench" and "The bench program").
+-- What each call leaves and answers (document 01, "The bench" and "The bench program"; the ledger of document 02 is added in specs/Kept).
 use Prim.Native.Nat.{ℕ}
 use mathlib.Core.Path.{_≡_}
 use mathlib.Core.Bool.{Bool}

@@ -1,5 +1,5 @@
 -- Inner: what a call has each record of a table do, and what is noted as it is done: the pairs, who left and who joined, and the list. The laws in bench_calls' proofs/ tie it
--- to bench's specs/Calls, specs/Pairs and specs/Outcomes.
+-- to bench's specs/Calls, specs/Pairs, specs/Outcomes and specs/Ledger.
 use Prim.Native.Nat.{ℕ, zero, suc, _+_, _*_}
 use mathlib.Core.Bool.{Bool, true, cond, _&&_}
 use mathlib.Core.List.{List}

@@ -1,8 +1,6 @@
 // Whether a state changed, and how, by value.
 use node_record::State;
 ghost use mathlib.Core.Path.{_≡_};
-ghost use mathlib.Core.Bool.{cond};
-ghost use Rattle.nodeset.specs.Sets.{with};
 ghost use Rattle.bench.specs.Pairs.{sameState, kindFrom};
 
 pub fn same_state(a: State, b: State) -> bool
@@ -40,14 +38,4 @@ pub fn kind_from(a: State, b: State) -> u8
         return 6;
     }
     0
-}
-
-// The set, with a node where so it is.
-pub fn with_if(so: bool, set: u32, x: u32) -> u32
-    ensures { λ r. ⌜ r ≡ cond so (with set x) set ⌝ }
-{
-    if so {
-        return nodeset::with(set, x);
-    }
-    set
 }

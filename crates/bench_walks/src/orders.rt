@@ -1,4 +1,4 @@
-// What each record of a table is to do, by value: the tests of each call, in the table's order.
+// What each record of a table is to do, by value: the tests of each call, in their order.
 use crate::Order;
 use crate::Survey;
 use crate::Turn;

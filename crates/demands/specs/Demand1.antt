@@ -1,5 +1,5 @@
 -- Demand 1: every message, plan text, node record and sequence of calls ends in a result or a numbered refusal, and a refusal changes no record and no lent
--- byte. There is a clause for each call, over the definition that its contract cites and for all numbers, bytes, records, tables and plans; so it holds of each
+-- byte. There is a clause for each call, over the definition that its contract cites and for all numbers, bytes, records, tables, ledgers and plans; so it holds of each
 -- call of every sequence, whatever the calls before it left. What is printed of a plan text, its refused line included, is `printed` (plan_program's specs/Program).
 use Prim.Native.Nat.{ℕ}
 use mathlib.Core.Path.{_≡_}

@@ -1,5 +1,5 @@
--- Each figure of the ledger is its tally (specs/Tallies). A node is a member once more than it left and joined, and joins in slots alone; so no count passes the
--- slot count plus one, no call is refused by 13, and each call with the ledger is the call without it. Assumes nothing.
+-- Each figure of the ledger is its tally (specs/Tallies). Of each node: how often it left, and one more if it is a member, is how often it joined and one more; and it
+-- joins in slots alone. So no count passes the slot count plus one, no call is refused by 13, and each call with the ledger is the call without it. Assumes nothing.
 use Prim.Native.Nat.{ℕ, zero, suc, _+_, _-_, _≤_, _<_}
 use mathlib.Core.Path.{_≡_, refl, sym, ap, _∙_}
 use mathlib.Core.Logic.{_≢_}
@@ -74,7 +74,7 @@ figures-next date a b l j d = go (isMember a) (isMember b)
     go false true = ap (λ (x : ℕ). figures x (j + 1) d) (z l)
     go false false = ap (λ (x : ℕ). figures x j d) (z l) ∙ ap (λ (x : ℕ). figures (l + 0) x d) (z j)
 
--- one call on, the node is a member once more than it left and joined
+-- one call on, leavings and joinings balance
 balance-next : (a b : State) → num (isLeaving a b) + num (isMember b) ≡ num (isJoining a b) + num (isMember a)
 balance-next a b = go (isMember a) (isMember b)
   where
@@ -311,7 +311,7 @@ module _ (cable : Cable) (ring : ringSize (cable .n) ≡ true) (sponsors : spons
   long : (cs : List Call) → length (tableAfter start cs) ≡ cable .n
   long cs = run-length cable pos start begins cs
 
-  -- of each node: a member once more than it left and joined, and joined in slots alone
+  -- of each node: leavings and joinings balance, and it joined in slots alone
   record Counts (cs : List Call) (i : ℕ) : Type 0 where
     balance : timesLeft start cs i + num (isMember (recordOf (tableAfter start cs) i .state)) ≡ timesJoined start cs i + 1
     few : timesJoined start cs i ≤ slotsOf (tableAfter start cs)
@@ -376,6 +376,7 @@ pub ledger-tallies : LedgerTallies
 unfolding keptOf
 ledger-tallies cable ring sponsors lent one-each cs = record {
   tables = k .tables;
+  size = k .size;
   entries = k .entries;
   never-13 = λ c e.
       call-not-13 c (tableAfter (setUpOf cable lent .table) cs)

@@ -1,4 +1,4 @@
--- "Each figure must equal the tally over the whole history of slots and switchings" (document 02, request a). The tally is told by the tables of the calls (bench's specs/Runs) alone.
+-- "Each figure must equal the tally over the whole history of slots and switchings" (document 02, request a). The tally is told by the calls and their tables (bench's specs/Runs), not by the ledger.
 use Prim.Native.Nat.{ℕ, _+_, _-_, _≤_}
 use mathlib.Core.Path.{_≡_}
 use mathlib.Core.Logic.{_≢_}
@@ -41,10 +41,11 @@ module _ (start : Table) where
   lastLeaving [] i = 0
   lastLeaving (c ∷ cs) i = cond (leaves c (tableAfter start cs) i) (dateOf (commandOf c) (tableAfter start cs)) (lastLeaving cs i)
 
--- Over every sequence of calls from the common start and a ledger of zeros: the tables are those of the calls without a ledger, each figure is its tally, and no call is
--- refused by 13.
+-- Over every sequence of calls from the common start and a ledger of zeros: the tables are those of the calls without a ledger, the ledger has an entry for each node,
+-- each figure is its tally, and no call is refused by 13.
 pub record Tallied (cable : Cable) (start : Table) (cs : List Call) : Type 0 where
   pub tables : benchAfter (record { table = start; ledger = zeros (cable .n) }) cs .table ≡ tableAfter start cs
+  pub size : length (benchAfter (record { table = start; ledger = zeros (cable .n) }) cs .ledger) ≡ cable .n
   pub entries : (i : ℕ) → i ≤ cable .n → 1 ≤ i
       → getD (benchAfter (record { table = start; ledger = zeros (cable .n) }) cs .ledger) (i - 1) []
       ≡ figures (timesLeft start cs i) (timesJoined start cs i) (lastLeaving start cs i)

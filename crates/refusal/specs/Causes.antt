@@ -1,4 +1,4 @@
--- Document 01, "Causes and their numbers": the number of each cause.
+-- Document 01, "Causes and their numbers", and the causes of document 02: the number of each.
 use Prim.Native.Nat.{ℕ}
 use mathlib.Core.Bool.{cond}
 use lib.Dec.{eqb}

@@ -1,4 +1,4 @@
--- Laws of the places that a walk back reaches (specs/Places): its node says what the walk finds, and the walk goes on from there. Assumes nothing.
+-- Laws of the places that a walk back reaches (specs/Places): they say what the walk finds, and the walk goes on from there. Assumes nothing.
 use Prim.Native.Nat.{ℕ, zero, suc, _+_, _-_, _≤_}
 use mathlib.Core.Path.{_≡_, refl, sym, ap, _∙_}
 use mathlib.Core.Logic.{_≢_}

@@ -25,5 +25,7 @@ pub record StandsBack (n set x j m back : ℕ) : Type 0 where
   pub listed : has set m ≡ true
   pub count : membersBack n set x back ≡ j
 
-abbrev pub FoundBack : Type 0
-FoundBack = (n set x j m back : ℕ) → memberBefore n set x j ≡ Member m back → StandsBack n set x j m back
+-- So it is of each member found, and whoever stands so is found: "Where there is no such member it gives none."
+pub record FoundBack : Type 0 where
+  pub found : (n set x j m back : ℕ) → memberBefore n set x j ≡ Member m back → StandsBack n set x j m back
+  pub finds : (n set x j m back : ℕ) → StandsBack n set x j m back → memberBefore n set x j ≡ Member m back

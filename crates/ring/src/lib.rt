@@ -1,5 +1,5 @@
-// The ring (document 01, "The ring"): whose slot it is, and which members stand before a node. A
-// set is any u32; its members are the nodes 1 to n in it.
+// The ring (document 01, "The ring"): whose slot it is, and which members stand before a node and how
+// far back. A set is any u32; its members are the nodes 1 to n in it.
 use refusal::Refusal;
 ghost use mathlib.Core.Path.{_≡_};
 ghost use Prim.Native.Nat.{_+_, _-_};

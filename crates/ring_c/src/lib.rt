@@ -124,23 +124,26 @@ pub extern "C" fn ring_sender(n: u32, done: u64) -> u64
     }
 }
 
-// 2^33 and the member, or 2^33 and 2^32 for nobody.
+// Nobody: 2^33 and 2^32, which is no number of 32 bits.
+const NOBODY: u64 = 0x3_0000_0000;
+
+// 2^33 and the member, or nobody.
 fn found_number(found: Found) -> u64
     ensures { λ r. ⌜ r ≡ foundNumber found ⌝ }
 {
     match found {
         Found::Member(x, _) => 0x2_0000_0000 + x as u64,
-        Found::Nobody => 0x3_0000_0000,
+        Found::Nobody => NOBODY,
     }
 }
 
-// 2^33 and how many slots back the member speaks, or 2^33 and 2^32 for nobody.
+// 2^33 and how many slots back the member speaks, or nobody.
 fn back_number(found: Found) -> u64
     ensures { λ r. ⌜ r ≡ backNumber found ⌝ }
 {
     match found {
         Found::Member(_, back) => 0x2_0000_0000 + back as u64,
-        Found::Nobody => 0x0003_0000_0000,
+        Found::Nobody => NOBODY,
     }
 }
 

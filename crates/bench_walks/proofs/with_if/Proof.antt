@@ -1,9 +1,9 @@
--- `bench_walks::kinds::with_if` meets its contract. Assumes nothing.
+-- `bench_walks::with_if` meets its contract. Assumes nothing.
 use borrow.Author.Needs.{needs}
 use mathlib.Core.Path.{sym, _∙_}
 use Rattle.nodeset.proofs.Tests.{chosen}
-use Rattle.bench_walks.proofs.kinds.with_if.Statement.{statement}
-use Rattle.bench_walks.proofs.kinds.with_if.Tie as tie
+use Rattle.bench_walks.proofs.with_if.Statement.{statement}
+use Rattle.bench_walks.proofs.with_if.Tie as tie
 
 with-requires : tie.Need-with-requires
 with-requires c κs = search needs
