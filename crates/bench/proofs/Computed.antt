@@ -12,8 +12,9 @@ use Rattle.node_slot.specs.Slot as slot
 use Rattle.node.specs.Calls as node
 use Rattle.bench.specs.Table.{recordOf, eachFrom, placedFrom, tableSound, slotsOf, speaker}
 use Rattle.bench.specs.Calls.{setUpOf, transmits, spoken, heardBy, tableAfterSlot, slotOf, offOf, restartOf, listIn, farthest, greatest, fateOf}
+use Rattle.bench.specs.Pairs.{pairBytes, groupFrom, pairsIn}
 use Rattle.bench.specs.Runs.{callOf, tableAfter, isSlot, listOf, isListed, misses, failuresIn, entry}
 
 unfoldable pub computed : Unit {0}
-unfolding xor sum has with without full subset size distance runFrom sender previous walk memberBefore sponsors sponsored decided sound leave confirmed noted join settle trackingSlot clean windowEnd goesOn listeningSlot markBits bitsSent slot.afterSlot node.stepOf node.offOf node.restartOf recordOf eachFrom placedFrom tableSound slotsOf speaker setUpOf transmits spoken heardBy tableAfterSlot slotOf offOf restartOf listIn farthest greatest fateOf callOf tableAfter isSlot listOf isListed misses failuresIn entry
+unfolding xor sum has with without full subset size distance runFrom sender previous walk memberBefore sponsors sponsored decided sound leave confirmed noted join settle trackingSlot clean windowEnd goesOn listeningSlot markBits bitsSent slot.afterSlot node.stepOf node.offOf node.restartOf recordOf eachFrom placedFrom tableSound slotsOf speaker setUpOf transmits spoken heardBy tableAfterSlot slotOf offOf restartOf listIn farthest greatest fateOf pairBytes groupFrom pairsIn callOf tableAfter isSlot listOf isListed misses failuresIn entry
 computed = tt

@@ -16,7 +16,7 @@ use Rattle.bench.specs.declared.Command.the-variants as command
 use Rattle.bench.specs.declared.Reply.{Reply}
 use Rattle.bench.specs.Table.{Table, tableSound, nodeCount, slotsOf}
 use Rattle.bench.specs.Calls.{Called, ifPassed, slotOf, offOf}
-use Rattle.bench.specs.Outcomes.{calledOf, endedBy, BytesBy}
+use Rattle.bench.specs.Outcomes.{calledOf, endedBy, bytesBy}
 use Rattle.bench.specs.Ledger.{Ledger, ledgerFits, ledgerAfter}
 
 -- ---- slot: 4, 3, 13, then what the slot without a ledger answers (5 and 9)
@@ -86,5 +86,5 @@ keptOf c room ledger t =
     record { table = called .table; ledger = ledgerWith c t called ledger; reply = endedBy c t called .reply }
 
 -- The lent bytes after a call.
-abbrev pub BytesWith : Command → Ledger → Table → List ℕ → List ℕ → Type 0
-BytesWith c ledger t out written = BytesBy c t (calledWith c (length out) ledger t) out written
+abbrev pub bytesWith : Command → Ledger → Table → List ℕ → List ℕ
+bytesWith c ledger t out = bytesBy c t (calledWith c (length out) ledger t) out

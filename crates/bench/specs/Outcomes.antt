@@ -1,6 +1,5 @@
 -- What each call leaves and answers (document 01, "The bench" and "The bench program"; the ledger of document 02 is added in specs/Kept).
 use Prim.Native.Nat.{ℕ}
-use mathlib.Core.Path.{_≡_}
 use mathlib.Core.Bool.{Bool}
 use mathlib.Core.List.{List}
 use Rattle.ring.specs.Ring.{cableOf}
@@ -13,7 +12,7 @@ use Rattle.bench.specs.declared.Outcome.the-variants as outcome
 use Rattle.bench.specs.declared.Reply.{Reply}
 use Rattle.bench.specs.Table.{Table, nodeCount, slotsOf, speaker}
 use Rattle.bench.specs.Calls.{Called, setUpOf, slotOf, offOf, restartOf, lookOf, listIn, greatest, fateOf}
-use Rattle.bench.specs.Pairs.{pairsTold, SlotBytes}
+use Rattle.bench.specs.Pairs.{pairsTold, slotBytes}
 
 -- The call that a command asks for, where so many bytes are lent for the pairs.
 abbrev pub calledOf : Command → ℕ → Table → Called
@@ -70,9 +69,9 @@ unfoldable pub endedOf : Command → ℕ → Table → Ended
 endedOf c room t = endedBy c t (calledOf c room t)
 
 -- The lent bytes after a call that came to this: no call but a slot changes one.
-abbrev pub BytesBy : Command → Table → Called → List ℕ → List ℕ → Type 0
-BytesBy (command.SetUp n k) t called out written = written ≡ out
-BytesBy (command.Off a) t called out written = written ≡ out
-BytesBy (command.Restart a) t called out written = written ≡ out
-BytesBy (command.Slot lost missed) t called out written = SlotBytes t called out written
-BytesBy (command.Look lost) t called out written = written ≡ out
+abbrev pub bytesBy : Command → Table → Called → List ℕ → List ℕ
+bytesBy (command.SetUp n k) t called out = out
+bytesBy (command.Off a) t called out = out
+bytesBy (command.Restart a) t called out = out
+bytesBy (command.Slot lost missed) t called out = slotBytes t called out
+bytesBy (command.Look lost) t called out = out

@@ -1,18 +1,15 @@
 -- The pairs of a slot (document 01, "The bench"): "two bytes per node whose state changed: node, then kind .. the bytes after them are untouched, and the
--- number of pairs is returned. The order among changes of one slot is left open."
-use Prim.Native.Nat.{ℕ, _+_, _*_}
-use mathlib.Core.Path.{_≡_}
+-- number of pairs is returned." Their order is that of document 02, request c.
+use Prim.Native.Nat.{ℕ, suc}
 use mathlib.Core.Bool.{Bool, cond, not, _&&_, _||_}
 use mathlib.Core.List.{List, [], _∷_, _++_}
 use lib.Dec.{eqb}
 use lib.ListN.{length, drop}
-use Rattle.nodeset.specs.Sums.{sum, num}
-use Rattle.ring.specs.Ring.{nodeNumber}
 use Rattle.node_record.specs.declared.State.{State}
 use Rattle.node_record.specs.States.{isMember, isListening, isFollowing, isKnocking, isOut}
 use Rattle.node.specs.declared.Answer.{Answer}
 use Rattle.node.specs.declared.Answer.the-variants as answer
-use Rattle.bench.specs.Table.{Table, recordOf, nodeCount}
+use Rattle.bench.specs.Table.{Table}
 use Rattle.bench.specs.Calls.{Called}
 
 -- One of the states "member, listening, following, knocking, out" twice.
@@ -35,18 +32,6 @@ kindFrom a b =
     (cond (isKnocking a && isFollowing b) 5
     (cond ((isFollowing a || isKnocking a) && isListening b) 6 0)))))
 
--- Node x, in a table before a slot and in the one after it: did its state change, and how?
-unfoldable pub isChanged : Table → Table → ℕ → Bool
-isChanged before after x =
-    nodeNumber (nodeCount before) x && not (sameState (recordOf before x .state) (recordOf after x .state))
-
-unfoldable pub kindOf : Table → Table → ℕ → ℕ
-kindOf before after x = kindFrom (recordOf before x .state) (recordOf after x .state)
-
--- How many nodes changed their states.
-unfoldable pub changeCount : Table → Table → ℕ
-changeCount before after = sum (λ x. num (isChanged before after x)) 1 (nodeCount before)
-
 -- A pair, and the bytes of pairs.
 abbrev pub Pair : Type 0
 Pair = ℕ × ℕ
@@ -55,35 +40,37 @@ unfoldable pub pairBytes : List Pair → List ℕ
 pairBytes [] = []
 pairBytes (p ∷ ps) = p .0 ∷ p .1 ∷ pairBytes ps
 
--- How often a pair stands among pairs.
-unfoldable pub times : Pair → List Pair → ℕ
-times p [] = 0
-times p (q ∷ ps) = num (eqb (q .0) (p .0) && eqb (q .1) (p .1)) + times p ps
+-- A change of kind 1, and any other.
+abbrev pub leaves : State → State → Bool
+leaves a b = not (sameState a b) && eqb (kindFrom a b) 1
 
--- "Each node whose state changed stands once, with its kind", and nothing else stands there.
-abbrev pub Tells : Table → Table → List Pair → Type 0
-Tells before after ps =
-    (x kind : ℕ) → times (x, kind) ps ≡ num (isChanged before after x && eqb kind (kindOf before after x))
+abbrev pub changesElse : State → State → Bool
+changesElse a b = not (sameState a b) && not (eqb (kindFrom a b) 1)
 
--- The lent bytes afterwards: the pairs in some order, as many as nodes changed their states, and after two bytes for each what stood there.
-pub record Reported (before after : Table) (out written : List ℕ) : Type 0 where
-  pub pairs : List Pair
-  pub tells : Tells before after pairs
-  pub number : length pairs ≡ changeCount before after
-  pub bytes : written ≡ pairBytes pairs ++ drop (2 * changeCount before after) out
+-- The nodes of one group, in a table before a slot and in the one after it, by rising number, each with the kind of its change; the first of them is node i.
+unfoldable pub groupFrom : (State → State → Bool) → ℕ → Table → Table → List Pair
+groupFrom group i [] after = []
+groupFrom group i (v ∷ before) [] = []
+groupFrom group i (v ∷ before) (w ∷ after) =
+    let rest = groupFrom group (suc i) before after in
+    cond (group (v .state) (w .state)) ((i, kindFrom (v .state) (w .state)) ∷ rest) rest
+
+-- "First the nodes that left, then all the others, each group by rising node number."
+unfoldable pub pairsIn : Table → Table → List Pair
+pairsIn before after = groupFrom leaves 1 before after ++ groupFrom changesElse 1 before after
 
 -- "The number of pairs is returned": none are told of a slot that is refused.
 abbrev pub pairsTold : Table → Called → ℕ
 pairsTold before called = go (called .answer)
   where
     go : Answer → ℕ
-    go answer.Done = changeCount before (called .table)
+    go answer.Done = length (pairsIn before (called .table))
     go (answer.Refused cause) = 0
 
--- A slot that runs tells whose states it changed; one that is refused changes no lent byte.
-abbrev pub SlotBytes : Table → Called → List ℕ → List ℕ → Type 0
-SlotBytes before called out written = go (called .answer)
+-- The lent bytes after a slot: the pairs, and after them what stood there; a slot that is refused changes no byte.
+abbrev pub slotBytes : Table → Called → List ℕ → List ℕ
+slotBytes before called out = go (called .answer)
   where
-    go : Answer → Type 0
-    go answer.Done = Reported before (called .table) out written
-    go (answer.Refused cause) = written ≡ out
+    go : Answer → List ℕ
+    go answer.Done = let bytes = pairBytes (pairsIn before (called .table)) in bytes ++ drop (length bytes) out
+    go (answer.Refused cause) = out

@@ -8,7 +8,7 @@ use node_record::Node;
 ghost use mathlib.Core.Path.{_≡_};
 ghost use Prim.Native.Nat.{min};
 ghost use lib.ListN.{length};
-ghost use Rattle.bench.specs.Kept.{BytesWith};
+ghost use Rattle.bench.specs.Kept.{bytesWith};
 ghost use Rattle.bench_by_value.specs.ByValue.{tableOf, callWith};
 
 // The rows after a call, what there is to print of it, and the number of pairs told.
@@ -45,7 +45,7 @@ pub fn call(
     command: Command,
 ) -> Ran
     ensures { λ r. ⌜ ((r, now (ledger .exit)) ≡ callWith n command (length (now (pairs .entry))) (now (ledger .entry)) rows)
-        × BytesWith command (now (ledger .entry)) (tableOf n rows) (now (pairs .entry)) (now (pairs .exit)) ⌝ }
+        × (now (pairs .exit) ≡ bytesWith command (now (ledger .entry)) (tableOf n rows) (now (pairs .entry))) ⌝ }
 {
     let size = size(n);
     let reply = bench_calls::call(&mut rows[..size], ledger, pairs, command);

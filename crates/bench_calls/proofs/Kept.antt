@@ -1,6 +1,6 @@
 -- What the call with a ledger leaves and answers (bench's specs/Kept) is what its order leaves, what is entered of it and what is noted of it. Assumes nothing.
 use Prim.Native.Nat.{ℕ, _+_}
-use mathlib.Core.Path.{_≡_, refl, sym, ap, ap₂, subst, _∙_}
+use mathlib.Core.Path.{_≡_, refl, sym, ap, ap₂, _∙_}
 use mathlib.Core.Bool.{Bool, true, false}
 use mathlib.Core.List.{List}
 use native.Mathlib.Omega.{arith}
@@ -19,9 +19,9 @@ use Rattle.bench.specs.declared.Command.the-variants as command
 use Rattle.bench.specs.declared.Reply.{Reply}
 use Rattle.bench.specs.Table.{Table, tableSound, nodeCount, slotsOf}
 use Rattle.bench.specs.Calls.{Called}
-use Rattle.bench.specs.Outcomes.{Ended, endedBy, BytesBy}
+use Rattle.bench.specs.Outcomes.{Ended, endedBy, bytesBy}
 use Rattle.bench.specs.Ledger.{Ledger, ledgerFits, ledgerAfter}
-use Rattle.bench.specs.Kept.{Kept, slotWith, offWith, calledWith, ledgerWith, keptOf, BytesWith}
+use Rattle.bench.specs.Kept.{Kept, slotWith, offWith, calledWith, ledgerWith, keptOf, bytesWith}
 use Rattle.ledger.specs.Entered.{entered, oneMore}
 use Rattle.ledger.proofs.Entered.{one-more-is, entered-is}
 use Rattle.bench_walks.specs.declared.Order.{Order}
@@ -147,7 +147,7 @@ is-kept c t out ledger =
 pub call-run : (c : Command) (t : Table) (ledger : Ledger) (out : List ℕ) (s : Survey) (fit : Bool) (o : Order) (zs : Table) (w : Work) (ls : Ledger) (r : Reply) (ws : List ℕ)
     → s ≡ surveyOf (take (length t) t) → fit ≡ ledgerFits (s .cable .n) (s .slots) ledger → o ≡ orderOf c s (length t) (length out) fit → (zs ≡ carriedFrom o 0 t) × (w ≡ workOf o t)
     → ls ≡ enteredBy o (s .slots) (w .notes) ledger → (r ≡ replyBy o (w .notes) (w .members)) × (ws ≡ writtenBy o (w .notes) out)
-    → (record { table = zs; ledger = ls; reply = r } ≡ keptOf c (length out) ledger t) × BytesWith c ledger t out ws
+    → (record { table = zs; ledger = ls; reply = r } ≡ keptOf c (length out) ledger t) × (ws ≡ bytesWith c ledger t out)
 unfolding orderFor
 call-run c t ledger out s fit o zs w ls r ws is-s is-fit is-o (is-zs, is-w) is-ls (is-r, is-ws) =
     let survey : s ≡ surveyOf t = is-s ∙ ap surveyOf (take-length t) in
@@ -157,6 +157,6 @@ call-run c t ledger out s fit o zs w ls r ws is-s is-fit is-o (is-zs, is-w) is-l
           ∙ ap₂ (λ (u : Table) (x : Work). record { table = u; ledger = enteredBy o (s .slots) (x .notes) ledger; reply = replyBy o (x .notes) (x .members) }) is-zs is-w
           ∙ ap (λ (u : Survey). record { table = carriedFrom o 0 t; ledger = enteredBy o (u .slots) (notesOf o t) ledger; reply = done-by o t .reply }) survey
           ∙ ap (λ (x : Order). kept-by x t ledger) order-is ∙ is-kept c t out ledger,
-      subst (BytesBy c t (calledWith c (length out) ledger t) out) (sym (is-ws ∙ ap (λ (x : Work). writtenBy o (x .notes) out) is-w ∙ ap (λ (x : Order). writtenBy x (notesOf x t) out) order-is))
-          (subst (λ (called : Called). BytesBy c t called out (writtenBy (orderFor c (length out) (fitting t ledger) t) (notesOf (orderFor c (length out) (fitting t ledger) t) t) out)) (fit-called c (length out) t ledger) (bytes-told c (fitting t ledger) t out)),
+      is-ws ∙ ap (λ (x : Work). writtenBy o (x .notes) out) is-w ∙ ap (λ (x : Order). writtenBy x (notesOf x t) out) order-is
+          ∙ bytes-told c (fitting t ledger) t out ∙ ap (λ (called : Called). bytesBy c t called out) (fit-called c (length out) t ledger),
     )

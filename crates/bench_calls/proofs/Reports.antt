@@ -1,27 +1,25 @@
--- What `carry_out` notes (bench_walks' specs/Orders) is what bench's specs/Pairs asks of a slot: each node whose state changed stands once among the pairs, with its kind, the
--- number of pairs is that of the changes, and the bytes after them are as they were; and no other call tells pairs. Assumes nothing.
-use Prim.Native.Nat.{ℕ, zero, suc, _+_, _-_, _*_, _<_, _≤_}
+-- What `carry_out` notes (bench_walks' specs/Orders), put in order, is what bench's specs/Pairs asks of a slot: the pairs of the nodes that left, then all others, and the bytes after them as
+-- they were; and no other call tells pairs. Assumes nothing.
+use Prim.Native.Nat.{ℕ, zero, suc, _+_, _-_, _*_, _<_, _≤_, min}
 use mathlib.Core.Path.{_≡_, refl, sym, ap, ap₂, subst, _∙_}
 use mathlib.Core.Bool.{Bool, true, false, cond, not, _&&_}
 use mathlib.Core.List.{List, [], _∷_, _++_, append-assoc, append-nil}
 use native.Mathlib.Omega.{arith}
 use native.Mathlib.Numerals.{add-one}
 use lib.Dec.{eqb, leb, ltb}
-use lib.ListN.{length, getD, set, take, drop, length-set, length-replicate}
-use borrow.Author.Tests.{eqb-true, eqb-false, ne-eqb, leb-true, leb-false, le-leb, lt-ltb}
+use lib.ListN.{length, getD, set, take, drop, length-set, length-replicate, length-append, take-append-drop}
+use lib.Seq.{getD-take, take-length}
+use borrow.Author.Tests.{leb-true, le-leb, lt-ltb}
 use Rattle.refusal.specs.declared.Refusal.{Refusal}
 use Rattle.refusal.specs.declared.Refusal.the-variants.{RingSize, SponsorCount, NodeNumber, Unsound, SlotLimit, OutputShort, NotOut, LedgerUnfit}
 use Rattle.nodeset.specs.Sets.{has, within}
-use Rattle.nodeset.specs.Sums.{sum, num}
-use Rattle.nodeset.proofs.Sums.{sum-none, sum-first, sum-same}
-use Rattle.nodeset.proofs.Tests.{by-cases, all, chosen, eqb-swap}
+use Rattle.nodeset.proofs.Tests.{by-cases, all, chosen}
 use Rattle.ring.specs.declared.Cable.{Cable}
 use Rattle.ring.specs.Ring.{cableOf, ringSize, sponsorCount, nodeNumber}
-use Rattle.ring.proofs.Ranges.{ring-size, node-number}
+use Rattle.ring.proofs.Ranges.{ring-size}
 use Rattle.node_record.specs.declared.Node.{Node}
 use Rattle.node_record.specs.declared.State.{State}
 use Rattle.node_record.specs.Soundness.{limit}
-use Rattle.node.specs.Calls.{noNode}
 use Rattle.bench.specs.declared.Command.{Command}
 use Rattle.bench.specs.declared.Command.the-variants as command
 use Rattle.bench_walks.specs.declared.Order.{Order}
@@ -30,10 +28,10 @@ use Rattle.bench_walks.specs.declared.Pairs.{Pairs}
 use Rattle.bench_walks.specs.declared.Notes.{Notes}
 use Rattle.bench.specs.Table.{Table, recordOf, eachFrom, placedFrom, tableSound, slotsOf}
 use Rattle.bench.specs.Calls.{Called}
-use Rattle.bench.specs.Outcomes.{pairsOf, BytesBy}
-use Rattle.bench.specs.Pairs.{sameState, kindFrom, isChanged, kindOf, changeCount, Pair, pairBytes, times, Tells, Reported, pairsTold, SlotBytes}
+use Rattle.bench.specs.Outcomes.{pairsOf, bytesBy}
+use Rattle.bench.specs.Pairs.{sameState, kindFrom, Pair, pairBytes, leaves, changesElse, groupFrom, pairsIn, pairsTold, slotBytes}
 use Rattle.bench_walks.specs.Survey.{foldFrom, surveyOf, fineTable}
-use Rattle.bench_walks.specs.Orders.{ifGood, fateBy, turnOf, orderFor, carried, pushed, withPair, noPairs, noticed, noNotes, noticedFrom, notesOf, pairsBy, bytesTold, puts, writtenBy}
+use Rattle.bench_walks.specs.Orders.{ifGood, fateBy, turnOf, orderFor, carried, pushed, withPair, noPairs, inGroup, withOne, groupedTo, ordered, noticed, noNotes, noticedFrom, notesOf, pairsBy, bytesTold, puts, writtenBy}
 use Rattle.bench_calls.proofs.Surveys.{placed, fine-table, said}
 use Rattle.bench_calls.proofs.Works.{calledFit, calledBy, called-by}
 
@@ -146,133 +144,153 @@ notes cable slots o p i (v ∷ t) e l m h =
     changes : After → Goal false
     changes ih = subst (λ (b : Bool). Noted p (notedFrom o (cond b q p) (suc i) t) ((v .own, kind o i v) ∷ changesOf o (suc i) t)) (sym test) (with-it (ih q (omega (arith, l)) (push-size p (v .own) (kind o i v) h)))
 
--- ---- how often a pair stands there
+-- ---- the pairs in their order
 
-abbrev tells-of : State → State → ℕ → Bool
-tells-of a b k = not (sameState a b) && eqb k (kindFrom a b)
+-- the pairs of a group
+abbrev groupOf : Bool → List Pair → List Pair
+groupOf left [] = []
+groupOf left (p ∷ ps) = cond (inGroup left (p .1)) (p ∷ groupOf left ps) (groupOf left ps)
 
--- the first record adds its own pair
-times-first : (x k : ℕ) (o : Order) (i : ℕ) (v : Node) (t : Table)
-    → times (x, k) (changesOf o i (v ∷ t)) ≡ num (not (same o i v) && (eqb (v .own) x && eqb (kind o i v) k)) + times (x, k) (changesOf o (suc i) t)
-unfolding times
-times-first x k o i v t = go (same o i v)
+bytes-append : (ps qs : List Pair) → pairBytes (ps ++ qs) ≡ pairBytes ps ++ pairBytes qs
+unfolding pairBytes
+bytes-append [] qs = refl
+bytes-append (p ∷ ps) qs = ap {B = List ℕ} (λ r. p .0 ∷ p .1 ∷ r) (bytes-append ps qs)
+
+bytes-length : (ps : List Pair) → length (pairBytes ps) ≡ 2 * length ps
+unfolding pairBytes
+bytes-length [] = refl
+bytes-length (p ∷ ps) = omega (arith, bytes-length ps)
+
+-- what is noted after what was
+both-noted : (p q r : Pairs) (ps qs : List Pair) → Noted p q ps → Noted q r qs → Noted p r (ps ++ qs)
+both-noted p q r ps qs a b = record {
+  count = omega (arith, a .count, b .count, length-append ps qs);
+  size = b .size;
+  bytes = b .bytes ∙ ap (λ (l : List ℕ). l ++ pairBytes qs) (a .bytes) ∙ append-assoc (take (p .count * 2) (p .bytes)) (pairBytes ps) (pairBytes qs) ∙ ap (λ (l : List ℕ). take (p .count * 2) (p .bytes) ++ l) (sym (bytes-append ps qs));
+}
+
+none-noted : (p : Pairs) → length (p .bytes) ≡ 64 → Noted p p []
+unfolding pairBytes
+none-noted p h = record { count = omega arith; size = h; bytes = sym (append-nil (take (p .count * 2) (p .bytes))) }
+
+one-noted : (p : Pairs) (x k : ℕ) → p .count < 32 → length (p .bytes) ≡ 64 → Noted p (pushed p x k) ((x, k) ∷ [])
+unfolding pairBytes
+one-noted p x k l h = record { count = omega arith; size = push-size p x k h; bytes = push-bytes p x k l h }
+
+-- the pair that stands at a place of the bytes
+pair-at : (ps : List Pair) (j : ℕ) → j < length ps → (getD (pairBytes ps) (j * 2) 0 ≡ getD ps j (0, 0) .0) × (getD (pairBytes ps) (j * 2 + 1) 0 ≡ getD ps j (0, 0) .1)
+unfolding pairBytes
+pair-at [] j h = absurd (let q : ⊥ = omega (arith, h) in q)
+pair-at (p ∷ ps) zero h = (refl, refl)
+pair-at (p ∷ ps) (suc j) h =
+    let r = pair-at ps j (omega (arith, h)) in
+    let y : suc j * 2 ≡ suc (suc (j * 2)) = omega arith in
+    let z : suc j * 2 + 1 ≡ suc (suc (j * 2 + 1)) = omega arith in
+    (ap (λ (i : ℕ). getD (p .0 ∷ p .1 ∷ pairBytes ps) i 0) y ∙ r .0, ap (λ (i : ℕ). getD (p .0 ∷ p .1 ∷ pairBytes ps) i 0) z ∙ r .1)
+
+group-append : (left : Bool) (ps qs : List Pair) → groupOf left (ps ++ qs) ≡ groupOf left ps ++ groupOf left qs
+group-append left [] qs = refl
+group-append left (p ∷ ps) qs = go (inGroup left (p .1)) (group-append left ps qs)
   where
-    go : (b : Bool) → times (x, k) (cond b (changesOf o (suc i) t) ((v .own, kind o i v) ∷ changesOf o (suc i) t))
-        ≡ num (not b && (eqb (v .own) x && eqb (kind o i v) k)) + times (x, k) (changesOf o (suc i) t)
-    go true = omega arith
-    go false = refl
+    go : (b : Bool) → groupOf left (ps ++ qs) ≡ groupOf left ps ++ groupOf left qs → cond b (p ∷ groupOf left (ps ++ qs)) (groupOf left (ps ++ qs)) ≡ cond b (p ∷ groupOf left ps) (groupOf left ps) ++ groupOf left qs
+    go true h = ap {B = List Pair} (λ r. p ∷ r) h
+    go false h = h
 
-no-pair : (b c d : Bool) → c ≡ false → num (b && (c && d)) ≡ 0
-no-pair true c d e = ap (λ (a : Bool). num (a && d)) e
-no-pair false c d e = refl
-
--- a pair of another node
-not-first : (x k : ℕ) (o : Order) (i : ℕ) (v : Node) (t : Table) → (v .own ≡ x → ⊥) → times (x, k) (changesOf o i (v ∷ t)) ≡ times (x, k) (changesOf o (suc i) t)
-not-first x k o i v t h =
-    times-first x k o i v t ∙ ap (λ (m : ℕ). m + times (x, k) (changesOf o (suc i) t)) (no-pair (not (same o i v)) (eqb (v .own) x) (eqb (kind o i v) k) (ne-eqb (v .own) x h))
-    ∙ none (times (x, k) (changesOf o (suc i) t))
+group-few : (left : Bool) (ps : List Pair) → length (groupOf left ps) ≤ length ps
+group-few left [] = omega arith
+group-few left (p ∷ ps) = go (inGroup left (p .1)) (group-few left ps)
   where
-    none : (m : ℕ) → 0 + m ≡ m
-    none m = omega arith
+    go : (b : Bool) → length (groupOf left ps) ≤ length ps → length (cond b (p ∷ groupOf left ps) (groupOf left ps)) ≤ suc (length ps)
+    go true h = omega (arith, h)
+    go false h = omega (arith, h)
 
-module _ (cable : Cable) (slots : ℕ) (o : Order) where
-  low : (x c i : ℕ) (t : Table) → placedFrom cable slots (suc i) t ≡ true → x ≤ i → times (x, c) (changesOf o i t) ≡ 0
-  unfolding times
-  low x c i [] e l = refl
-  low x c i (v ∷ t) e l =
-      let p = placed cable slots (suc i) v t e in
-      not-first x c o i v t (λ h. omega (arith, h, l, p .own)) ∙ low x c (suc i) t (p .rest) (omega (arith, l))
+-- the two groups are all
+groups-all : (ps : List Pair) → length (groupOf true ps ++ groupOf false ps) ≡ length ps
+groups-all ps = length-append (groupOf true ps) (groupOf false ps) ∙ count ps
+  where
+    count : (qs : List Pair) → length (groupOf true qs) + length (groupOf false qs) ≡ length qs
+    count [] = refl
+    count (q ∷ qs) = go (eqb (q .1) 1) (count qs)
+      where
+        go : (b : Bool) → length (groupOf true qs) + length (groupOf false qs) ≡ length qs
+            → length (cond b (q ∷ groupOf true qs) (groupOf true qs)) + length (cond (not b) (q ∷ groupOf false qs) (groupOf false qs)) ≡ suc (length qs)
+        go true h = omega (arith, h)
+        go false h = omega (arith, h)
 
-  high : (x c i : ℕ) (t : Table) → placedFrom cable slots (suc i) t ≡ true → i + length t < x → times (x, c) (changesOf o i t) ≡ 0
-  unfolding times
-  high x c i [] e l = refl
-  high x c i (v ∷ t) e l =
-      let p = placed cable slots (suc i) v t e in
-      not-first x c o i v t (λ h. omega (arith, h, l, p .own)) ∙ high x c (suc i) t (p .rest) (omega (arith, l))
+take-more : (ps : List Pair) (j : ℕ) → j < length ps → take (suc j) ps ≡ take j ps ++ (getD ps j (0, 0) ∷ [])
+take-more [] j h = absurd (let q : ⊥ = omega (arith, h) in q)
+take-more (p ∷ ps) zero h = refl
+take-more (p ∷ ps) (suc j) h = ap {B = List Pair} (λ r. p ∷ r) (take-more ps j (omega (arith, h)))
 
-  -- the record of node x before and after
-  abbrev was : ℕ → ℕ → Table → State
-  was x i t = getD t (x - suc i) noNode .state
+-- the pairs of a group, of the first j noted, are added
+module _ (left : Bool) (bytes : List ℕ) (ps : List Pair) (are : take (length ps * 2) bytes ≡ pairBytes ps) (p : Pairs) (size : length (p .bytes) ≡ 64) (room : p .count + length (groupOf left ps) ≤ 32) where
+  read : (i : ℕ) → i < length ps * 2 → getD bytes i 0 ≡ getD (pairBytes ps) i 0
+  read i h = sym (getD-take (length ps * 2) bytes i 0 h) ∙ ap (λ (l : List ℕ). getD l i 0) are
 
-  abbrev is : ℕ → ℕ → Table → State
-  is x i t = getD (eachFrom (carried o) i t) (x - suc i) noNode .state
+  few-so-far : (j : ℕ) → length (groupOf left (take j ps)) ≤ length (groupOf left ps)
+  few-so-far j =
+      let whole = ap (λ (l : List Pair). length (groupOf left l)) (sym (take-append-drop j ps)) ∙ ap length (group-append left (take j ps) (drop j ps)) ∙ length-append (groupOf left (take j ps)) (groupOf left (drop j ps)) in
+      omega (arith, whole)
 
-  first-there : (x i : ℕ) (v : Node) (t : Table) → x ≡ suc i → (was x i (v ∷ t) ≡ v .state) × (is x i (v ∷ t) ≡ carried o i v .state)
-  unfolding eachFrom
-  first-there x i v t e =
-      let z : x - suc i ≡ 0 = omega (arith, e) in
-      (ap (λ (j : ℕ). getD (v ∷ t) j noNode .state) z, ap (λ (j : ℕ). getD (carried o i v ∷ eachFrom (carried o) (suc i) t) j noNode .state) z)
-
-  later-there : (x i : ℕ) (v : Node) (t : Table) → suc i < x → (was x i (v ∷ t) ≡ was x (suc i) t) × (is x i (v ∷ t) ≡ is x (suc i) t)
-  unfolding eachFrom
-  later-there x i v t e =
-      let z : x - suc i ≡ suc (x - suc (suc i)) = omega (arith, e) in
-      (ap (λ (j : ℕ). getD (v ∷ t) j noNode .state) z, ap (λ (j : ℕ). getD (carried o i v ∷ eachFrom (carried o) (suc i) t) j noNode .state) z)
-
-  mid : (x c i : ℕ) (t : Table) → placedFrom cable slots (suc i) t ≡ true → suc i ≤ x → x ≤ i + length t → times (x, c) (changesOf o i t) ≡ num (tells-of (was x i t) (is x i t) c)
-  mid x c i [] e l m = absurd (let q : ⊥ = omega (arith, l, m) in q)
-  mid x c i (v ∷ t) e l m =
-      let p = placed cable slots (suc i) v t e in
-      by-cases (eqb (v .own) x)
-      (λ b. let own : v .own ≡ x = eqb-true (v .own) x b in
-      let at = first-there x i v t (omega (arith, own, p .own)) in
-      times-first x c o i v t
-      ∙ ap₂ _+_ (ap (λ (a : Bool). num (not (same o i v) && (a && eqb (kind o i v) c))) b) (low x c (suc i) t (p .rest) (omega (arith, own, p .own)))
-      ∙ plus-none (num (not (same o i v) && eqb (kind o i v) c))
-      ∙ ap (λ (a : Bool). num (not (same o i v) && a)) (eqb-swap (kind o i v) c)
-      ∙ ap₂ (λ (a b : State). num (tells-of a b c)) (sym (at .0)) (sym (at .1)))
-      (λ b. let other : v .own ≡ x → ⊥ = eqb-false (v .own) x b in
-      let above : suc i < x = omega (arith, l, other, p .own) in
-      let at = later-there x i v t above in
-      not-first x c o i v t other ∙ mid x c (suc i) t (p .rest) above (omega (arith, m))
-      ∙ ap₂ (λ (a b : State). num (tells-of a b c)) (sym (at .0)) (sym (at .1)))
+  group-noted : (j : ℕ) → j ≤ length ps → Noted p (groupedTo left bytes j p) (groupOf left (take j ps))
+  unfolding groupedTo withOne
+  group-noted zero h = none-noted p size
+  group-noted (suc j) h =
+      let q = groupedTo left bytes j p in
+      let so-far = group-noted j (omega (arith, h)) in
+      let it = getD ps j (0, 0) in
+      let at = pair-at ps j h in
+      let x-is : getD bytes (j * 2) 0 ≡ it .0 = read (j * 2) (omega (arith, h)) ∙ at .0 in
+      let k-is : getD bytes (j * 2 + 1) 0 ≡ it .1 = read (j * 2 + 1) (omega (arith, h)) ∙ at .1 in
+      subst (λ (x : ℕ). Noted p (withOne left q x (getD bytes (j * 2 + 1) 0)) (groupOf left (take (suc j) ps))) (sym x-is)
+      (subst (λ (k : ℕ). Noted p (withOne left q (it .0) k) (groupOf left (take (suc j) ps))) (sym k-is)
+      (subst (λ (l : List Pair). Noted p (withOne left q (it .0) (it .1)) (groupOf left l)) (sym (take-more ps j h))
+      (subst (Noted p (withOne left q (it .0) (it .1))) (sym (group-append left (take j ps) (it ∷ [])))
+      (one q it so-far (few-so-far (suc j)) (ap (λ (l : List Pair). length (groupOf left l)) (take-more ps j h) ∙ ap length (group-append left (take j ps) (it ∷ [])) ∙ length-append (groupOf left (take j ps)) (groupOf left (it ∷ [])))))))
     where
-      plus-none : (m : ℕ) → m + 0 ≡ m
-      plus-none m = omega arith
+      one : (q : Pairs) (it : Pair) → Noted p q (groupOf left (take j ps)) → length (groupOf left (take (suc j) ps)) ≤ length (groupOf left ps)
+          → length (groupOf left (take (suc j) ps)) ≡ length (groupOf left (take j ps)) + length (groupOf left (it ∷ []))
+          → Noted p (withOne left q (it .0) (it .1)) (groupOf left (take j ps) ++ groupOf left (it ∷ []))
+      one q it n l m =
+          by-cases (inGroup left (it .1))
+          (λ b.
+          let below : q .count < 32 = omega (arith, n .count, l, m, room, ap (λ (d : Bool). length (cond d (it ∷ []) [])) b) in
+          rw (b, lt-ltb (q .count) 32 below) (both-noted p q (pushed q (it .0) (it .1)) (groupOf left (take j ps)) (it ∷ []) n (one-noted q (it .0) (it .1) below (n .size))))
+          (λ b. rw b (subst (Noted p q) (sym (append-nil (groupOf left (take j ps)))) n))
 
-  abbrev differ : ℕ → Table → ℕ → ℕ
-  differ i t x = num (not (sameState (was x i t) (is x i t)))
+-- ---- the groups of the changes are those of the two tables
 
-  counted : (i : ℕ) (t : Table) → length (changesOf o i t) ≡ sum (differ i t) (suc i) (length t)
-  counted i [] = sym (sum-none (differ i []) (suc i))
-  counted i (v ∷ t) =
-      length-first (same o i v) ∙ ap₂ _+_ (ap₂ (λ (a b : State). num (not (sameState a b))) (sym (at .0)) (sym (at .1)))
-      (counted (suc i) t ∙ sum-same (differ (suc i) t) (differ i (v ∷ t)) (suc (suc i)) (length t) (λ u l m.
-      let there = later-there u i v t l in ap₂ (λ (a b : State). num (not (sameState a b))) (sym (there .0)) (sym (there .1))))
-      ∙ sym (sum-first (differ i (v ∷ t)) (suc i) (length t))
+module _ (cable : Cable) (slots : ℕ) (o : Order) (left : Bool) (group : State → State → Bool)
+    (says : (a b : State) → group a b ≡ (not (sameState a b) && inGroup left (kindFrom a b))) where
+  group-is : (i : ℕ) (t : Table) → placedFrom cable slots (suc i) t ≡ true → groupOf left (changesOf o i t) ≡ groupFrom group (suc i) t (eachFrom (carried o) i t)
+  unfolding groupFrom eachFrom
+  group-is i [] e = refl
+  group-is i (v ∷ t) e =
+      let p = placed cable slots (suc i) v t e in
+      first (same o i v)
+      ∙ ap (λ (l : List Pair). cond (not (same o i v) && inGroup left (kind o i v)) ((v .own, kind o i v) ∷ l) l) (group-is (suc i) t (p .rest))
+      ∙ ap₂ (λ (b : Bool) (x : ℕ). cond b ((x, kind o i v) ∷ rest) rest) (sym (says (v .state) (carried o i v .state))) (p .own)
     where
-      at : (was (suc i) i (v ∷ t) ≡ v .state) × (is (suc i) i (v ∷ t) ≡ carried o i v .state)
-      at = first-there (suc i) i v t refl
+      rest : List Pair
+      rest = groupFrom group (suc (suc i)) t (eachFrom (carried o) (suc i) t)
 
-      length-first : (b : Bool) → length (cond b (changesOf o (suc i) t) ((v .own, kind o i v) ∷ changesOf o (suc i) t)) ≡ num (not b) + length (changesOf o (suc i) t)
-      length-first true = omega arith
-      length-first false = omega arith
+      more : List Pair
+      more = groupOf left (changesOf o (suc i) t)
+
+      first : (b : Bool) → groupOf left (cond b (changesOf o (suc i) t) ((v .own, kind o i v) ∷ changesOf o (suc i) t)) ≡ cond (not b && inGroup left (kind o i v)) ((v .own, kind o i v) ∷ more) more
+      first true = refl
+      first false = refl
 
 -- ---- the whole table
 
 abbrev after : Order → Table → Table
 after o t = eachFrom (carried o) 0 t
 
-told-once : (cable : Cable) (slots : ℕ) (o : Order) (t : Table) → placedFrom cable slots 1 t ≡ true → Tells t (after o t) (changesOf o 0 t)
-unfolding isChanged kindOf recordOf
-told-once cable slots o t e x c =
-    by-cases (nodeNumber (length t) x)
-    (λ b. let r = node-number (length t) x b in
-    mid cable slots o x c 0 t e (r .0) (omega (arith, r .1))
-    ∙ sym (ap (λ (a : Bool). num ((a && not (sameState (was cable slots o x 0 t) (is cable slots o x 0 t))) && eqb c (kindFrom (was cable slots o x 0 t) (is cable slots o x 0 t)))) b))
-    (λ b. by-cases (leb 1 x)
-    (λ one. high cable slots o x c 0 t e (above one b)) (λ none. low cable slots o x c 0 t e (let z = leb-false 1 x none in omega (arith, z)))
-    ∙ sym (ap (λ (a : Bool). num ((a && not (sameState (was cable slots o x 0 t) (is cable slots o x 0 t))) && eqb c (kindFrom (was cable slots o x 0 t) (is cable slots o x 0 t)))) b))
-  where
-    above : leb 1 x ≡ true → nodeNumber (length t) x ≡ false → 0 + length t < x
-    above one b = let z = leb-false x (length t) (sym (ap (λ (a : Bool). a && leb x (length t)) one) ∙ b) in omega (arith, z)
-
-told-count : (cable : Cable) (slots : ℕ) (o : Order) (t : Table) → length (changesOf o 0 t) ≡ changeCount t (after o t)
-unfolding changeCount isChanged recordOf
-told-count cable slots o t =
-    counted cable slots o 0 t
-    ∙ sum-same (differ cable slots o 0 t) (λ x. num (nodeNumber (length t) x && not (sameState (was cable slots o x 0 t) (is cable slots o x 0 t)))) 1 (length t) (λ u l m.
-    sym (ap (λ (a : Bool). num (a && not (sameState (was cable slots o u 0 t) (is cable slots o u 0 t)))) (all (le-leb 1 u l) (le-leb u (length t) (omega (arith, m))))))
+pairs-are : (cable : Cable) (slots : ℕ) (o : Order) (t : Table) → placedFrom cable slots 1 t ≡ true
+    → groupOf true (changesOf o 0 t) ++ groupOf false (changesOf o 0 t) ≡ pairsIn t (after o t)
+unfolding pairsIn
+pairs-are cable slots o t e =
+    ap₂ _++_ (group-is cable slots o true leaves (λ a b. refl) 0 t e) (group-is cable slots o false changesElse (λ a b. refl) 0 t e)
 
 abbrev noted-of : Order → Table → Pairs
 noted-of o t = notesOf o t .pairs
@@ -282,7 +300,7 @@ unfolding notesOf noNotes
 noted-is o t = told-part o noNotes 0 t
 
 abbrev written : Pairs → List ℕ → List ℕ
-written p out = puts (p .bytes) (bytesTold (p .count) (length out)) out
+written p out = puts (ordered p .bytes) (bytesTold (p .count) (length out)) out
 
 no-pairs-size : length (noPairs .bytes) ≡ 64
 unfolding noPairs
@@ -292,44 +310,61 @@ no-pairs-count : noPairs .count ≡ 0
 unfolding noPairs
 no-pairs-count = refl
 
-done-told : (o : Order) (t : Table) (out : List ℕ) → (tableSound t ≡ true) × (64 ≤ length out) → (noted-of o t .count ≡ changeCount t (after o t)) × Reported t (after o t) out (written (noted-of o t) out)
+ordered-noted : (p : Pairs) (ps : List Pair) → Noted noPairs p ps → length ps ≤ 32 → Noted noPairs (ordered p) (groupOf true ps ++ groupOf false ps)
+unfolding ordered
+ordered-noted p ps n few =
+    let none = no-pairs-count in
+    let count-is : p .count ≡ length ps = omega (arith, n .count, none) in
+    let most : min (p .count) 32 ≡ length ps = omega (arith, count-is, few) in
+    let are : take (length ps * 2) (p .bytes) ≡ pairBytes ps =
+    ap (λ (j : ℕ). take (j * 2) (p .bytes)) (sym count-is) ∙ n .bytes ∙ ap (λ (j : ℕ). take (j * 2) (noPairs .bytes) ++ pairBytes ps) none in
+    let all-of : take (length ps) ps ≡ ps = take-length ps in
+    let left-ones : Noted noPairs (groupedTo true (p .bytes) (length ps) noPairs) (groupOf true ps) =
+    subst (λ (l : List Pair). Noted noPairs (groupedTo true (p .bytes) (length ps) noPairs) (groupOf true l)) all-of
+    (group-noted true (p .bytes) ps are noPairs no-pairs-size (omega (arith, none, few, group-few true ps)) (length ps) (omega arith)) in
+    let q = groupedTo true (p .bytes) (length ps) noPairs in
+    let all-few = groups-all ps ∙ refl in
+    let others : Noted q (groupedTo false (p .bytes) (length ps) q) (groupOf false ps) =
+    subst (λ (l : List Pair). Noted q (groupedTo false (p .bytes) (length ps) q) (groupOf false l)) all-of
+    (group-noted false (p .bytes) ps are q (left-ones .size) (omega (arith, left-ones .count, none, few, groups-all ps, length-append (groupOf true ps) (groupOf false ps))) (length ps) (omega arith)) in
+    subst (λ (m : ℕ). Noted noPairs (groupedTo false (p .bytes) m (groupedTo true (p .bytes) m noPairs)) (groupOf true ps ++ groupOf false ps)) (sym most)
+    (both-noted noPairs q (groupedTo false (p .bytes) (length ps) q) (groupOf true ps) (groupOf false ps) left-ones others)
+
+done-told : (o : Order) (t : Table) (out : List ℕ) → (tableSound t ≡ true) × (64 ≤ length out)
+    → (noted-of o t .count ≡ length (pairsIn t (after o t))) × (written (noted-of o t) out ≡ (pairBytes (pairsIn t (after o t)) ++ drop (length (pairBytes (pairsIn t (after o t)))) out))
 done-told o t out (sound, room) =
     let s = said t sound in
     let n = length t in
     let cable = recordOf t 1 .cable in
     let slots = slotsOf t in
     let most = ring-size n (s .ring) .1 in
-    let all-noted : Noted noPairs (noted-of o t) (changesOf o 0 t) = rw (noted-is o t) (notes cable slots o noPairs 0 t (s .rows) (omega (arith, no-pairs-count)) (omega (arith, most)) no-pairs-size) in
     let ps = changesOf o 0 t in
-    let r = noted-of o t in
-    let count-is : r .count ≡ length ps = all-noted .count ∙ ap (λ (m : ℕ). m + length ps) no-pairs-count ∙ zero-plus (length ps) in
-    let at-most : r .count ≤ 32 = let h = few o 0 t in omega (arith, h, most, count-is) in
-    let test : (leb (r .count) 32 && leb 64 (length out)) ≡ true = all (le-leb (r .count) 32 at-most) (le-leb 64 (length out) room) in
-    let end-is : cond (leb (r .count) 32 && leb 64 (length out)) (r .count * 2) 0 ≡ r .count * 2 = chosen (r .count * 2) 0 test in
-    let number : length ps ≡ changeCount t (after o t) = told-count cable slots o t in
-    let twice : r .count * 2 ≡ 2 * changeCount t (after o t) = omega (arith, count-is, number) in (
-      count-is ∙ number,
-      record {
-        pairs = ps;
-        tells = told-once cable slots o t (s .rows);
-        number = number;
-        bytes = ap (λ (j : ℕ). puts (r .bytes) j out) end-is ∙ all-put (r .bytes) out (r .count * 2) (omega (arith, at-most, all-noted .size)) (omega (arith, at-most, room))
-            ∙ ap₂ _++_ (all-noted .bytes ∙ ap (λ (j : ℕ). take (j * 2) (noPairs .bytes) ++ pairBytes ps) no-pairs-count) (ap (λ (j : ℕ). drop j out) twice);
-      },
+    let all-noted : Noted noPairs (noted-of o t) ps = rw (noted-is o t) (notes cable slots o noPairs 0 t (s .rows) (omega (arith, no-pairs-count)) (omega (arith, most)) no-pairs-size) in
+    let h = few o 0 t in
+    let r = ordered (noted-of o t) in
+    let qs = pairsIn t (after o t) in
+    let in-order : Noted noPairs r qs = subst (Noted noPairs r) (pairs-are cable slots o t (s .rows)) (ordered-noted (noted-of o t) ps all-noted (omega (arith, h, most))) in
+    let number : length ps ≡ length qs = sym (groups-all ps) ∙ ap length (pairs-are cable slots o t (s .rows)) in
+    let count-is : noted-of o t .count ≡ length qs = omega (arith, all-noted .count, no-pairs-count, number) in
+    let here : r .count ≡ noted-of o t .count = omega (arith, in-order .count, no-pairs-count, count-is) in
+    let at-most : noted-of o t .count ≤ 32 = omega (arith, h, most, count-is, number) in
+    let test : (leb (noted-of o t .count) 32 && leb 64 (length out)) ≡ true = all (le-leb (noted-of o t .count) 32 at-most) (le-leb 64 (length out) room) in
+    let end-is : cond (leb (noted-of o t .count) 32 && leb 64 (length out)) (noted-of o t .count * 2) 0 ≡ r .count * 2 = chosen (noted-of o t .count * 2) 0 test ∙ ap (λ (c : ℕ). c * 2) (sym here) in
+    let twice : r .count * 2 ≡ length (pairBytes qs) = omega (arith, here, count-is, bytes-length qs) in (
+      count-is,
+      ap (λ (j : ℕ). puts (r .bytes) j out) end-is ∙ all-put (r .bytes) out (r .count * 2) (omega (arith, at-most, here, in-order .size)) (omega (arith, at-most, here, room))
+          ∙ ap₂ _++_ (in-order .bytes ∙ ap (λ (j : ℕ). take (j * 2) (noPairs .bytes) ++ pairBytes qs) no-pairs-count) (ap (λ (j : ℕ). drop j out) twice),
     )
-  where
-    zero-plus : (m : ℕ) → 0 + m ≡ m
-    zero-plus m = omega arith
 
 -- ---- a slot: its pairs are those of its changes
 
 -- the answer and the bytes of an order that a slot gives
 abbrev SlotTold : Order → Table → List ℕ → Type 0
-SlotTold o t out = (pairsBy o (notesOf o t) ≡ pairsTold t (calledBy o t)) × SlotBytes t (calledBy o t) out (writtenBy o (notesOf o t) out)
+SlotTold o t out = (pairsBy o (notesOf o t) ≡ pairsTold t (calledBy o t)) × (writtenBy o (notesOf o t) out ≡ slotBytes t (calledBy o t) out)
 
 told-if : (b : Bool) (cause : Refusal) (o : Order) (t : Table) (out : List ℕ) → (b ≡ true → SlotTold o t out) → SlotTold (ifGood b cause o) t out
 told-if true cause o t out h = h refl
-told-if false cause o t out h = (refl, none-written (notesOf (order.Refuse cause) t .pairs .bytes) out)
+told-if false cause o t out h = (refl, none-written (ordered (notesOf (order.Refuse cause) t .pairs) .bytes) out)
 
 pub slot-told : (lost : Bool) (missed : ℕ) (fits : Bool) (t : Table) (out : List ℕ) → SlotTold (orderFor (command.Slot lost missed) (length out) fits t) t out
 unfolding orderFor
@@ -353,7 +388,7 @@ silent-if false cause o h m = refl
 silent-written : (c : Command) (fits : Bool) (t : Table) (out : List ℕ) → let o = orderFor c (length out) fits t in Silent o → writtenBy o (notesOf o t) out ≡ out
 silent-written c fits t out h =
     let m = notesOf (orderFor c (length out) fits t) t in
-    ap (λ (k : ℕ). puts (m .pairs .bytes) (bytesTold k (length out)) out) (h m) ∙ none-written (m .pairs .bytes) out
+    ap (λ (k : ℕ). puts (ordered (m .pairs) .bytes) (bytesTold k (length out)) out) (h m) ∙ none-written (ordered (m .pairs) .bytes) out
 
 set-up-silent : (n k room : ℕ) (fits : Bool) (t : Table) → Silent (orderFor (command.SetUp n k) room fits t)
 unfolding orderFor
@@ -382,11 +417,10 @@ pairs-told (command.Restart a) fits t out = restart-silent a (length out) fits t
 pairs-told (command.Slot lost missed) fits t out = slot-told lost missed fits t out .0
 pairs-told (command.Look lost) fits t out = look-silent lost (length out) fits t _
 
-pub bytes-told : (c : Command) (fits : Bool) (t : Table) (out : List ℕ) → let o = orderFor c (length out) fits t in BytesBy c t (calledFit c (length out) fits t) out (writtenBy o (notesOf o t) out)
+pub bytes-told : (c : Command) (fits : Bool) (t : Table) (out : List ℕ) → let o = orderFor c (length out) fits t in writtenBy o (notesOf o t) out ≡ bytesBy c t (calledFit c (length out) fits t) out
 bytes-told (command.SetUp n k) fits t out = silent-written (command.SetUp n k) fits t out (set-up-silent n k (length out) fits t)
 bytes-told (command.Off a) fits t out = silent-written (command.Off a) fits t out (off-silent a (length out) fits t)
 bytes-told (command.Restart a) fits t out = silent-written (command.Restart a) fits t out (restart-silent a (length out) fits t)
 bytes-told (command.Slot lost missed) fits t out =
-    let o = orderFor (command.Slot lost missed) (length out) fits t in
-    subst (λ (called : Called). SlotBytes t called out (writtenBy o (notesOf o t) out)) (called-by (command.Slot lost missed) (length out) fits t) (slot-told lost missed fits t out .1)
+    slot-told lost missed fits t out .1 ∙ ap (λ (called : Called). slotBytes t called out) (called-by (command.Slot lost missed) (length out) fits t)
 bytes-told (command.Look lost) fits t out = silent-written (command.Look lost) fits t out (look-silent lost (length out) fits t)

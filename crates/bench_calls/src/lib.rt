@@ -14,7 +14,7 @@ ghost use mathlib.Core.Path.{_≡_};
 ghost use Prim.Native.Nat.{_≤_};
 ghost use lib.ListN.{length};
 ghost use Rattle.bench.specs.Ledger.{ledgerFits};
-ghost use Rattle.bench.specs.Kept.{keptOf, BytesWith};
+ghost use Rattle.bench.specs.Kept.{keptOf, bytesWith};
 ghost use Rattle.bench_calls.specs.Work.{workOf, dateBy, enteredBy};
 ghost use Rattle.bench_walks.specs.Orders.{carriedFrom, reachOf, outcomeBy, pairsBy, replyBy, bytesTold, puts, writtenBy};
 
@@ -166,15 +166,16 @@ fn tell(pairs: &mut [u8], order: Order, work: Work) -> Reply
 {
     let notes = work.notes;
     let told = notes.pairs;
-    let bytes = told.bytes;
+    let ordered = bench_walks::ordered(told);
+    let bytes = ordered.bytes;
     let count = pairs_by(order, notes);
     let end = bytes_told(count, pairs.len());
     put_bytes(bytes, end, pairs);
     reply_of(order, work)
 }
 
-// Carries a call out. The nodes whose state a slot changed stand in `pairs`, each with the kind of its
-// change; who left or joined in an off or a slot is entered in `ledger`. The table is tested once; sets
+// Carries a call out. The nodes whose state a slot changed stand in `pairs`, those that left first, each with
+// the kind of its change; who left or joined in an off or a slot is entered in `ledger`. The table is tested once; sets
 // are compared only where two members hold different ones.
 // Set-up refuses by 1, 2 and 4, off by 4, 3 and 13, restart by 4, 3 and 11, a slot by 4, 3, 13, 5 and 9,
 // a look by 4.
@@ -185,7 +186,7 @@ pub fn call(
     command: Command,
 ) -> Reply
     ensures { λ r. ⌜ (record { table = now (table .exit); ledger = now (ledger .exit); reply = r } ≡ keptOf command (length (now (pairs .entry))) (now (ledger .entry)) (now (table .entry)))
-        × BytesWith command (now (ledger .entry)) (now (table .entry)) (now (pairs .entry)) (now (pairs .exit)) ⌝ }
+        × (now (pairs .exit) ≡ bytesWith command (now (ledger .entry)) (now (table .entry)) (now (pairs .entry))) ⌝ }
 {
     let size = table.len();
     let survey = bench_walks::look_over(table, size);

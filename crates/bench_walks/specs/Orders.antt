@@ -1,7 +1,7 @@
 -- Inner: what a call has each record of a table do, and what is noted as it is done: the pairs, who left and who joined, and the list. The laws in bench_calls' proofs/ tie it
 -- to bench's specs/Calls, specs/Pairs, specs/Outcomes and specs/Ledger.
-use Prim.Native.Nat.{ℕ, zero, suc, _+_, _*_}
-use mathlib.Core.Bool.{Bool, true, cond, _&&_}
+use Prim.Native.Nat.{ℕ, zero, suc, _+_, _*_, min}
+use mathlib.Core.Bool.{Bool, true, false, cond, not, _&&_}
 use mathlib.Core.List.{List}
 use lib.Dec.{eqb, leb, ltb}
 use lib.ListN.{length, getD, set, replicate}
@@ -132,7 +132,7 @@ carried (order.Look slots sender fate) i v = v
 abbrev pub carriedFrom : Order → ℕ → Table → Table
 carriedFrom o i t = eachFrom (carried o) i t
 
--- ---- the pairs, in rising order of nodes
+-- ---- the pairs, in rising order of nodes as they are noted
 
 abbrev pub pushed : Pairs → ℕ → ℕ → Pairs
 pushed p x kind = record { count = p .count + 1; bytes = set (set (p .bytes) (p .count * 2) x) (p .count * 2 + 1) kind }
@@ -144,6 +144,22 @@ withPair p before after =
 
 unfoldable pub noPairs : Pairs
 noPairs = record { count = 0; bytes = replicate 64 0 }
+
+-- ---- the pairs in their order: those that left, then all others
+
+abbrev pub inGroup : Bool → ℕ → Bool
+inGroup left kind = cond left (eqb kind 1) (not (eqb kind 1))
+
+unfoldable pub withOne : Bool → Pairs → ℕ → ℕ → Pairs
+withOne left p x kind = cond (inGroup left kind && ltb (p .count) 32) (pushed p x kind) p
+
+-- The pairs with those of a group, of the first so many in the bytes.
+unfoldable pub groupedTo : Bool → List ℕ → ℕ → Pairs → Pairs
+groupedTo left bytes zero p = p
+groupedTo left bytes (suc j) p = withOne left (groupedTo left bytes j p) (getD bytes (j * 2) 0) (getD bytes (j * 2 + 1) 0)
+
+unfoldable pub ordered : Pairs → Pairs
+ordered p = let m = min (p .count) 32 in groupedTo false (p .bytes) m (groupedTo true (p .bytes) m noPairs)
 
 -- ---- who left the member state, and who came to it
 
@@ -233,4 +249,4 @@ puts bytes zero out = out
 puts bytes (suc j) out = set (puts bytes j out) j (getD bytes j 0)
 
 abbrev pub writtenBy : Order → Notes → List ℕ → List ℕ
-writtenBy o m out = puts (m .pairs .bytes) (bytesTold (pairsBy o m) (length out)) out
+writtenBy o m out = puts (ordered (m .pairs) .bytes) (bytesTold (pairsBy o m) (length out)) out

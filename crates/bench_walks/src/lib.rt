@@ -34,7 +34,7 @@ ghost use mathlib.Core.Path.{_≡_};
 ghost use Prim.Native.Nat.{_<_, _≤_, max, min};
 ghost use lib.ListN.{length, take};
 ghost use Rattle.bench_walks.specs.Survey.{glimpseOf, surveyed, unseen, surveyOf, fineTable, farFrom, memberSeen, gathered, noMembers, membersOf};
-ghost use Rattle.bench_walks.specs.Orders.{orderOf, carried, carriedFrom, pushed, withPair, noPairs, withIf, movesWith, listWith, sameWith, listsWith, noticed, noNotes, notesOf};
+ghost use Rattle.bench_walks.specs.Orders.{orderOf, carried, carriedFrom, pushed, withPair, noPairs, inGroup, withOne, groupedTo, ordered, withIf, movesWith, listWith, sameWith, listsWith, noticed, noNotes, notesOf};
 
 // What a look over a table finds: whether each record stands in its place; the cable and slots of
 // the first; the next sender's number and record; the nodes that are out.
@@ -188,6 +188,49 @@ fn no_pairs() -> Pairs
         count: 0,
         bytes: [0; 64],
     }
+}
+
+// Whether a change of this kind is one of the group: of those that left, or of all others.
+fn in_group(left: bool, kind: u8) -> bool
+    ensures { λ r. ⌜ r ≡ inGroup left kind ⌝ }
+{
+    if left {
+        return kind == 1;
+    }
+    kind != 1
+}
+
+// The pairs with one more, if it is of the group.
+fn with_one(p: Pairs, left: bool, x: u8, kind: u8) -> Pairs
+    ensures { λ r. ⌜ r ≡ withOne left p x kind ⌝ }
+{
+    if in_group(left, kind) & (p.count < 32) {
+        return pushed(p, x, kind);
+    }
+    p
+}
+
+// The pairs with those of a group, of the first so many of 32.
+fn grouped(p: Pairs, left: bool, bytes: [u8; 64], count: u32) -> Pairs
+    ensures { λ r. ⌜ r ≡ groupedTo left bytes (min count 32) p ⌝ }
+{
+    let mut q = p;
+    let mut i: u32 = 0;
+    while i < count && i < 32 {
+        let at = i as usize * 2;
+        q = with_one(q, left, bytes[at], bytes[at + 1]);
+        i += 1;
+    }
+    q
+}
+
+// The pairs in their order: those that left, then all others.
+pub fn ordered(p: Pairs) -> Pairs
+    ensures { λ r. ⌜ r ≡ ordered p ⌝ }
+{
+    let bytes = p.bytes;
+    let left = grouped(no_pairs(), true, bytes, p.count);
+    grouped(left, false, bytes, p.count)
 }
 
 // The set, with the node if so.

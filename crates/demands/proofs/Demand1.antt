@@ -1,6 +1,6 @@
 -- Demand 1 holds: each definition is a chain of tests, and each test that fails gives a number of the call's list and leaves what was lent. Assumes nothing.
 use Prim.Native.Nat.{ℕ, _+_, _*_, _^_}
-use mathlib.Core.Path.{_≡_, refl, ap}
+use mathlib.Core.Path.{refl}
 use mathlib.Core.Bool.{Bool, true, false, cond}
 use mathlib.Core.List.{List, [], _∷_}
 use lib.Dec.{eqb, ltb, leb}
@@ -30,10 +30,9 @@ use Rattle.bench.specs.declared.Command.{Command}
 use Rattle.bench.specs.declared.Command.the-variants as command
 use Rattle.bench.specs.Table.{Table, tableSound, nodeCount, slotsOf, recordOf}
 use Rattle.bench.specs.Calls as bench
-use Rattle.bench.specs.Pairs.{SlotBytes}
-use Rattle.bench.specs.Outcomes.{outcomeOf}
+use Rattle.bench.specs.Outcomes.{outcomeOf, bytesBy}
 use Rattle.bench.specs.Ledger.{Ledger, ledgerFits}
-use Rattle.bench.specs.Kept.{slotWith, offWith, calledWith, ledgerWith, keptOf, BytesWith}
+use Rattle.bench.specs.Kept.{slotWith, offWith, calledWith, ledgerWith, keptOf}
 use Rattle.plan_text.specs.Text.{writtenOf}
 use Rattle.plan_text.specs.declared.Written as text
 use Rattle.plan_program.specs.declared.Plan.{Plan}
@@ -135,47 +134,38 @@ sends v out =
 
 -- ---- the bench
 
-abbrev Runs : Command → Table → Ledger → List ℕ → List ℕ → bench.Called → Type 0
-Runs c t ledger out after called = RunsBy (numbersFor c) (outcomeOf c t called) (t, ledger, out) (called .table, ledgerWith c t called ledger, after)
+abbrev Runs : Command → Table → Ledger → List ℕ → bench.Called → Type 0
+Runs c t ledger out called = RunsBy (numbersFor c) (outcomeOf c t called) (t, ledger, out) (called .table, ledgerWith c t called ledger, bytesBy c t called out)
 
--- a call that is refused leaves the table and the ledger; where it leaves the bytes, all is as it came
-untouched : (t : Table) (ledger : Ledger) (out after : List ℕ) → after ≡ out → _≡_ {A = Table × Ledger × List ℕ} (t, ledger, after) (t, ledger, out)
-untouched t ledger out after same = ap (λ (l : List ℕ). (t, ledger, l)) same
-
-runs : (c : Command) (t : Table) (ledger : Ledger) (out after : List ℕ) → BytesWith c ledger t out after → Runs c t ledger out after (calledWith c (length out) ledger t)
+runs : (c : Command) (t : Table) (ledger : Ledger) (out : List ℕ) → Runs c t ledger out (calledWith c (length out) ledger t)
 unfolding bench.setUpOf bench.slotOf bench.offOf bench.restartOf bench.lookOf slotWith offWith
-runs (command.SetUp n k) t ledger out after same =
-    let P = Runs (command.SetUp n k) t ledger out after in
-    let kept = untouched t ledger out after same in
+runs (command.SetUp n k) t ledger out =
+    let P = Runs (command.SetUp n k) t ledger out in
     either-passed P (ringSize n) 1
     (either-passed P (sponsorCount (cableOf n k)) 2
-    (either-passed P (eqb (length t) n) 4 (tt, tt) (refl, kept)) (refl, kept)) (refl, kept)
-runs (command.Slot lost missed) t ledger out after told =
-    let P : bench.Called → Type 0 = λ c. SlotBytes t c out after → Runs (command.Slot lost missed) t ledger out after c in
-    let kept = untouched t ledger out after in
+    (either-passed P (eqb (length t) n) 4 (tt, tt) (refl, refl)) (refl, refl)) (refl, refl)
+runs (command.Slot lost missed) t ledger out =
+    let P = Runs (command.Slot lost missed) t ledger out in
     either-passed P (tableSound t) 4
     (either-passed P (within (nodeCount t) missed) 3
     (either-passed P (ledgerFits (nodeCount t) (slotsOf t) ledger) 13
     (either-passed P (tableSound t) 4
     (either-passed P (within (nodeCount t) missed) 3
     (either-passed P (ltb (slotsOf t) limit) 5
-    (either-passed P (leb 64 (length out)) 9
-    (λ _. (tt, tt)) (λ same. (refl, kept same))) (λ same. (refl, kept same))) (λ same. (refl, kept same))) (λ same. (refl, kept same))) (λ same. (refl, kept same))) (λ same. (refl, kept same))) (λ same. (refl, kept same)) told
-runs (command.Off a) t ledger out after same =
-    let P = Runs (command.Off a) t ledger out after in
-    let kept = untouched t ledger out after same in
+    (either-passed P (leb 64 (length out)) 9 (tt, tt) (refl, refl)) (refl, refl)) (refl, refl)) (refl, refl)) (refl, refl)) (refl, refl)) (refl, refl)
+runs (command.Off a) t ledger out =
+    let P = Runs (command.Off a) t ledger out in
     either-passed P (tableSound t) 4
     (either-passed P (nodeNumber (nodeCount t) a) 3
     (either-passed P (ledgerFits (nodeCount t) (slotsOf t) ledger) 13
-    (either-passed P (tableSound t) 4 (either-passed P (nodeNumber (nodeCount t) a) 3 (tt, tt) (refl, kept)) (refl, kept)) (refl, kept)) (refl, kept)) (refl, kept)
-runs (command.Restart a) t ledger out after same =
-    let P = Runs (command.Restart a) t ledger out after in
-    let kept = untouched t ledger out after same in
+    (either-passed P (tableSound t) 4 (either-passed P (nodeNumber (nodeCount t) a) 3 (tt, tt) (refl, refl)) (refl, refl)) (refl, refl)) (refl, refl)) (refl, refl)
+runs (command.Restart a) t ledger out =
+    let P = Runs (command.Restart a) t ledger out in
     either-passed P (tableSound t) 4
     (either-passed P (nodeNumber (nodeCount t) a) 3
-    (either-passed P (isOut (recordOf t a .state)) 11 (tt, tt) (refl, kept)) (refl, kept)) (refl, kept)
-runs (command.Look lost) t ledger out after same =
-    either-passed (Runs (command.Look lost) t ledger out after) (tableSound t) 4 (tt, tt) (refl, untouched t ledger out after same)
+    (either-passed P (isOut (recordOf t a .state)) 11 (tt, tt) (refl, refl)) (refl, refl)) (refl, refl)
+runs (command.Look lost) t ledger out =
+    either-passed (Runs (command.Look lost) t ledger out) (tableSound t) 4 (tt, tt) (refl, refl)
 
 -- ---- plan texts
 

@@ -31,7 +31,7 @@ use Rattle.bench.specs.declared.Outcome.{Outcome}
 use Rattle.bench.specs.declared.Outcome.the-variants as outcome
 use Rattle.bench.specs.Table.{Table}
 use Rattle.bench.specs.Ledger.{Ledger}
-use Rattle.bench.specs.Kept.{keptOf, BytesWith}
+use Rattle.bench.specs.Kept.{keptOf, bytesWith}
 use Rattle.plan_text.specs.declared.Written as text
 use Rattle.plan_text.specs.declared.Written.the-variants as printed
 use Rattle.plan_program.specs.declared.Plan.{Plan}
@@ -135,9 +135,9 @@ pub record Demand1 : Type 0 where
   pub send : (v : Node) (out : List ℕ) → WritesBy (4 ∷ 5 ∷ 10 ∷ 9 ∷ []) out (sendOf v out)
   pub off : (v : Node) → StepsBy (4 ∷ []) v (offOf v)
   pub restart : (v : Node) → StepsBy (4 ∷ 11 ∷ []) v (restartOf v)
-  -- the bench: set-up, slot, off, restart and a look; `out` are the lent bytes and `after` those after the call
-  pub bench : (c : Command) (t : Table) (ledger : Ledger) (out after : List ℕ) → BytesWith c ledger t out after
-      → let kept = keptOf c (length out) ledger t in RunsBy (numbersFor c) (kept .reply .outcome) (t, ledger, out) (kept .table, kept .ledger, after)
+  -- the bench: set-up, slot, off, restart and a look; `out` are the lent bytes
+  pub bench : (c : Command) (t : Table) (ledger : Ledger) (out : List ℕ)
+      → let kept = keptOf c (length out) ledger t in RunsBy (numbersFor c) (kept .reply .outcome) (t, ledger, out) (kept .table, kept .ledger, bytesWith c ledger t out)
   -- plan texts: a whole one; a piece of one, where this part of the next line has come; and the end
   pub print-plan : (input out : List ℕ) → PrintsBy (9 ∷ []) out (printedIn input out)
   pub feed : (p : Plan) (part : Part) (input out : List ℕ) → FeedsBy (4 ∷ 9 ∷ []) p part out (fedOf p part input out)

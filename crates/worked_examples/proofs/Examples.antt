@@ -1,11 +1,13 @@
--- The table of worked examples holds. Assumes nothing.
+-- The tables of worked examples hold. Assumes nothing.
 use mathlib.Core.Path.{refl}
 use mathlib.Core.List.{[], _∷_}
 use Rattle.message.specs.Message.{bytesOf, messageOf, little, saidBy, readOf, writeOf}
 use Rattle.node_record.specs.declared.Node.{Node}
 use Rattle.bench.proofs.Computed.{computed}
 use Rattle.plan_program.proofs.Computed.{printing}
-use Rattle.worked_examples.specs.Examples.{AllHold, examples}
+use Rattle.worked_examples.specs.Rows.{AllHold}
+use Rattle.worked_examples.specs.Examples.{examples}
+use Rattle.worked_examples.specs.Requests.{fixedOrder}
 
 infixr 1 _and_
 _and_ : {A B : Type 0} → A → B → A × B
@@ -24,4 +26,10 @@ worked-examples a b c d =
     and refl  -- node 3 misses slot 2
     and refl and refl and refl and refl and refl  -- and slot 4 is lost
     and refl and refl and refl and refl  -- nodes 1 and 2 off
+    and tt
+
+pub request-examples : (a b c d : Node) → AllHold (fixedOrder (a ∷ b ∷ c ∷ d ∷ []))
+unfolding fixedOrder computed
+request-examples a b c d =
+    refl and refl  -- c
     and tt

@@ -1,5 +1,6 @@
-//! Document 01, "The bench". The calls take a table of records and change it, slot and off also the ledger
-//! of document 02, request a; a refused call gives the number of the refusal and leaves both as they were.
+//! Document 01, "The bench", with the order of changes of document 02, request c. The calls take a table of
+//! records and change it, slot and off also the ledger of request a; a refused call gives the number of the
+//! refusal and leaves both as they were.
 
 use super::ledger::{self, Figures};
 use super::node::{Node, Said, State};
@@ -52,7 +53,8 @@ pub enum Kind {
     Listens = 6,
 }
 
-/// What happened in a slot: its message, and each node whose state changed, by rising number.
+/// What happened in a slot: its message, and each node whose state changed. "Within one slot, first come the
+/// nodes that left, then all the others, each group by rising node number."
 pub struct Slot {
     pub sender: u32,
     pub fate: Fate,
@@ -218,17 +220,19 @@ fn run_slot(rules: &impl Rules, nodes: &mut [Node], lost: bool, missed: Set) -> 
     let fate = fate(speaker, said, lost);
     // "A lost message is heard by nobody, named or not."
     let said = if lost { None } else { said };
-    let mut changes = Vec::new();
+    let (mut left, mut others) = (Vec::new(), Vec::new());
     for node in nodes {
         // "A sender or silent slot is unaffected by being named." What it says the sender does not hear.
         let hears = node.own != sender && !missed.has(node.own);
         let next = rules.step(node, if hears { said } else { None });
-        if let Some(kind) = change(node.state, next.state) {
-            changes.push((node.own, kind));
+        match change(node.state, next.state) {
+            Some(Kind::Left) => left.push((node.own, Kind::Left)),
+            Some(kind) => others.push((node.own, kind)),
+            None => {}
         }
         *node = next;
     }
-    Slot { sender, fate, changes }
+    Slot { sender, fate, changes: [left, others].concat() }
 }
 
 /// What becomes of the message of this node, whose slot it is.

@@ -50,7 +50,7 @@ use Rattle.bench_by_value.specs.declared.Ran.{Ran}
 use Rattle.bench_by_value.proofs.Ran as S
 use Rattle.bench_by_value.proofs.Ran.Laws as S′
 use Rattle.bench.specs.Ledger.{Ledger}
-use Rattle.bench.specs.Kept.{Kept, keptOf, BytesWith}
+use Rattle.bench.specs.Kept.{Kept, keptOf, bytesWith}
 use Rattle.bench_walks.proofs.Again.{LentAgain, lends-again, comes-back}
 use Rattle.bench_walks.proofs.Calls.{Plain, uint, a-struct, an-enum, Known, Does, at, calls-by, does, arg, frees}
 use Rattle.bench_by_value.specs.ByValue.{tableOf, ended, callWith}
@@ -133,7 +133,7 @@ module _ {M : Type 1} (𝓤 : URA M) (H : Heap 𝓤) (A : Atoms 𝓤) (W : Given
     abbrev Post : Val → SProp 𝓤
     Post = walkOf 𝓤 H A this.ended stayed (this.clauses 𝓤 H A mem run) .post (((κ, (κ′, tt)), (q, (q′, tt)), tt, (y, (z, (ys, (n, (c, tt))))), (s ∷ [], (s′ ∷ [], (val ys ∷ [], (vint w32 n ∷ [], (command .val c ∷ [], tt)))))), tt)
 
-    exits : (ms : Ledger) (ws : List ℕ) (r : Ran) → Is S.the-row r (ran .val r ∷ []) → ((r, ms) ≡ callWith n c (length out) ls ys) × BytesWith c ls (tableOf n ys) out ws → length ms ≡ length ls → length ws ≡ length out
+    exits : (ms : Ledger) (ws : List ℕ) (r : Ran) → Is S.the-row r (ran .val r ∷ []) → ((r, ms) ≡ callWith n c (length out) ls ys) × (ws ≡ bytesWith c ls (tableOf n ys) out) → length ms ≡ length ls → length ws ≡ length out
         → ent 𝓤 (⋆ 𝓤 H A (‵ (MutSlice (named 0) κ E .own (at E b o ms γ) (s ∷ [])) ∷ ‵ (flft κ q) ∷ ‵ (MutSlice (named 1) κ′ (UInt w8) .own (at (UInt w8) b′ o′ ws γ′) (s′ ∷ [])) ∷ ‵ (flft κ′ q′) ∷ [])) (Post (ran .val r))
     exits ms ws r g-r e l l′ =
         qed W (‵ (MutSlice (named 0) κ E .own (at E b o ms γ) (s ∷ [])) ∷ ‵ (flft κ q) ∷ ‵ (MutSlice (named 1) κ′ (UInt w8) .own (at (UInt w8) b′ o′ ws γ′) (s′ ∷ [])) ∷ ‵ (flft κ′ q′) ∷ []) ∵
@@ -183,7 +183,7 @@ module _ {M : Type 1} (𝓤 : URA M) (H : Heap 𝓤) (A : Atoms 𝓤) (W : Given
         use2 W (later (some (λ (δ″ : GName). ‵ (MutSlice (named 2) (ρ ∷ []) (UInt w8) .own (at (UInt w8) b′ o′ out δ″) (s′ ∷ [])) ⊛ ‵ (LentAgain (UInt w8) κ′ (ρ ∷ []) q′ γ′ b′ o′ δ″ out)))) (lends-again (UInt w8) κ′ (ρ ∷ []) q′ γ′ b′ o′ 𝓤 H A W (named 1) (named 2) out) $ await ! tt $ pick ! (λ δ″. split ! $
         move ! (8 ∷ 6 ∷ []) $ join ! $ move ! (6 ∷ 4 ∷ []) $ join ! $ move ! (4 ∷ 2 ∷ []) $ join ! $ use3 W (raw (tripleOf 𝓤 H A bench.signature (bench.spec 𝓤 H A mem run) .pre (bounds ν μ ρ l₆ δ δ′ δ″))) (asks ν μ ρ l₆ δ δ′ δ″) $
         calls-by ! (fmOf 𝓤 H (W .laws) 𝓣) bench.ended (bench.clauses 𝓤 H A mem run) known-bench (bounds ν μ ρ l₆ δ δ′ δ″)
-        (λ r ws. (kept (ws .0) (ws .1 .0) r ≡ keptOf c (length out) ls t) × BytesWith c ls t out (ws .1 .1 .0)) (λ r ws. id⊢ 𝓤 _) (and-then ! (arg ! 15 refl) (and-then ! (arg ! 11 refl) (and-then ! (arg ! 7 refl) (and-then ! (arg ! 24 refl) (no-more !))))) (λ v r ws is-r.
+        (λ r ws. (kept (ws .0) (ws .1 .0) r ≡ keptOf c (length out) ls t) × (ws .1 .1 .0 ≡ bytesWith c ls t out)) (λ r ws. id⊢ 𝓤 _) (and-then ! (arg ! 15 refl) (and-then ! (arg ! 11 refl) (and-then ! (arg ! 7 refl) (and-then ! (arg ! 24 refl) (no-more !))))) (λ v r ws is-r.
         use1 W (‵ (flft (ν ∷ []) fullShare) ⊛ (‵ (flft (μ ∷ []) fullShare) ⊛ (‵ (flft (ρ ∷ []) fullShare) ⊛ ‵ ftrue))) (id⊢ 𝓤 _) $ split ! $ lft-end ! tt $ move ! (1 ∷ []) $ split ! $ lft-end ! tt $ move ! (1 ∷ []) $ split ! $ lft-end ! tt $
         move ! (5 ∷ []) $ fsplit ! $ fsplit ! $ move ! (1 ∷ []) $ feqL ! (λ len-zs. move ! (1 ∷ []) $ fsplit ! $ fsplit ! $ move ! (1 ∷ []) $ feqL ! (λ len-ms. move ! (1 ∷ []) $ fsplit ! $ fsplit ! $ move ! (1 ∷ []) $ feqL ! (λ len-ws. move ! (4 ∷ 9 ∷ 0 ∷ []) $
         use3 W (later (‵ (MutSlice (named 1) κ′ (UInt w8) .own (at (UInt w8) b′ o′ (ws .1 .1 .0) γ′) (s′ ∷ [])) ⊛ ‵ (flft κ′ q′))) (comes-back (UInt w8) κ′ (ρ ∷ []) q′ γ′ b′ o′ 𝓤 H A W (named 1) (named 2) out δ″ (ws .1 .1 .0) room′ len-ws) $ await ! tt $ split ! $ move ! (6 ∷ 9 ∷ 3 ∷ []) $

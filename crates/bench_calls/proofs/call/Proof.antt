@@ -45,7 +45,7 @@ use Rattle.bench_walks.proofs.Survey.Laws as S′
 use Rattle.bench_walks.proofs.Order as O
 use Rattle.bench_walks.proofs.Order.Laws as O′
 use Rattle.bench.specs.Ledger.{Ledger, ledgerFits}
-use Rattle.bench.specs.Kept.{Kept, keptOf, BytesWith}
+use Rattle.bench.specs.Kept.{Kept, keptOf, bytesWith}
 use Rattle.bench_walks.specs.Survey.{surveyOf}
 use Rattle.bench_walks.specs.Orders.{orderOf, carriedFrom, replyBy, writtenBy}
 use Rattle.bench_walks.proofs.Calls.{Plain, uint, boolean, unit, a-struct, an-enum, Known, Does, at, does, lends, shares, arg, frees}
@@ -139,7 +139,7 @@ module _ {M : Type 1} (𝓤 : URA M) (H : Heap 𝓤) (A : Atoms 𝓤) (W : Given
     abbrev Post : Val → SProp 𝓤
     Post = walkOf 𝓤 H A this.ended stayed (this.clauses 𝓤 H A mem run) .post (((κ, (κ′, (κ″, tt))), (q, (q′, (q″, tt))), tt, (x, (y, (z, (c, tt)))), (s ∷ [], (s′ ∷ [], (s″ ∷ [], (command .val c ∷ [], tt))))), tt)
 
-    exits : (zs : List Node) (ms : Ledger) (ws : List ℕ) (r : Reply) → Is Rp.the-row r (reply .val r ∷ []) → (kept zs ms r ≡ keptOf c (length out) ls xs) × BytesWith c ls xs out ws
+    exits : (zs : List Node) (ms : Ledger) (ws : List ℕ) (r : Reply) → Is Rp.the-row r (reply .val r ∷ []) → (kept zs ms r ≡ keptOf c (length out) ls xs) × (ws ≡ bytesWith c ls xs out)
         → length zs ≡ length xs → length ms ≡ length ls → length ws ≡ length out
         → ent 𝓤 (⋆ 𝓤 H A (‵ (MutSlice (named 2) κ″ (UInt w8) .own (at (UInt w8) b″ o″ ws γ″) (s″ ∷ [])) ∷ ‵ (flft κ″ q″) ∷ ‵ (MutSlice (named 1) κ′ E .own (at E b′ o′ ms γ′) (s′ ∷ [])) ∷ ‵ (flft κ′ q′) ∷ ‵ (MutSlice (named 0) κ T.the-row .own (at T.the-row b o zs γ) (s ∷ [])) ∷ ‵ (flft κ q) ∷ [])) (Post (reply .val r))
     exits zs ms ws r g-r e l l′ l″ =

@@ -19,6 +19,19 @@ pub const OFFS: [&str; 5] = [
     "off: of an out node",
 ];
 
+/// A slot in which a node leaves and another one changes otherwise.
+pub const BOTH: &str = "both groups: in one slot";
+
+/// Such a slot, where the other has a lower number than one that left; a kind's number is its place, from 2. By
+/// rising number alone the pairs would stand in another order.
+pub const LOWER: [&str; 5] = [
+    "both groups: a lower node from listening to following",
+    "both groups: a lower node knocked",
+    "both groups: a lower node joined",
+    "both groups: a lower node from knocking to following",
+    "both groups: a lower node to listening",
+];
+
 /// Runs the program on the commands and compares every answer: what the call tells, each byte of the buffer,
 /// each of the rows, those after the table too, and each of the entries, those after the ledger too. Notes what
 /// is expected.
@@ -44,7 +57,6 @@ fn answers(count: &mut Count, commands: &[Command], output: &mut dyn Read) -> Re
         off.filter(|_| told.number == 0).into_iter().for_each(|name| count.event(name));
         child::read_answer(output, expected.len(), &mut got)
             .map_err(|why| format!("{}: the answer cannot be read: {why}", at()))?;
-        sort_pairs(command, &mut got);
         count.check(got == expected, || {
             let (table, difference) = (shown_rows(&expected, held.size), shown_difference(&got, &expected));
             format!("{}, {} rows, {} entries\n        {difference}{table}", at(), held.size, held.lent)
@@ -59,9 +71,7 @@ fn answers(count: &mut Count, commands: &[Command], output: &mut dyn Read) -> Re
 fn note(count: &mut Count, command: &Command, told: &Told, answer: &[u8]) {
     count.expected(u32::from(told.number));
     if let Command::Call(Call::Slot { .. }, _) = command {
-        for pair in answer[HEAD..HEAD + 2 * told.pairs as usize].chunks_exact(2) {
-            count.event(KINDS[usize::from(pair[1]) - 1]);
-        }
+        note_pairs(count, &answer[HEAD..HEAD + 2 * told.pairs as usize]);
     }
     count.event(match (command, told.number) {
         (Command::Call(Call::SetUp { .. }, _), 0) => "call: set-up",
@@ -78,6 +88,21 @@ fn note(count: &mut Count, command: &Command, told: &Told, answer: &[u8]) {
     }
 }
 
+/// The pairs of one slot.
+fn note_pairs(count: &mut Count, bytes: &[u8]) {
+    let pairs = || bytes.chunks_exact(2).map(|pair| (pair[0], usize::from(pair[1])));
+    pairs().for_each(|(_, kind)| count.event(KINDS[kind - 1]));
+    let Some(highest) = pairs().filter(|pair| pair.1 == 1).map(|pair| pair.0).max() else { return };
+    if pairs().any(|pair| pair.1 != 1) {
+        count.event(BOTH);
+    }
+    for (kind, name) in (2..).zip(LOWER) {
+        if pairs().any(|pair| pair.1 == kind && pair.0 < highest) {
+            count.event(name);
+        }
+    }
+}
+
 /// The event of an off of a node of this table.
 fn off_of(command: &Command, table: &[Node]) -> Option<&'static str> {
     let Command::Call(Call::Off(x), _) = *command else { return None };
@@ -89,20 +114,6 @@ fn off_of(command: &Command, table: &[Node]) -> Option<&'static str> {
         State::Knocking => OFFS[3],
         State::Out(_) => OFFS[4],
     })
-}
-
-/// "The order among changes of one slot is left open.": the program's pairs by rising node number.
-fn sort_pairs(command: &Command, answer: &mut [u8]) {
-    let Command::Call(_, room) = command else { return };
-    let end = HEAD + usize::from(*room);
-    if answer.len() < end {
-        return;
-    }
-    let pairs = Told::of(answer).pairs as usize;
-    let told = answer[HEAD..end].chunks_exact(2).take(pairs);
-    let mut sorted: Vec<[u8; 2]> = told.map(|pair| [pair[0], pair[1]]).collect();
-    sorted.sort_unstable();
-    answer[HEAD..HEAD + 2 * sorted.len()].copy_from_slice(sorted.as_flattened());
 }
 
 fn shown_command(command: &Command) -> String {

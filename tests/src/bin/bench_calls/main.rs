@@ -2,6 +2,7 @@
 
 mod compare;
 mod figures;
+mod groups;
 mod ledgers;
 mod protocol;
 mod refusals;
@@ -14,95 +15,107 @@ mod vectors;
 use comparison::report::{self, Case};
 use std::process::ExitCode;
 
+const CASES: &[Case] = &[
+    Case {
+        name: "vectors: pairs of all six kinds by document 01, model and program",
+        meets: &[0],
+        run: vectors::pairs,
+    },
+    Case {
+        name: "vectors: pairs of a slot in which a node left and another did not, by request c, model and program",
+        meets: &[0],
+        run: vectors::groups,
+    },
+    Case {
+        name: "vectors: figures of leavings, joinings and offs by request a, model and program",
+        meets: &[0],
+        run: vectors::figures,
+    },
+    Case {
+        name: "set-up: any rows, every number of them, n and k in range and out of it",
+        meets: &[0, 1, 2, 4],
+        run: refusals::set_up,
+    },
+    Case {
+        name: "runs: every n and k, with losses, misses, offs, restarts, looks and refused calls; tally",
+        meets: &[0, 2, 3, 4, 9, 11, 13],
+        run: runs::every_n_and_k,
+    },
+    Case {
+        name: "runs: long ones of n from 3 to 9; tally",
+        meets: &[0, 2, 3, 4, 9, 11, 13],
+        run: runs::small_rings,
+    },
+    Case {
+        name: "runs: 6,000 calls in which the nodes go and come back all the time; tally",
+        meets: &[0, 2, 3, 4, 9, 11, 13],
+        run: runs::lasting,
+    },
+    Case { name: "tables: any sound records, every call", meets: &[0, 11], run: tables::sound },
+    Case {
+        name: "tables: a record not sound in one clause, for every clause",
+        meets: &[0, 4],
+        run: tables::unsound_record,
+    },
+    Case {
+        name: "tables: sound records that are no table: numbers, n, k, slot count, size",
+        meets: &[0, 4],
+        run: tables::no_tables,
+    },
+    Case {
+        name: "slot limit: tables at the limit and up to two slots below it",
+        meets: &[0, 5, 11, 13],
+        run: tables::limit,
+    },
+    Case { name: "buffers: every length from 0 to 255, every call", meets: &[0, 9], run: tables::rooms },
+    Case {
+        name: "pairs: all nodes leave in one slot, for every n",
+        meets: &[0],
+        run: tables::most_pairs,
+    },
+    Case {
+        name: "pairs: nodes that leave and nodes that change otherwise in one slot, for every n",
+        meets: &[0],
+        run: groups::pairs,
+    },
+    Case {
+        name: "order: every choice of causes at once",
+        meets: &[0, 3, 4, 5, 9, 11, 13],
+        run: refusals::order,
+    },
+    Case {
+        name: "ledgers: lengths from 0 to 33 for every n, every call",
+        meets: &[0, 13],
+        run: ledgers::lengths,
+    },
+    Case {
+        name: "ledgers: each figure at the slot count plus one and past it",
+        meets: &[0, 5, 13],
+        run: ledgers::edges,
+    },
+    Case {
+        name: "ledgers: a count that does not fit, in every entry for every n",
+        meets: &[0, 13],
+        run: ledgers::every_entry,
+    },
+    Case { name: "ledgers: off in every state, any figures before it", meets: &[0], run: ledgers::offs },
+    Case {
+        name: "ledgers: an off that takes a count past what fits",
+        meets: &[0, 13],
+        run: ledgers::off_past,
+    },
+    Case {
+        name: "ledgers: all nodes leave in one slot, any figures before it",
+        meets: &[0],
+        run: ledgers::all_leave,
+    },
+    Case {
+        name: "ledgers: any small ones, sound tables of few slots, every call",
+        meets: &[0, 11, 13],
+        run: ledgers::small,
+    },
+];
+
 fn main() -> ExitCode {
-    report::run(&[
-        Case {
-            name: "vectors: pairs of all six kinds by document 01, model and program",
-            meets: &[0],
-            run: vectors::pairs,
-        },
-        Case {
-            name: "vectors: figures of leavings, joinings and offs by request a, model and program",
-            meets: &[0],
-            run: vectors::figures,
-        },
-        Case {
-            name: "set-up: any rows, every number of them, n and k in range and out of it",
-            meets: &[0, 1, 2, 4],
-            run: refusals::set_up,
-        },
-        Case {
-            name: "runs: every n and k, with losses, misses, offs, restarts, looks and refused calls; tally",
-            meets: &[0, 2, 3, 4, 9, 11, 13],
-            run: runs::every_n_and_k,
-        },
-        Case {
-            name: "runs: long ones of n from 3 to 9; tally",
-            meets: &[0, 2, 3, 4, 9, 11, 13],
-            run: runs::small_rings,
-        },
-        Case {
-            name: "runs: 6,000 calls in which the nodes go and come back all the time; tally",
-            meets: &[0, 2, 3, 4, 9, 11, 13],
-            run: runs::lasting,
-        },
-        Case { name: "tables: any sound records, every call", meets: &[0, 11], run: tables::sound },
-        Case {
-            name: "tables: a record not sound in one clause, for every clause",
-            meets: &[0, 4],
-            run: tables::unsound_record,
-        },
-        Case {
-            name: "tables: sound records that are no table: numbers, n, k, slot count, size",
-            meets: &[0, 4],
-            run: tables::no_tables,
-        },
-        Case {
-            name: "slot limit: tables at the limit and up to two slots below it",
-            meets: &[0, 5, 11, 13],
-            run: tables::limit,
-        },
-        Case { name: "buffers: every length from 0 to 255, every call", meets: &[0, 9], run: tables::rooms },
-        Case {
-            name: "pairs: all nodes leave in one slot, for every n",
-            meets: &[0],
-            run: tables::most_pairs,
-        },
-        Case {
-            name: "order: every choice of causes at once",
-            meets: &[0, 3, 4, 5, 9, 11, 13],
-            run: refusals::order,
-        },
-        Case {
-            name: "ledgers: lengths from 0 to 33 for every n, every call",
-            meets: &[0, 13],
-            run: ledgers::lengths,
-        },
-        Case {
-            name: "ledgers: each figure at the slot count plus one and past it",
-            meets: &[0, 5, 13],
-            run: ledgers::edges,
-        },
-        Case {
-            name: "ledgers: a count that does not fit, in every entry for every n",
-            meets: &[0, 13],
-            run: ledgers::every_entry,
-        },
-        Case { name: "ledgers: off in every state, any figures before it", meets: &[0], run: ledgers::offs },
-        Case {
-            name: "ledgers: an off that takes a count past what fits",
-            meets: &[0, 13],
-            run: ledgers::off_past,
-        },
-        Case {
-            name: "ledgers: all nodes leave in one slot, any figures before it",
-            meets: &[0],
-            run: ledgers::all_leave,
-        },
-        Case {
-            name: "ledgers: any small ones, sound tables of few slots, every call",
-            meets: &[0, 11, 13],
-            run: ledgers::small,
-        },
-    ])
+    report::run(CASES)
 }

@@ -69,6 +69,11 @@ fn push_figures(figures: &Figures, out: &mut Vec<u8>) {
     }
 }
 
+/// The lent buffer in a whole answer.
+pub fn buffer_of(answer: &[u8]) -> &[u8] {
+    &answer[HEAD..answer.len() - TAIL]
+}
+
 /// The rows of a whole answer.
 pub fn rows_of(answer: &[u8]) -> impl Iterator<Item = Node> + '_ {
     let rows = &answer[answer.len() - TAIL..][..ROWS * RECORD];
@@ -182,8 +187,8 @@ impl Held {
         &self.rows[..self.size]
     }
 
-    /// Carries a command out. The answer's bytes go into `out`, which is emptied first, the pairs by rising
-    /// node number; none for a command that has no answer.
+    /// Carries a command out. The answer's bytes go into `out`, which is emptied first; none for a command that
+    /// has no answer.
     pub fn run(&mut self, command: &Command, out: &mut Vec<u8>) -> Option<Told> {
         out.clear();
         match *command {

@@ -1,7 +1,7 @@
 //! Commands in a row, made with the table and the ledger before each of them in view.
 
 use super::figures;
-use super::protocol::{Call, Command, Held, Told, ENTRIES, ROWS};
+use super::protocol::{buffer_of, Call, Command, Held, Told, ENTRIES, ROWS};
 use comparison::model::ledger::Figures;
 use comparison::model::node::{Node, State};
 use comparison::model::ring::LIMIT;
@@ -37,6 +37,11 @@ impl Script {
     /// All entries, those after the ledger too.
     pub fn entries(&self) -> &[Figures] {
         &self.held.entries
+    }
+
+    /// The buffer as the last command, a call, left it.
+    pub fn buffer(&self) -> &[u8] {
+        buffer_of(&self.answer)
     }
 
     /// What the model tells, if it is a call.

@@ -1,8 +1,8 @@
-//! Runs whose pairs are typed from document 01 and whose figures are typed from request a; neither side makes an
-//! expected answer.
+//! Runs whose pairs are typed from document 01 and request c and whose figures are typed from request a; neither
+//! side makes an expected answer.
 
-use super::compare::{compare, OFFS};
-use super::protocol::{Call, Command, Held, HEAD};
+use super::compare::{compare, BOTH, LOWER, OFFS};
+use super::protocol::{buffer_of, Call, Command, Held, FILL};
 use super::script::Script;
 use comparison::events::KINDS;
 use comparison::model::ledger::Figures;
@@ -52,9 +52,64 @@ const KNOCKS: Run = &[
 /// It hears nothing more: in slot 16 node 4 decides node 1, whose mark is off, and no mark is left.
 const DEAF: Run = &[(MISS, &[]), (OK, &[(2, 3)]), (MISS, &[]), (MISS, &[(2, 6)])];
 
-/// The model against the pairs; the commands are for the program.
-fn follow(count: &mut Count, runs: &[Run]) -> Result<Vec<Command>, String> {
-    let mut commands = vec![Command::Size(4), Command::Lend(4), Command::Call(Call::SetUp { n: 4, k: 2 }, 0)];
+/// No message is heard. In slot 15 node 3 decides node 4, whose message of slot 12 nobody could confirm to it. In
+/// slot 16 node 4 decides node 1, which nobody heard; no mark of another is left to node 3, nor to node 2.
+const SILENCE: Run = &[(LOST, &[]), (LOST, &[(2, 3)]), (LOST, &[(4, 1)]), (LOST, &[(1, 1), (3, 1), (2, 6)])];
+
+/// n = 5, k = 2: node 2 leaves in slot 4 and follows after two windows of five slots.
+const RETURN_OF_FIVE: Run = &[
+    (OK, &[]),
+    (LOST, &[]),
+    (OK, &[]),
+    (OK, &[(2, 1)]),
+    (Call::Restart(2), &[]),
+    (OK, &[]),
+    (OK, &[]),
+    (OK, &[]),
+    (OK, &[]),
+    (OK, &[]),
+    (OK, &[]),
+    (OK, &[]),
+    (OK, &[]),
+    (OK, &[]),
+    (OK, &[(2, 2)]),
+    (OK, &[]),
+    (OK, &[]),
+];
+
+/// The message of slot 19 is lost. Node 1 decides its sender, node 4, in slot 21, and then node 2 joins.
+const JOINS_AS_ONE_LEAVES: Run =
+    &[(OK, &[(2, 3)]), (OK, &[]), (LOST, &[]), (OK, &[]), (OK, &[(4, 1), (2, 4)])];
+
+/// The knock of slot 17 is lost, too.
+const UNHEARD_AS_ONE_LEAVES: Run =
+    &[(LOST, &[(2, 3)]), (OK, &[]), (LOST, &[]), (OK, &[]), (OK, &[(4, 1), (2, 5)])];
+
+/// Node 2 listens from slot 6 on and hears nodes 1 and 5 in both windows, the last time one yes from node 5,
+/// which then decides node 3: the message of slot 13 is lost.
+const FOLLOWS_AS_ONE_LEAVES: Run = &[
+    (OK, &[]),
+    (LOST, &[]),
+    (OK, &[]),
+    (OK, &[(2, 1)]),
+    (OK, &[]),
+    (Call::Restart(2), &[]),
+    (OK, &[]),
+    (OK, &[]),
+    (MISS, &[]),
+    (MISS, &[]),
+    (OK, &[]),
+    (OK, &[]),
+    (OK, &[]),
+    (LOST, &[]),
+    (MISS, &[]),
+    (OK, &[(3, 1), (2, 2)]),
+];
+
+/// The model against the pairs, k = 2; the commands are for the program.
+fn follow(count: &mut Count, n: u8, runs: &[Run]) -> Result<Vec<Command>, String> {
+    let set_up = Call::SetUp { n: u32::from(n), k: 2 };
+    let mut commands = vec![Command::Size(n), Command::Lend(n), Command::Call(set_up, 0)];
     let mut held = Held::first();
     let mut answer = Vec::new();
     for command in &commands {
@@ -63,9 +118,9 @@ fn follow(count: &mut Count, runs: &[Run]) -> Result<Vec<Command>, String> {
     for (i, &(call, pairs)) in runs.iter().flat_map(|run| run.iter()).enumerate() {
         let command = Command::Call(call, 64);
         let told = held.run(&command, &mut answer).expect("a call is answered");
-        let bytes: Vec<u8> = pairs.iter().flat_map(|&(node, kind)| [node, kind]).collect();
-        let same =
-            told.number == 0 && told.pairs as usize == pairs.len() && answer[HEAD..].starts_with(&bytes);
+        let mut bytes: Vec<u8> = pairs.iter().flat_map(|&(node, kind)| [node, kind]).collect();
+        bytes.resize(64, FILL);
+        let same = told.number == 0 && told.pairs as usize == pairs.len() && buffer_of(&answer) == bytes;
         count.check(same, || format!("call {}: pairs {pairs:?}, and by the model {told:?}", i + 1))?;
         commands.push(command);
     }
@@ -74,10 +129,25 @@ fn follow(count: &mut Count, runs: &[Run]) -> Result<Vec<Command>, String> {
 
 pub fn pairs(count: &mut Count) -> Result<(), String> {
     for runs in [[RETURN, KNOCKS], [RETURN, DEAF]] {
-        let commands = follow(count, &runs)?;
+        let commands = follow(count, 4, &runs)?;
         compare(count, &commands)?;
     }
     count.needs(&KINDS)
+}
+
+/// A node leaves, and one with a lower number changes otherwise.
+pub fn groups(count: &mut Count) -> Result<(), String> {
+    let runs: [(u8, &[Run]); 4] = [
+        (4, &[RETURN, SILENCE]),
+        (5, &[RETURN_OF_FIVE, JOINS_AS_ONE_LEAVES]),
+        (5, &[RETURN_OF_FIVE, UNHEARD_AS_ONE_LEAVES]),
+        (5, &[FOLLOWS_AS_ONE_LEAVES]),
+    ];
+    for (n, runs) in runs {
+        let commands = follow(count, n, runs)?;
+        compare(count, &commands)?;
+    }
+    count.needs(&[BOTH, LOWER[0], LOWER[2], LOWER[3], LOWER[4]])
 }
 
 /// A call that is made so many times, and node 2's figures after each: left, joined, slot of the last leaving.

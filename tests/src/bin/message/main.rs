@@ -9,63 +9,61 @@ mod writer;
 use comparison::report::{self, Case};
 use std::process::ExitCode;
 
+const CASES: &[Case] = &[
+    Case {
+        name: "vectors: messages of document 01, model and library",
+        meets: &[0, 2, 6, 7, 8],
+        run: vectors::reads,
+    },
+    Case {
+        name: "vectors: calls of the writer by document 01, model and library",
+        meets: &[0, 2, 8, 9],
+        run: vectors::writes,
+    },
+    Case {
+        name: "reader: every k from 0 to 40 and large ones, lengths 0 to 12 and long ones",
+        meets: &[0, 2, 6, 7, 8],
+        run: reader::every_k,
+    },
+    Case {
+        name: "reader: all messages of k = 2 to 8, each byte changed to every value, lengths 0 to 8",
+        meets: &[0, 6, 7, 8],
+        run: reader::near_messages_of_small_k,
+    },
+    Case {
+        name: "reader: messages of k = 9 to 31, each byte changed to every value",
+        meets: &[0, 7, 8],
+        run: reader::near_messages_of_large_k,
+    },
+    Case {
+        name: "reader: several things wrong at once",
+        meets: &[0, 2, 6, 7, 8],
+        run: reader::several_faults,
+    },
+    Case { name: "reader: random messages, valid and damaged", meets: &[0, 2, 6, 7, 8], run: reader::random },
+    Case {
+        name: "writer: every k from 0 to 40 and large ones, output lengths 0 to 12 and long ones",
+        meets: &[0, 2, 8, 9],
+        run: writer::every_k,
+    },
+    Case {
+        name: "writer: all acknowledgements of k = 2 to 8 and past k, output lengths 0 to 12",
+        meets: &[0, 8, 9],
+        run: writer::all_of_small_k,
+    },
+    Case { name: "writer: random calls", meets: &[0, 2, 8, 9], run: writer::random },
+    Case {
+        name: "round trips: written and read, by library and model in turn",
+        meets: &[0],
+        run: round_trips::written_then_read,
+    },
+    Case {
+        name: "round trips: what the library reads it writes back, byte for byte",
+        meets: &[0],
+        run: round_trips::read_then_written,
+    },
+];
+
 fn main() -> ExitCode {
-    report::run(&[
-        Case {
-            name: "vectors: messages of document 01, model and library",
-            meets: &[0, 2, 6, 7, 8],
-            run: vectors::reads,
-        },
-        Case {
-            name: "vectors: calls of the writer by document 01, model and library",
-            meets: &[0, 2, 8, 9],
-            run: vectors::writes,
-        },
-        Case {
-            name: "reader: every k from 0 to 40 and large ones, lengths 0 to 12 and long ones",
-            meets: &[0, 2, 6, 7, 8],
-            run: reader::every_k,
-        },
-        Case {
-            name: "reader: all messages of k = 2 to 8, each byte changed to every value, lengths 0 to 8",
-            meets: &[0, 6, 7, 8],
-            run: reader::near_messages_of_small_k,
-        },
-        Case {
-            name: "reader: messages of k = 9 to 31, each byte changed to every value",
-            meets: &[0, 7, 8],
-            run: reader::near_messages_of_large_k,
-        },
-        Case {
-            name: "reader: several things wrong at once",
-            meets: &[0, 2, 6, 7, 8],
-            run: reader::several_faults,
-        },
-        Case {
-            name: "reader: random messages, valid and damaged",
-            meets: &[0, 2, 6, 7, 8],
-            run: reader::random,
-        },
-        Case {
-            name: "writer: every k from 0 to 40 and large ones, output lengths 0 to 12 and long ones",
-            meets: &[0, 2, 8, 9],
-            run: writer::every_k,
-        },
-        Case {
-            name: "writer: all acknowledgements of k = 2 to 8 and past k, output lengths 0 to 12",
-            meets: &[0, 8, 9],
-            run: writer::all_of_small_k,
-        },
-        Case { name: "writer: random calls", meets: &[0, 2, 8, 9], run: writer::random },
-        Case {
-            name: "round trips: written and read, by library and model in turn",
-            meets: &[0],
-            run: round_trips::written_then_read,
-        },
-        Case {
-            name: "round trips: what the library reads it writes back, byte for byte",
-            meets: &[0],
-            run: round_trips::read_then_written,
-        },
-    ])
+    report::run(CASES)
 }

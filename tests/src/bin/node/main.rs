@@ -15,82 +15,80 @@ mod vectors;
 use comparison::report::{self, Case};
 use std::process::ExitCode;
 
+const CASES: &[Case] = &[
+    Case {
+        name: "vectors: runs of single nodes by document 01, model and program",
+        meets: &[0, 10, 11],
+        run: vectors::single_nodes,
+    },
+    Case {
+        name: "vectors: plans of whole cables, model and program",
+        meets: &[0, 10],
+        run: plans::whole_cables,
+    },
+    Case {
+        name: "set-up: n, k and own number from 0 to 40 and large ones",
+        meets: &[0, 1, 2, 3, 4],
+        run: calls::set_up,
+    },
+    Case {
+        name: "cables: every n and k, with losses, misses, offs and restarts",
+        meets: &[0, 9, 10, 11],
+        run: runs::every_n_and_k,
+    },
+    Case {
+        name: "cables: long runs, troubles aimed at sponsors, knocks and returning nodes now and then",
+        meets: &[0, 9, 10, 11],
+        run: runs::calm,
+    },
+    Case {
+        name: "cables: long runs, such troubles most of the time",
+        meets: &[0, 9, 10, 11],
+        run: runs::rough,
+    },
+    Case {
+        name: "cables: long runs, bytes damaged or changed on their way, and handed over in the own slot",
+        meets: &[0, 9, 10, 11],
+        run: runs::tampered,
+    },
+    Case {
+        name: "records: any sound record in every state, slots with any bytes",
+        meets: &[0, 9, 10, 11],
+        run: records::sound_in_every_state,
+    },
+    Case {
+        name: "records: not sound in one clause, for every clause",
+        meets: &[4],
+        run: records::unsound_in_one_clause,
+    },
+    Case { name: "records: up to three fields of any value", meets: &[0, 4, 9, 10, 11], run: records::wild },
+    Case {
+        name: "records: of bytes that no call writes, each of which a refused call leaves",
+        meets: &[0, 1, 2, 3, 4, 5, 9, 10, 11],
+        run: bytes::left_by_refusals,
+    },
+    Case {
+        name: "sending: sound records, rooms 0 to 12 and 255",
+        meets: &[0, 9, 10, 11],
+        run: calls::sending,
+    },
+    Case {
+        name: "off and restart: sound records, each after the other",
+        meets: &[0, 11],
+        run: calls::switching,
+    },
+    Case {
+        name: "slot limit: sound records at the limit and up to two slots below it",
+        meets: &[0, 5, 9, 10, 11],
+        run: calls::limit,
+    },
+    Case {
+        name: "order: several causes of refusal at once",
+        meets: &[0, 4, 5, 9, 10, 11],
+        run: calls::order,
+    },
+];
+
 fn main() -> ExitCode {
-    report::run(&[
-        Case {
-            name: "vectors: runs of single nodes by document 01, model and program",
-            meets: &[0, 10, 11],
-            run: vectors::single_nodes,
-        },
-        Case {
-            name: "vectors: plans of whole cables, model and program",
-            meets: &[0, 10],
-            run: plans::whole_cables,
-        },
-        Case {
-            name: "set-up: n, k and own number from 0 to 40 and large ones",
-            meets: &[0, 1, 2, 3, 4],
-            run: calls::set_up,
-        },
-        Case {
-            name: "cables: every n and k, with losses, misses, offs and restarts",
-            meets: &[0, 9, 10, 11],
-            run: runs::every_n_and_k,
-        },
-        Case {
-            name: "cables: long runs, troubles aimed at sponsors, knocks and returning nodes now and then",
-            meets: &[0, 9, 10, 11],
-            run: runs::calm,
-        },
-        Case {
-            name: "cables: long runs, such troubles most of the time",
-            meets: &[0, 9, 10, 11],
-            run: runs::rough,
-        },
-        Case {
-            name: "cables: long runs, bytes damaged or changed on their way, and handed over in the own slot",
-            meets: &[0, 9, 10, 11],
-            run: runs::tampered,
-        },
-        Case {
-            name: "records: any sound record in every state, slots with any bytes",
-            meets: &[0, 9, 10, 11],
-            run: records::sound_in_every_state,
-        },
-        Case {
-            name: "records: not sound in one clause, for every clause",
-            meets: &[4],
-            run: records::unsound_in_one_clause,
-        },
-        Case {
-            name: "records: up to three fields of any value",
-            meets: &[0, 4, 9, 10, 11],
-            run: records::wild,
-        },
-        Case {
-            name: "records: of bytes that no call writes, each of which a refused call leaves",
-            meets: &[0, 1, 2, 3, 4, 5, 9, 10, 11],
-            run: bytes::left_by_refusals,
-        },
-        Case {
-            name: "sending: sound records, rooms 0 to 12 and 255",
-            meets: &[0, 9, 10, 11],
-            run: calls::sending,
-        },
-        Case {
-            name: "off and restart: sound records, each after the other",
-            meets: &[0, 11],
-            run: calls::switching,
-        },
-        Case {
-            name: "slot limit: sound records at the limit and up to two slots below it",
-            meets: &[0, 5, 9, 10, 11],
-            run: calls::limit,
-        },
-        Case {
-            name: "order: several causes of refusal at once",
-            meets: &[0, 4, 5, 9, 10, 11],
-            run: calls::order,
-        },
-    ])
+    report::run(CASES)
 }

@@ -9,19 +9,21 @@ mod texts;
 use comparison::report::{self, Case};
 use std::process::ExitCode;
 
+const CASES: &[Case] = &[
+    Case {
+        name: "pieces: plans of every n, cut anywhere, with buffers just long enough and too short",
+        meets: &[0, 9],
+        run: pieces::drawn,
+    },
+    Case { name: "pieces: short texts cut in two at every place", meets: &[0], run: pieces::every_cut },
+    Case {
+        name: "whole texts: with buffers just long enough and too short",
+        meets: &[0, 9],
+        run: pieces::whole,
+    },
+    Case { name: "damaged: any rows, numbers and parts", meets: &[0, 4, 9], run: damaged::plans },
+];
+
 fn main() -> ExitCode {
-    report::run(&[
-        Case {
-            name: "pieces: plans of every n, cut anywhere, with buffers just long enough and too short",
-            meets: &[0, 9],
-            run: pieces::drawn,
-        },
-        Case { name: "pieces: short texts cut in two at every place", meets: &[0], run: pieces::every_cut },
-        Case {
-            name: "whole texts: with buffers just long enough and too short",
-            meets: &[0, 9],
-            run: pieces::whole,
-        },
-        Case { name: "damaged: any rows, numbers and parts", meets: &[0, 4, 9], run: damaged::plans },
-    ])
+    report::run(CASES)
 }
