@@ -109,23 +109,26 @@ fn still(j: u32, met: bool) -> u32
     j - 1
 }
 
-// The place of the j-th member met on the walk back from node x, in at most `left` slots: one slot
-// back, and on from there.
+// The place of the j-th member met on the walk back from node x, in at most `left` slots. The loop is
+// left by break with the member and the slots left there, which tell its distance.
 fn walk(left: u32, n: u32, set: u32, x: u32, j: u32) -> Place
     ensures { λ r. ⌜ r ≡ reach left n set x j ⌝ }
 {
-    if left == 0 {
-        return Place { node: 0, left: 0 };
+    let mut left = left;
+    let mut node = x;
+    let mut more = j;
+    loop {
+        if left == 0 {
+            break Place { node: 0, left: 0 };
+        }
+        left -= 1;
+        node = previous(n, node);
+        let met = nodeset::has(set, node);
+        if met & (more == 1) {
+            break Place { node, left };
+        }
+        more = still(more, met);
     }
-    let p = previous(n, x);
-    let met = nodeset::has(set, p);
-    if met & (j == 1) {
-        return Place {
-            node: p,
-            left: left - 1,
-        };
-    }
-    walk(left - 1, n, set, p, still(j, met))
 }
 
 // Where the walk back from node x begins. It ends before it comes round to x.
