@@ -1,10 +1,10 @@
-//! A record as the programs under test take and give it: 51 bytes, all numbers lowest byte first.
+//! A record as the programs under test take and give it: 52 bytes, all numbers lowest byte first.
 
 use crate::model::node::{Cause, ListeningData, Node, State};
 use crate::model::ring::Set;
 
 /// The bytes of a record.
-pub const RECORD: usize = 51;
+pub const RECORD: usize = 52;
 
 const CAUSES: [Cause; 4] = [Cause::Unconfirmed, Cause::NothingHeard, Cause::MissedReturn, Cause::SwitchedOff];
 
@@ -47,7 +47,8 @@ pub fn record_bytes(record: &Node) -> [u8; RECORD] {
     }
     out.push(u8::from(return_seen));
     out.extend(last.0.to_le_bytes());
-    out.try_into().expect("51 bytes")
+    out.push(u8::from(record.yes_heard));
+    out.try_into().expect("52 bytes")
 }
 
 /// Takes bytes apart; those not yet taken.
@@ -91,6 +92,7 @@ impl<'a> Reader<'a> {
                 return_seen: self.u8() == 1,
                 last: Set(self.u32()),
             },
+            yes_heard: self.u8() == 1,
         }
     }
 }
@@ -102,7 +104,7 @@ fn shown_set(set: Set) -> String {
 pub fn shown_record(record: &Node) -> String {
     let data = &record.listening;
     format!(
-        "n {} k {} own {} slots {} {:?} set {} marks {} returning {} return heard {}; done {} heard {} shortest {} return seen {} last {}",
+        "n {} k {} own {} slots {} {:?} set {} marks {} returning {} return heard {} yes heard {}; done {} heard {} shortest {} return seen {} last {}",
         record.n,
         record.k,
         record.own,
@@ -112,6 +114,7 @@ pub fn shown_record(record: &Node) -> String {
         shown_set(record.marks),
         record.returning,
         record.return_heard,
+        record.yes_heard,
         data.done,
         shown_set(data.heard),
         data.shortest,

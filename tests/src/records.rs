@@ -132,6 +132,7 @@ pub fn sound_of(random: &mut Random, state: State, (n, k, own): (u32, u32, u32),
         } else {
             ListeningData::default()
         },
+        yes_heard: state == State::Member && random.bit(),
     }
 }
 
@@ -151,6 +152,7 @@ const KNOCKING: &[State] = &[State::Knocking];
 const RETURNING: &[State] = &[State::Following, State::Knocking];
 const KNOWING: &[State] = &[State::Member, State::Following, State::Knocking];
 const OUT: &[State] = STATES.split_at(4).1;
+const NO_MEMBER: &[State] = STATES.split_at(1).1;
 const LISTENING_OR_OUT: &[State] = &[
     State::Listening,
     State::Out(Cause::Unconfirmed),
@@ -298,6 +300,7 @@ pub const BREAKS: &[Break] = &[
         r.marks = Set::EMPTY;
         Some(())
     } },
+    Break { breaks: &["yes heard only in the member state"], states: NO_MEMBER, make: |_, r| { r.yes_heard = true; Some(()) } },
 ];
 
 /// One of the listening data is neither zero nor no.
@@ -313,6 +316,15 @@ fn not_listening(random: &mut Random, r: &mut Node) -> Option<()> {
     Some(())
 }
 
+/// Makes a sound record one that is not, by yes heard outside the member state or by the listening data.
+pub fn spoil(random: &mut Random, node: &mut Node) {
+    if node.state != State::Member && random.bit() {
+        node.yes_heard = true;
+    } else {
+        node.listening.done = node.n;
+    }
+}
+
 /// The clauses that a record does not keep.
 pub fn broken(node: &Node) -> Vec<&'static str> {
     CLAUSES.iter().filter(|clause| !(clause.kept)(node)).map(|clause| clause.says).collect()
@@ -325,7 +337,7 @@ pub fn disturb(random: &mut Random, node: &mut Node) {
         1 => 1 << random.below(32),
         _ => random.below(34) as u32,
     };
-    match random.below(14) {
+    match random.below(15) {
         0 => node.n = number,
         1 => node.k = number,
         2 => node.own = number,
@@ -339,6 +351,7 @@ pub fn disturb(random: &mut Random, node: &mut Node) {
         10 => node.listening.heard.0 ^= number,
         11 => node.listening.shortest = number,
         12 => node.listening.return_seen ^= true,
+        13 => node.yes_heard ^= true,
         _ => node.listening.last.0 ^= number,
     }
 }

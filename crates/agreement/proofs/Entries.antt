@@ -9,12 +9,14 @@ use lib.Dec.{eqb}
 use lib.ListN.{length}
 use borrow.Author.Tests.{eq-eqb, ne-eqb}
 use Rattle.nodeset.specs.Sums.{sum, num}
+use Rattle.nodeset.specs.Sets.{has}
 use Rattle.nodeset.proofs.Sums.{sum-none, sum-next, sum-split, sum-zero, sum-same}
-use Rattle.nodeset.proofs.Tests.{chosen, otherwise, all}
+use Rattle.nodeset.proofs.Tests.{by-cases, chosen, otherwise, all}
 use Rattle.ring.specs.declared.Cable.{Cable}
 use Rattle.ring.specs.Ring.{ringSize, sponsorCount}
 use Rattle.ring.proofs.Ranges.{ring-size, sponsor-count}
-use Rattle.bench.specs.Table.{Table, nodeCount, slotsOf}
+use Rattle.node_record.specs.States.{isMember}
+use Rattle.bench.specs.Table.{Table, recordOf, nodeCount, slotsOf, speaker}
 use Rattle.bench.specs.Calls.{transmits}
 use Rattle.bench.specs.Runs.{Call, slot, off, restart, tableAfter, isSlot, isListed, misses, failuresIn, Entry, noEntry, entry}
 use Rattle.agreement.specs.Demand.{Premises}
@@ -60,21 +62,28 @@ entry-old start c cs u h = entry-is start (c ∷ cs) u ∙ ap entryIn (past-old 
 
 fair-none : (n : ℕ) → Fair n noPast
 fair-none n = record {
-  count = λ _. omega (arith, sum-zero (λ i. num (noPast .missed i)) 1 n (λ u p q. refl));
+  count = omega (arith, sum-zero (λ i. num (noPast .missed i)) 1 n (λ u p q. refl));
   unsent = λ p. absurd (true≢false p);
   outer = λ _ p. absurd (true≢false p);
 }
 
 fair-slot : (n : ℕ) (t : Table) (lost : Bool) (missed : ℕ) → length t ≡ n → Fair n (pastOf lost missed t)
-unfolding failuresIn
+unfolding failuresIn misses
 fair-slot n t lost missed l = record {
-  count = λ p. count (transmits t) lost p;
+  count = by-cases (transmits t && not lost) (λ p. count (transmits t) lost p) (λ p. omega (arith, sum-zero f 1 n (λ i _ _. unheard (isMember (recordOf t i .state)) (transmits t) lost (has missed i && not (eqb i (speaker t))) p)));
   unsent = λ p q. unsent (transmits t) lost p q;
   outer = λ p q. outer (transmits t) lost p q;
 }
   where
     f : ℕ → ℕ
     f i = num (misses lost missed t i)
+
+    -- nobody misses a message that is not sent, or lost
+    unheard : (x a b y : Bool) → (a && not b) ≡ false → num (x && (a && (not b && y))) ≡ 0
+    unheard false a b y p = refl
+    unheard true false b y p = refl
+    unheard true true true y p = refl
+    unheard true true false y p = absurd (true≢false p)
 
     count : (a b : Bool) → (a && not b) ≡ true → sum f 1 n ≤ cond a (cond b 1 (sum f 1 (nodeCount t))) (num (isListed t))
     count true false p = omega (arith, ap (sum f 1) l)

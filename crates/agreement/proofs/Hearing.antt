@@ -217,7 +217,7 @@ module _ (W : World) where
           set-is = set-is;
           own-in = λ q. absurd (false≢true q);
           own-out = λ _. ap (λ (x : ℕ). has x i) (sym set-is) ∙ hd .own-unheard;
-          marks-off = λ u e z h p q. heard-at u e z h ∙ q;
+          marks-off = λ u e z h p q. record { on = λ y. absurd (no-both y (heard-at u e z h ∙ q)); unsaid = λ _. refl };
           marks-on = λ u e z h p q off. absurd (no-both (heard-at u e z h ∙ p) off);
           knock = λ nz. absurd (nz refl);
           open-knock = λ w e z h a b c. absurd (no-both (all-listed w e z h b) a);

@@ -39,7 +39,7 @@ module _ (n k : ℕ) (speaks : ℕ → ℕ) (listed failures : ℕ → ℕ) (mis
       omega (arith, a₁, a₂, a₃, sum-add failures miss (suc u) m, sum-first failures u m, cm)
 
 pub record Fair (n : ℕ) (e : Past) : Type 0 where
-  pub count : e .sent ≡ true → sum (λ i. num (e .missed i)) 1 n ≤ e .failures
+  pub count : sum (λ i. num (e .missed i)) 1 n ≤ e .failures
   pub unsent : e .sent ≡ false → e .listed ≡ true → 1 ≤ e .failures
   pub outer : e .sent ≡ true → e .listed ≡ false → e .outside ≡ true
 
@@ -77,12 +77,12 @@ module _ (W : World) where
   abbrev pub Untold : ℕ → ℕ → Type 0
   Untold u N = (t : ℕ) → u < t → t ≤ N → lst t ≤ E t .failures + num (E u .missed (sender n t))
 
-  pub told-in-time : (u e : ℕ) → 1 ≤ u → e < n → E u .sent ≡ true → Untold u (u + e) → sum lst (suc u) e < k
-  told-in-time u e hu he s un =
+  pub told-in-time : (u e : ℕ) → 1 ≤ u → e < n → Untold u (u + e) → sum lst (suc u) e < k
+  told-in-time u e hu he un =
       let z : suc (u - 1) ≡ u = omega arith in
       let f : sum (λ q. E q .failures) u n < k = rw z at (few (u - 1)) in
       told n k (sender n) lst (λ q. E q .failures) (λ q x. num (E q .missed x)) u e he un
-      (omega (arith, round n n-pos (λ x. num (E u .missed x)) u, fair u .count s)) f
+      (omega (arith, round n n-pos (λ x. num (E u .missed x)) u, fair u .count)) f
 
   -- two transmissions from outside the list in one round
   pub one-knock : (w e q : ℕ) → 1 ≤ w → 1 ≤ e → e < n → w + e ≡ q → E w .outside ≡ true → E q .outside ≡ true → ⊥

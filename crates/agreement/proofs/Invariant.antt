@@ -2,7 +2,7 @@
 use Prim.Native.Nat.{ℕ, _+_, _^_, _<_}
 use mathlib.Core.Path.{_≡_}
 use mathlib.Core.Logic.{_≢_, _⊎_}
-use mathlib.Core.Bool.{true, false}
+use mathlib.Core.Bool.{Bool, true, false}
 use Rattle.nodeset.specs.Sets.{has}
 use Rattle.ring.specs.declared.Cable.{Cable}
 use Rattle.ring.specs.Ring.{sender}
@@ -20,6 +20,11 @@ module _ (W : World) where
     pub listed : E u .listed ≡ true
     pub who : (E u .missed i ≡ true) ⊎ (i ≡ sender n u)
     pub untold : Untold W u N
+
+  -- slot u was listed and not sent: its sender is marked at nobody but itself, and there only while no member told it; it has heard no yes
+  pub record Lost (N i u marks : ℕ) (heard : Bool) : Type 0 where
+    pub on : has marks (sender n u) ≡ true → (i ≡ sender n u) × Untold W u N
+    pub unsaid : i ≡ sender n u → heard ≡ false
 
   -- the knock that returning speaks of
   pub record Knock (N L : ℕ) (v : Node) : Type 0 where
@@ -49,7 +54,7 @@ module _ (W : World) where
     pub own-in : isMember (v .state) ≡ true → has L i ≡ true
     pub own-out : isMember (v .state) ≡ false → has L i ≡ false
     -- M
-    pub marks-off : (u e : ℕ) → u + e ≡ N → e < n → E u .listed ≡ true → E u .sent ≡ false → has (v .present) (sender n u) ≡ false
+    pub marks-off : (u e : ℕ) → u + e ≡ N → e < n → E u .listed ≡ true → E u .sent ≡ false → Lost N i u (v .present) (v .«yes_heard»)
     pub marks-on : (u e : ℕ) → u + e ≡ N → e < n → E u .sent ≡ true → has L (sender n u) ≡ true → has (v .present) (sender n u) ≡ false → Off N i u v
     -- R
     pub knock : v .returning ≢ 0 → Knock N L v

@@ -18,11 +18,12 @@ use Rattle.node_record.specs.declared.Node.{Node}
 use Rattle.node_record.specs.declared.State.the-variants.{Member, Following}
 use Rattle.node_record.specs.States.{isMember, isKnocking}
 use Rattle.node_changes.specs.Changes.{withSet, withReturning}
-use Rattle.node_steps.specs.Steps.{readMarks, joins}
+use Rattle.node_steps.specs.Steps.{marksAfter, yesAfter, joins}
 use Rattle.node_steps.specs.Inner.{readReturn, readHeard, readMarked}
+use Rattle.node_steps.proofs.Answers.{At}
 use Rattle.agreement.proofs.History.{World, sender-most, Untold, lst, told-in-time, num-is}
-use Rattle.agreement.proofs.Invariant.{Tracking, Off, Knock, Awaits, aware, unaware}
-use Rattle.agreement.proofs.Marks.{no-both, not-true, not-false, has-with-keeps, At}
+use Rattle.agreement.proofs.Invariant.{Tracking, Off, Lost, Knock, Awaits, aware, unaware}
+use Rattle.agreement.proofs.Marks.{no-both, not-true, not-false, has-with-keeps}
 use Rattle.agreement.proofs.Outcome.{Gone, Settled, gone, kept, backed, became, joined, listedAs}
 use Rattle.agreement.proofs.Listed.{ListedSlot, Hearer, same-window, off-after, on-after}
 use Rattle.agreement.proofs.Depart.{drop-sub, L₁, sender-stays, not-dropped, Nearest, nearest, enough-since}
@@ -162,7 +163,7 @@ module _ (W : World) where
           never un =
               let z : w + suc e ≡ suc N = omega (arith, J .ago) in
               let un′ : Untold W w (w + suc e) = rw z un in
-              omega (arith, told-in-time W w (suc e) (omega (arith, J .ago, J .recent, B .late)) (J .recent) (J .sent) un′, J .since)
+              omega (arith, told-in-time W w (suc e) (omega (arith, J .ago, J .recent, B .late)) (J .recent) un′, J .since)
 
           answered-it : (readHeard r v ≡ true) ⊎ Untold W w (suc N) → readHeard r v ≡ true
           answered-it (inl p) = p
@@ -226,18 +227,21 @@ module _ (W : World) where
         ago′ : w + suc e ≡ suc N
         ago′ = omega (arith, J .ago)
 
-        off-grown : (u d : ℕ) → u + d ≡ suc N → d < n → E u .listed ≡ true → E u .sent ≡ false → has (with (readMarks s r v) (v .returning)) (sender n u) ≡ false
+        off-grown : (u d : ℕ) → u + d ≡ suc N → d < n → E u .listed ≡ true → E u .sent ≡ false → Lost W (suc N) i u (with (marksAfter s r v) (v .returning)) (yesAfter s r v)
         off-grown u d z l p q =
             let ne : sender n w ≢ sender n u = λ y. no-both (rw (same-window W (suc N) u w d (suc e) (omega (arith, B .late)) z ago′ l (J .recent) (sym y)) at p) (J .unlisted) in
-            ap (λ (x : ℕ). has (with (readMarks s r v) x) (sender n u)) it
-            ∙ has-with-other (readMarks s r v) (sender n w) (sender n u) ne ∙ off-after W S T u d z l p q
+            let o = off-after W S T u d z l p q in
+            record {
+              on = λ y. o .on (sym (ap (λ (x : ℕ). has (with (marksAfter s r v) x) (sender n u)) it ∙ has-with-other (marksAfter s r v) (sender n w) (sender n u) ne) ∙ y);
+              unsaid = o .unsaid;
+            }
 
-        on-grown : (u d : ℕ) → u + d ≡ suc N → d < n → E u .sent ≡ true → has (with A (sender n w)) (sender n u) ≡ true → has (with (readMarks s r v) (v .returning)) (sender n u) ≡ false → Off W (suc N) i u v
+        on-grown : (u d : ℕ) → u + d ≡ suc N → d < n → E u .sent ≡ true → has (with A (sender n w)) (sender n u) ≡ true → has (with (marksAfter s r v) (v .returning)) (sender n u) ≡ false → Off W (suc N) i u v
         on-grown u d z l p q off =
-            let off′ : has (with (readMarks s r v) (sender n w)) (sender n u) ≡ false = ap (λ (x : ℕ). has (with (readMarks s r v) x) (sender n u)) (sym it) ∙ off in
-            let ne : sender n w ≢ sender n u = λ y. no-both (rw y (has-with (readMarks s r v) (sender n u) (sender-range n n-pos u .0) (sender-most W u))) off′ in
+            let off′ : has (with (marksAfter s r v) (sender n w)) (sender n u) ≡ false = ap (λ (x : ℕ). has (with (marksAfter s r v) x) (sender n u)) (sym it) ∙ off in
+            let ne : sender n w ≢ sender n u = λ y. no-both (rw y (has-with (marksAfter s r v) (sender n u) (sender-range n n-pos u .0) (sender-most W u))) off′ in
             let q′ : has A (sender n u) ≡ true = sym (has-with-other A (sender n w) (sender n u) ne) ∙ q in
-            let off″ : has (readMarks s r v) (sender n u) ≡ false = sym (has-with-other (readMarks s r v) (sender n w) (sender n u) ne) ∙ off′ in
+            let off″ : has (marksAfter s r v) (sender n u) ≡ false = sym (has-with-other (marksAfter s r v) (sender n w) (sender n u) ne) ∙ off′ in
             on-after W S T u d z l p (drop-sub W (E (D .u) .sent) L (sender n (D .u)) (sender n u) q′) off″
 
         none-grown : (w′ d : ℕ) → w′ + d ≡ suc N → d < n → E w′ .listed ≡ false → E w′ .sent ≡ true → has (with A (sender n w)) (sender n w′) ≡ false → ⊥

@@ -1,27 +1,30 @@
 -- A listed slot, step 1: the marks (M). Assumes nothing.
 use Prim.Native.Nat.{ℕ, zero, suc, _+_, _-_, _^_, _≤_, _<_}
-use mathlib.Core.Path.{_≡_, sym, ap, ap₂, _∙_}
+use mathlib.Core.Path.{_≡_, refl, sym, ap, ap₂, _∙_, subst}
 use mathlib.Core.Logic.{_≢_, _⊎_, inl, inr}
-use mathlib.Core.Bool.{true, false, not}
+use mathlib.Core.Bool.{Bool, true, false, not}
 use native.Mathlib.Omega.{arith}
 use native.Mathlib.Decide.{ℕ-discrete}
 use lib.Dec.{eqb}
-use Rattle.nodeset.specs.Sums.{sum, num}
+use borrow.Author.Tests as tests
+use Rattle.nodeset.specs.Sums.{num}
 use Rattle.nodeset.specs.Sets.{has, size}
 use Rattle.nodeset.proofs.Tests.{by-cases}
 use Rattle.nodeset.proofs.Sums.{sum-at, num-le}
 use Rattle.ring.specs.declared.Cable.{Cable}
+use Rattle.ring.specs.declared.Found.the-variants as found
 use Rattle.ring.specs.Ring.{sender, sponsors, sponsored}
 use Rattle.ring.proofs.Senders.{sender-range, sender-once, same-slot}
 use Rattle.message.specs.declared.Reading.{Reading}
 use Rattle.node_record.specs.declared.Node.{Node}
 use Rattle.node_record.specs.States.{isMember}
 use Rattle.node_record.specs.Sponsoring.{sponsorsIn, sponsoredIn}
-use Rattle.node_steps.specs.Steps.{isHeard, returnIn, readMarks}
+use Rattle.node_steps.specs.Steps.{isHeard, returnIn, marksAfter, yesAfter}
 use Rattle.node_steps.specs.Digests.{bitsHeard}
+use Rattle.node_steps.proofs.Answers.{At, Told}
 use Rattle.agreement.proofs.History.{World, sender-most, Untold, K, lst, told-in-time, sponsors-are, Decision, sponsored-since, Sponsored, num-is}
-use Rattle.agreement.proofs.Invariant.{Tracking, Off}
-use Rattle.agreement.proofs.Marks.{no-both, not-true, not-false, Told, mark-of-sender, off-before, on-before, At}
+use Rattle.agreement.proofs.Invariant.{Tracking, Off, Lost}
+use Rattle.agreement.proofs.Marks.{no-both, not-true, not-false, WasOff, unmarked, denied, WasOn, mark-own, mark-of-sender, off-before, on-before, yes-own, yes-before}
 
 module _ (W : World) where
   open World W using (cable, n-pos, E, fair)
@@ -62,9 +65,9 @@ module _ (W : World) where
       go (yes e) = rw e h
       go (no e) = un q p (omega arith)
 
-  pub missed-failure : (t i : ℕ) → E t .sent ≡ true → E t .missed i ≡ true → 1 ≤ i → i ≤ n → 1 ≤ E t .failures
-  missed-failure t i s m h l =
-      omega (arith, fair t .count s, sum-at (λ j. num (E t .missed j)) 1 n i h (omega arith), num-is m)
+  pub missed-failure : (t i : ℕ) → E t .missed i ≡ true → 1 ≤ i → i ≤ n → 1 ≤ E t .failures
+  missed-failure t i m h l =
+      omega (arith, fair t .count, sum-at (λ j. num (E t .missed j)) 1 n i h (omega arith), num-is m)
 
   -- a slot whose sender is on the list
   pub record ListedSlot : Type 0 where
@@ -90,7 +93,7 @@ module _ (W : World) where
 
   module _ (S : ListedSlot) (T : Hearer (S .N) (S .L)) where
     open ListedSlot S using (N, L, B, lT, onL)
-    open Hearer T using (r, says, i, i-pos, i-le, v, vc, iv, h)
+    open Hearer T using (r, says, i, i-pos, i-le, v, vc, vo, iv, h)
 
     abbrev s : ℕ
     s = sender n (suc N)
@@ -101,93 +104,167 @@ module _ (W : World) where
     sponsored-is : (j : ℕ) → sponsoredIn s j v ≡ sponsored cable L s j
     sponsored-is j = ap₂ (λ (c : Cable) (set : ℕ). sponsored c set s j) vc (iv .set-is)
 
+    -- of the own slot nothing is heard
+    mute : s ≡ v .own → isHeard r ≡ false
+    mute e = h .own (sym (e ∙ vo))
+
     -- what is told is the sender's mark
-    told-mark : (x : ℕ) (Z : Says N L r) → Told s (bitsHeard r) v x (sponsorsIn v) → has (Z .z .present) x ≡ true
-    told-mark x Z t =
-        sym (Z .bits (t .i) x (omega (arith, t .below, sponsors-is)) (record { back = t .it .back; it = sym (sponsored-is (suc (t .i))) ∙ t .it .it })) ∙ t .yes-bit
+    said-mark : (answer : Bool) (x : ℕ) (Z : Says N L r) (t : Told answer s (bitsHeard r) v x (sponsorsIn v)) → has (bitsHeard r) (suc (t .i)) ≡ has (Z .z .present) x
+    said-mark answer x Z t = Z .bits (t .i) x (omega (arith, t .below, sponsors-is)) (record { back = t .it .back; it = sym (sponsored-is (suc (t .i))) ∙ t .it .it })
 
-    pub off-after : (u e : ℕ) → u + e ≡ suc N → e < n → E u .listed ≡ true → E u .sent ≡ false → has (readMarks s r v) (sender n u) ≡ false
-    off-after u zero z l p q =
-        let y : u ≡ suc N = omega arith in
-        rw y (mark-of-sender s r v (sender-range n n-pos (suc N) .0) (sender-most W (suc N)) ∙ h .unsent (rw y at q))
-    off-after u (suc e) z l p q =
-        let ne : s ≢ sender n u = other-sender N u e (B .late) z l in
-        let ago : u + e ≡ N = omega arith in
-        let was : has (v .present) (sender n u) ≡ false = iv .marks-off u e ago (omega arith) p q in
-        not-true (has (readMarks s r v) (sender n u)) (λ on. go ago was (on-before s r v (sender n u) (sender-range n n-pos u .0) (sender-most W u) ne on))
+    told-mark : (x : ℕ) (Z : Says N L r) → Told true s (bitsHeard r) v x (sponsorsIn v) → has (Z .z .present) x ≡ true
+    told-mark x Z t = sym (said-mark true x Z t) ∙ t .bit
+
+    denied-mark : (x : ℕ) (Z : Says N L r) → Told false s (bitsHeard r) v x (sponsorsIn v) → has (Z .z .present) x ≡ false
+    denied-mark x Z t = sym (said-mark false x Z t) ∙ tests.not-true (has (bitsHeard r) (suc (t .i))) (t .bit)
+
+    -- an earlier slot u of the round
+    module _ (u e : ℕ) (ago : u + e ≡ N) (l : suc e < n) where
+      ne : s ≢ sender n u
+      ne = other-sender N u e (B .late) (omega arith) l
+
+      missed-it : E u .missed s ≡ true → lst W (suc N) ≤ E (suc N) .failures + num (E u .missed s)
+      missed-it p = omega (arith, num-is p, num-le (E (suc N) .listed))
+
+      by-sender : (E u .missed s ≡ true) ⊎ (s ≡ sender n u) → lst W (suc N) ≤ E (suc N) .failures + num (E u .missed s)
+      by-sender (inl p) = missed-it p
+      by-sender (inr p) = absurd (ne p)
+
+      -- a message that another node does not hear is a failure
+      not-heard : i ≢ s → isHeard r ≡ false → lst W (suc N) ≤ E (suc N) .failures + num (E u .missed s)
+      not-heard d q = by-cases (E (suc N) .sent)
+          (λ p. omega (arith, missed-failure (suc N) i (h .missing q p d .1) i-pos i-le, num-le (E (suc N) .listed)))
+          (λ p. omega (arith, fair (suc N) .unsent p lT, num-le (E (suc N) .listed)))
+
+      -- the bit of its sender, where no member told it
+      said-of : has L (sender n u) ≡ true → Untold W u N → Sponsored W N L u
+      said-of on un =
+          let un′ : Untold W u (u + e) = rw ago un in
+          sponsored-since W N L (B .late) (B .kept) (B .enough) u e ago l on (told-in-time W u e (omega (arith, B .late)) (omega arith) un′)
+
+      -- ---- it was not sent
+
+      module _ (listed : E u .listed ≡ true) (lost : E u .sent ≡ false) where
+        was : Lost W N i u (v .present) (v .«yes_heard»)
+        was = iv .marks-off u e ago (omega arith) listed lost
+
+        -- the mark of its sender is off at the sender of this slot
+        sender-off : (Z : Says N L r) → has (Z .z .present) (sender n u) ≡ false
+        sender-off Z = not-true (has (Z .z .present) (sender n u)) (λ y. ne (Z .inv .marks-off u e ago (omega arith) listed lost .on y .0))
+
+        not-told : isHeard r ≡ true → Told true s (bitsHeard r) v (sender n u) (sponsorsIn v) → ⊥
+        not-told p t = no-both (told-mark (sender n u) (says p) t) (sender-off (says p))
+
+        -- its sender, where it hears this slot, hears a no
+        denial : isHeard r ≡ true → i ≡ sender n u → Untold W u N → Told false s (bitsHeard r) v (v .own) (sponsorsIn v)
+        denial p y un = go (says p) (said-of still un)
+          where
+            still : has L (sender n u) ≡ true
+            still =
+                let un′ : Untold W u (u + e) = rw ago un in
+                B .kept u e ago (omega arith) .waits listed lost (told-in-time W u e (omega (arith, B .late)) (omega arith) un′)
+
+            go : Says N L r → Sponsored W N L u → Told false s (bitsHeard r) v (v .own) (sponsorsIn v)
+            go Z sp = record {
+              i = sp .j;
+              below = omega (arith, sp .few, sponsors-is);
+              bit = ap not (Z .bits (sp .j) (sender n u) (sp .few) (record { back = sp .back; it = sp .it }) ∙ sender-off Z);
+              it = record { back = sp .back; it = sponsored-is (suc (sp .j)) ∙ sp .it ∙ ap (λ (x : ℕ). found.Member x (sp .back)) (sym y ∙ sym vo) };
+            }
+
+        still-lost : Lost W (suc N) i u (marksAfter s r v) (yesAfter s r v)
+        still-lost = record { on = λ y. older (on-before s v r mute (sender n u) (sender-range n n-pos u .0) (sender-most W u) ne y); unsaid = λ y. not-true (yesAfter s r v) (λ a. said y (yes-before s v r a)) }
+          where
+            kept : (i ≡ sender n u) × Untold W u N → (isHeard r ≡ true → sender n u ≡ v .own → v .«yes_heard» ≡ false → Told false s (bitsHeard r) v (v .own) (sponsorsIn v) → ⊥) → (i ≡ sender n u) × Untold W u (suc N)
+            kept (y, un) f = (y, extend N u un (by-cases (isHeard r) (λ p. absurd (f p (sym y ∙ sym vo) (was .unsaid y) (denial p y un))) (λ p. not-heard (λ c. ne (sym c ∙ y)) p)))
+
+            older : WasOn s r v (sender n u) → (i ≡ sender n u) × Untold W u (suc N)
+            older o = two (o .was)
+              where
+                two : (has (v .present) (sender n u) ≡ true) ⊎ ((isHeard r ≡ true) × Told true s (bitsHeard r) v (sender n u) (sponsorsIn v)) → (i ≡ sender n u) × Untold W u (suc N)
+                two (inl a) = kept (was .on a) (o .undenied)
+                two (inr t) = absurd (not-told (t .0) (t .1))
+
+            said : i ≡ sender n u → (v .«yes_heard» ≡ true) ⊎ ((isHeard r ≡ true) × Told true s (bitsHeard r) v (v .own) (sponsorsIn v)) → ⊥
+            said y (inl a) = no-both a (was .unsaid y)
+            said y (inr t) = not-told (t .0) (subst (λ (x : ℕ). Told true s (bitsHeard r) v x (sponsorsIn v)) (vo ∙ y) (t .1))
+
+      -- ---- it was sent
+
+      module _ (sent : E u .sent ≡ true) (on : has L (sender n u) ≡ true) where
+        untold-after : (isHeard r ≡ true → Told true s (bitsHeard r) v (sender n u) (sponsorsIn v) → ⊥) → Off W N i u v → lst W (suc N) ≤ E (suc N) .failures + num (E u .missed s)
+        untold-after nt o = two (ℕ-discrete i s)
+          where
+            own-case : i ≡ s → (E u .missed i ≡ true) ⊎ (i ≡ sender n u) → lst W (suc N) ≤ E (suc N) .failures + num (E u .missed s)
+            own-case c (inl p) = missed-it (rw c at p)
+            own-case c (inr p) = absurd (ne (sym c ∙ p))
+
+            heard-with : isHeard r ≡ true → (Z : Says N L r) → Sponsored W N L u → lst W (suc N) ≤ E (suc N) .failures + num (E u .missed s)
+            heard-with p Z sp =
+                let at-u : At (sender n u) (sponsored cable L s (suc (sp .j))) = record { back = sp .back; it = sp .it } in
+                let nb : has (bitsHeard r) (suc (sp .j)) ≡ false = not-true (has (bitsHeard r) (suc (sp .j))) (λ b. nt p (record { i = sp .j; below = omega (arith, sp .few, sponsors-is); bit = b; it = record { back = sp .back; it = sponsored-is (suc (sp .j)) ∙ sp .it } })) in
+                by-sender (Z .inv .marks-on u e ago (omega arith) sent on (sym (Z .bits (sp .j) (sender n u) (sp .few) at-u) ∙ nb) .who)
+
+            two : Dec (i ≡ s) → lst W (suc N) ≤ E (suc N) .failures + num (E u .missed s)
+            two (yes c) = own-case c (o .who)
+            two (no c) = by-cases (isHeard r) (λ p. heard-with p (says p) (said-of on (o .untold))) (λ p. not-heard c p)
+
+        still-off : has (marksAfter s r v) (sender n u) ≡ false → Off W (suc N) i u v
+        still-off off = go (off-before s v r mute (sender n u) (sender-range n n-pos u .0) (sender-most W u) ne off)
+          where
+            go : WasOff s r v (sender n u) → Off W (suc N) i u v
+            go (unmarked f nt) =
+                let o : Off W N i u v = iv .marks-on u e ago (omega arith) sent on f in
+                record { member = o .member; listed = o .listed; who = o .who; untold = extend N u (o .untold) (untold-after nt o) }
+            go (denied p own t) = said-no (says p)
+              where
+                me : i ≡ sender n u
+                me = sym (own ∙ vo)
+
+                said-no : Says N L r → Off W (suc N) i u v
+                said-no Z =
+                    let o : Off W N s u (Z .z) = Z .inv .marks-on u e ago (omega arith) sent on (ap (has (Z .z .present)) own ∙ denied-mark (v .own) Z t) in
+                    record {
+                      member = not-false (isMember (v .state)) (λ f. no-both (ap (has L) me ∙ on) (iv .own-out f));
+                      listed = o .listed;
+                      who = inr me;
+                      untold = extend N u (o .untold) (by-sender (o .who));
+                    }
+
+    -- ---- this slot, and an earlier one
+
+    vacuous : (u : ℕ) → u ≡ suc N → Untold W u (suc N)
+    vacuous u y t a b = let f : ⊥ = omega arith in absurd f
+
+    other-own : i ≢ s → s ≢ v .own
+    other-own d e = d (sym (e ∙ vo))
+
+    pub off-after : (u e : ℕ) → u + e ≡ suc N → e < n → E u .listed ≡ true → E u .sent ≡ false → Lost W (suc N) i u (marksAfter s r v) (yesAfter s r v)
+    off-after u zero z l p q = record { on = λ y. first y (ℕ-discrete i s); unsaid = λ y. yes-own s v r (ap (sender n) (sym now) ∙ sym y ∙ sym vo) }
       where
-        go : u + e ≡ N → has (v .present) (sender n u) ≡ false → (has (v .present) (sender n u) ≡ true) ⊎ ((isHeard r ≡ true) × Told s (bitsHeard r) v (sender n u) (sponsorsIn v)) → ⊥
-        go ago was (inl y) = no-both y was
-        go ago was (inr t) =
-            let Z = says (t .0) in
-            no-both (told-mark (sender n u) Z (t .1)) (Z .inv .marks-off u e ago (omega arith) p q)
+        now : u ≡ suc N
+        now = omega arith
 
-    pub untold-after : (u e : ℕ) → u + e ≡ N → suc e < n → E u .sent ≡ true → has L (sender n u) ≡ true → has (readMarks s r v) (sender n u) ≡ false → Off W N i u v
-        → lst W (suc N) ≤ E (suc N) .failures + num (E u .missed s)
-    untold-after u e ago l sent on off o = by-cases (E (suc N) .sent) (λ p. sent-case p (ℕ-discrete i s)) (λ p. omega (arith, fair (suc N) .unsent p lT, num-le (E (suc N) .listed)))
+        first : has (marksAfter s r v) (sender n u) ≡ true → Dec (i ≡ s) → (i ≡ sender n u) × Untold W u (suc N)
+        first y (yes c) = (c ∙ ap (sender n) (sym now), vacuous u now)
+        first y (no c) =
+            let off : has (marksAfter s r v) s ≡ false = mark-of-sender s v r (sender-range n n-pos (suc N) .0) (sender-most W (suc N)) (other-own c) ∙ h .unsent (rw now at q) in
+            absurd (no-both y (ap (λ (x : ℕ). has (marksAfter s r v) (sender n x)) now ∙ off))
+    off-after u (suc e) z l p q = still-lost u e (omega arith) l p q
+
+    pub on-after : (u e : ℕ) → u + e ≡ suc N → e < n → E u .sent ≡ true → has L (sender n u) ≡ true → has (marksAfter s r v) (sender n u) ≡ false → Off W (suc N) i u v
+    on-after u zero z l p q off = rw now (new (rw now at p) (ℕ-discrete i s))
       where
-        ne : s ≢ sender n u
-        ne = other-sender N u e (B .late) (omega arith) l
+        now : u ≡ suc N
+        now = omega arith
 
-        missed-it : E u .missed s ≡ true → lst W (suc N) ≤ E (suc N) .failures + num (E u .missed s)
-        missed-it p = omega (arith, num-is p, num-le (E (suc N) .listed))
-
-        own-case : i ≡ s → (E u .missed i ≡ true) ⊎ (i ≡ sender n u) → lst W (suc N) ≤ E (suc N) .failures + num (E u .missed s)
-        own-case e (inl p) = missed-it (rw e at p)
-        own-case e (inr p) = absurd (ne (sym e ∙ p))
-
-        the-sender : (E u .missed s ≡ true) ⊎ (s ≡ sender n u) → lst W (suc N) ≤ E (suc N) .failures + num (E u .missed s)
-        the-sender (inl p) = missed-it p
-        the-sender (inr p) = absurd (ne p)
-
-        heard-with : isHeard r ≡ true → (Z : Says N L r) → Sponsored W N L u → lst W (suc N) ≤ E (suc N) .failures + num (E u .missed s)
-        heard-with p Z sp =
-            let nb : has (bitsHeard r) (suc (sp .j)) ≡ false = not-true (has (bitsHeard r) (suc (sp .j))) (λ b. off-before s r v (sender n u) (sender-range n n-pos u .0) (sender-most W u) ne off .1 p (record { i = sp .j; below = omega (arith, sp .few, sponsors-is); yes-bit = b; it = record { back = sp .back; it = sponsored-is (suc (sp .j)) ∙ sp .it } })) in
-            let zo : has (Z .z .present) (sender n u) ≡ false = sym (Z .bits (sp .j) (sender n u) (sp .few) (record { back = sp .back; it = sp .it })) ∙ nb in
-            the-sender (Z .inv .marks-on u e ago (omega arith) sent on zo .who)
-
-        heard-case : isHeard r ≡ true → Says N L r → lst W (suc N) ≤ E (suc N) .failures + num (E u .missed s)
-        heard-case p Z =
-            let un : Untold W u (u + e) = rw ago (o .untold) in
-            let few-since : sum (lst W) (suc u) e < k = told-in-time W u e (omega (arith, B .late)) (omega arith) sent un in
-            heard-with p Z (sponsored-since W N L (B .late) (B .kept) (B .enough) u e ago l on few-since)
-
-        sent-case : E (suc N) .sent ≡ true → Dec (i ≡ s) → lst W (suc N) ≤ E (suc N) .failures + num (E u .missed s)
-        sent-case p (yes e) = own-case e (o .who)
-        sent-case p (no e) = by-cases (isHeard r)
-            (λ q. heard-case q (says q))
-            (λ q. omega (arith, missed-failure (suc N) i p (h .missing q p e .1) i-pos i-le, num-le (E (suc N) .listed)))
-
-    pub on-after : (u e : ℕ) → u + e ≡ suc N → e < n → E u .sent ≡ true → has L (sender n u) ≡ true → has (readMarks s r v) (sender n u) ≡ false → Off W (suc N) i u v
-    on-after u zero z l p q off = rw y (new (rw y at p) (ℕ-discrete i s))
-      where
-        y : u ≡ suc N
-        y = omega arith
-
-        unheard : isHeard r ≡ false
-        unheard = sym (mark-of-sender s r v (sender-range n n-pos (suc N) .0) (sender-most W (suc N))) ∙ (rw y at off)
+        off-now : has (marksAfter s r v) s ≡ false
+        off-now = rw now at off
 
         new : E (suc N) .sent ≡ true → Dec (i ≡ s) → Off W (suc N) i (suc N) v
-        new p′ (yes e) = record {
-          member = not-false (isMember (v .state)) (λ f. no-both onL (rw e at (iv .own-out f)));
-          listed = lT;
-          who = inr e;
-          untold = λ t a b. let f : ⊥ = omega arith in absurd f;
-        }
-        new p′ (no e) = record {
-          member = h .missing unheard p′ e .0;
-          listed = lT;
-          who = inl (h .missing unheard p′ e .1);
-          untold = λ t a b. let f : ⊥ = omega arith in absurd f;
-        }
-    on-after u (suc e) z l p q off =
-        let ne : s ≢ sender n u = other-sender N u e (B .late) z l in
-        let ago : u + e ≡ N = omega arith in
-        let was : has (v .present) (sender n u) ≡ false = off-before s r v (sender n u) (sender-range n n-pos u .0) (sender-most W u) ne off .0 in
-        let o : Off W N i u v = iv .marks-on u e ago (omega arith) p q was in
-        record {
-          member = o .member;
-          listed = o .listed;
-          who = o .who;
-          untold = extend N u (o .untold) (untold-after u e ago l p q off o);
-        }
+        new sent (yes c) = absurd (no-both (mark-own s v r (sender-range n n-pos (suc N) .0) (sender-most W (suc N)) (sym c ∙ sym vo)) off-now)
+        new sent (no c) =
+            let unheard : isHeard r ≡ false = sym (mark-of-sender s v r (sender-range n n-pos (suc N) .0) (sender-most W (suc N)) (other-own c)) ∙ off-now in
+            let m = h .missing unheard sent c in
+            record { member = m .0; listed = lT; who = inl (m .1); untold = vacuous (suc N) refl }
+    on-after u (suc e) z l p q off = still-off u e (omega arith) l p q off

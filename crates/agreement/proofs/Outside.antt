@@ -19,7 +19,7 @@ use Rattle.node_changes.specs.Changes.{withReturning}
 use Rattle.node_steps.specs.Steps.{isHeard}
 use Rattle.node_sending.specs.Sending.{sends}
 use Rattle.agreement.proofs.History.{World, Untold, one-knock, num-isnt}
-use Rattle.agreement.proofs.Invariant.{Tracking, Off, Knock, Awaits, aware, unaware}
+use Rattle.agreement.proofs.Invariant.{Tracking, Off, Lost, Knock, Awaits, aware, unaware}
 use Rattle.agreement.proofs.Marks.{no-both, not-true, not-false}
 use Rattle.agreement.proofs.Outcome.{Noted, knocks, silent, awaits, ignores}
 use Rattle.agreement.proofs.Listed.{Begins, Hears, other-sender, extend}
@@ -53,9 +53,11 @@ module _ (W : World) where
     vacuous : Untold W (suc N) (suc N)
     vacuous t a b = let f : ⊥ = omega arith in absurd f
 
-    off-after : (u e : ℕ) → u + e ≡ suc N → e < n → E u .listed ≡ true → E u .sent ≡ false → has (v .present) (sender n u) ≡ false
+    off-after : (u e : ℕ) → u + e ≡ suc N → e < n → E u .listed ≡ true → E u .sent ≡ false → Lost W (suc N) i u (v .present) (v .«yes_heard»)
     off-after u zero z l p q = let y : u ≡ suc N = omega arith in absurd (no-both (rw y at p) lT)
-    off-after u (suc e) z l p q = iv .marks-off u e (omega arith) (omega arith) p q
+    off-after u (suc e) z l p q =
+        let o = iv .marks-off u e (omega arith) (omega arith) p q in
+        record { on = λ y. (o .on y .0, free u (o .on y .1)); unsaid = o .unsaid }
 
     on-after : (u e : ℕ) → u + e ≡ suc N → e < n → E u .sent ≡ true → has L (sender n u) ≡ true → has (v .present) (sender n u) ≡ false → Off W (suc N) i u v
     on-after u zero z l p q off = let y : u ≡ suc N = omega arith in absurd (no-both (rw y at q) offL)

@@ -12,7 +12,6 @@ use Rattle.nodeset.specs.Sets.{has}
 use Rattle.nodeset.proofs.Tests.{by-cases, both, all}
 use Rattle.nodeset.proofs.Sums.{num-le}
 use Rattle.ring.specs.declared.Cable.{Cable}
-use Rattle.ring.specs.declared.Found.{Found}
 use Rattle.ring.specs.declared.Found.the-variants as found
 use Rattle.ring.specs.Ring.{sender, memberBefore, isFound}
 use Rattle.ring.proofs.Senders.{sender-range}
@@ -22,11 +21,12 @@ use Rattle.node_record.specs.declared.Node.{Node}
 use Rattle.node_record.specs.declared.State.{State}
 use Rattle.node_record.specs.declared.State.the-variants.{Member, Listening, Following, Knocking, Out}
 use Rattle.node_record.specs.States.{isMember, isKnocking}
-use Rattle.node_steps.specs.Steps.{isHeard, returnIn, readMarks, joins}
+use Rattle.node_steps.specs.Steps.{isHeard, returnIn, joins}
 use Rattle.node_steps.specs.Inner.{readReturn, readHeard, readMarked}
+use Rattle.node_steps.proofs.Answers.{At, found-it, is-found}
 use Rattle.agreement.proofs.History.{World, Untold, lst, told-in-time, one-knock, num-is}
 use Rattle.agreement.proofs.Invariant.{Knock, Awaits, aware, unaware}
-use Rattle.agreement.proofs.Marks.{no-both, not-true, not-false, At}
+use Rattle.agreement.proofs.Marks.{no-both, not-true, not-false}
 use Rattle.agreement.proofs.Outcome.{setAfter}
 use Rattle.agreement.proofs.Listed.{Says, ListedSlot, Hearer, same-window, extend, missed-failure, off-after, on-after}
 use Rattle.agreement.proofs.Depart.{drop-sub, drop-keeps, since-next, L₁}
@@ -36,17 +36,13 @@ use Rattle.agreement.proofs.Depart.{drop-sub, drop-keeps, since-next, L
 pub or-true : (a b : Bool) → a ≡ true → (a || b) ≡ true
 or-true a b e = rw e
 
-found-it : (s : ℕ) (f : Found) → isFound s f ≡ true → At s f
-found-it s (found.Member m back) e = record { back = back; it = ap (λ (x : ℕ). found.Member x back) (eqb-true m s e) }
-found-it s found.Nobody e = absurd (false≢true e)
-
 pub joins-yes : (s : ℕ) (v : Node) → joins s v ≡ true → (v .returning ≢ 0) × At s (memberBefore (v .cable .n) (v .set) (v .returning) 1)
 joins-yes s v e =
     let t = both (not (eqb (v .returning) 0)) (isFound s (memberBefore (v .cable .n) (v .set) (v .returning) 1)) e in
     (λ z. no-both (t .0) (ap not (eq-eqb (v .returning) 0 z)), found-it s (memberBefore (v .cable .n) (v .set) (v .returning) 1) (t .1))
 
 pub joins-if : (s : ℕ) (v : Node) → v .returning ≢ 0 → At s (memberBefore (v .cable .n) (v .set) (v .returning) 1) → joins s v ≡ true
-joins-if s v nz a = all (ap not (ne-eqb (v .returning) 0 nz)) (ap (isFound s) (a .it) ∙ eq-eqb s s refl)
+joins-if s v nz a = all (ap not (ne-eqb (v .returning) 0 nz)) (is-found s (memberBefore (v .cable .n) (v .set) (v .returning) 1) a)
 
 pub not-missed : (r : Reading) (v : Node) → readReturn r v ≡ false → v .returning ≡ 0 → returnIn r ≡ false
 not-missed r v e z =
@@ -110,17 +106,17 @@ module _ (W : World) where
       d-ago : D .u + suc (D .e) ≡ suc N
       d-ago = omega (arith, D .ago)
 
-      d-marked : E (D .u) .sent ≡ true → has (readMarks s r v) (sender n (D .u)) ≡ true
-      d-marked p = not-false (has (readMarks s r v) (sender n (D .u))) λ off.
-          let o = on-after W S T (D .u) (suc (D .e)) d-ago (D .recent) p (D .member) off in
-          let un : Untold W (D .u) (D .u + suc (D .e)) = rw d-ago (o .untold) in
-          omega (arith, told-in-time W (D .u) (suc (D .e)) (omega (arith, D .ago, D .recent, B .late)) (D .recent) p un, since-next W N (D .u) (D .e) (D .ago), D .exact, num-is lT)
+      -- some member has told it of its slot, sent or not
+      d-told : Untold W (D .u) (suc N) → ⊥
+      d-told u =
+          let un : Untold W (D .u) (D .u + suc (D .e)) = rw d-ago u in
+          omega (arith, told-in-time W (D .u) (suc (D .e)) (omega (arith, D .ago, D .recent, B .late)) (D .recent) un, since-next W N (D .u) (D .e) (D .ago), D .exact, num-is lT)
 
       -- the decided member is marked exactly if its slot was sent
       marked-is : has (v₁ .present) (sender n (D .u)) ≡ E (D .u) .sent
       marked-is = by-cases (E (D .u) .sent)
-          (λ p. d-marked p ∙ sym p)
-          (λ p. off-after W S T (D .u) (suc (D .e)) d-ago (D .recent) (D .listed) p ∙ sym p)
+          (λ p. not-false (has (v₁ .present) (sender n (D .u))) (λ off. d-told (on-after W S T (D .u) (suc (D .e)) d-ago (D .recent) p (D .member) off .untold)) ∙ sym p)
+          (λ p. not-true (has (v₁ .present) (sender n (D .u))) (λ on. d-told (off-after W S T (D .u) (suc (D .e)) d-ago (D .recent) (D .listed) p .on on .1)) ∙ sym p)
 
       pub set-after : setAfter (sender n (D .u)) v₁ ≡ L₁ W S
       set-after = rw (marked-is, iv .set-is) refl
@@ -182,7 +178,7 @@ module _ (W : World) where
               missing p (yes y) = inl (rw y at x)
               missing p (no y) = by-cases (isHeard r)
                   (λ t. inl (unaware-sender w e z l a b c t (not-missed r v ok f)))
-                  (λ t. inr (missed-failure W (suc N) i p (h .missing t p y .1) i-pos i-le))
+                  (λ t. inr (missed-failure W (suc N) i (h .missing t p y .1) i-pos i-le))
 
       -- a lost knock is not answered
       pub lost-after : isKnocking (v .state) ≡ true → (w e : ℕ) → w + e ≡ suc N → e < n → sender n w ≡ i → E w .sent ≡ false → readHeard r v ≡ false

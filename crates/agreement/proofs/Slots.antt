@@ -34,11 +34,12 @@ use Rattle.node.specs.declared.Stepped.{Stepped}
 use Rattle.bench.specs.Table.{Table, recordOf, slotsOf, speaker}
 use Rattle.bench.specs.Calls.{transmits, unheard, spoken, heardBy, tableAfterSlot}
 use Rattle.bench.specs.Runs.{slot, listOf, isListed, misses}
+use Rattle.node_steps.proofs.Answers.{At}
 use Rattle.agreement.specs.Demand.{AllHear}
 use Rattle.agreement.proofs.Past.{Past, pastOf}
 use Rattle.agreement.proofs.History.{World, K, decision, sponsors-are}
 use Rattle.agreement.proofs.Invariant.{Tracking}
-use Rattle.agreement.proofs.Marks.{no-both, not-true, not-false, At}
+use Rattle.agreement.proofs.Marks.{no-both, not-true, not-false}
 use Rattle.agreement.proofs.Listed.{Begins, Says, ListedSlot}
 use Rattle.agreement.proofs.Join.{Next}
 use Rattle.agreement.proofs.Outside.{OwnSlot}

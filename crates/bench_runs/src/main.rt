@@ -58,7 +58,7 @@ fn is_command(letter: u8) -> bool {
 // How many bytes follow the letter and the byte after it.
 fn body(letter: u8) -> u8 {
     match letter {
-        b'L' => 51,
+        b'L' => bytes::RECORD,
         b'G' => 24,
         b'U' => 8,
         b'F' | b'R' => 4,

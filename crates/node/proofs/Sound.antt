@@ -45,6 +45,7 @@ counted-sound v e h =
       knock = c .knock;
       empty = c .empty;
       heard = c .heard;
+      yes = c .yes;
       window = c .window;
       enough = c .enough;
     })

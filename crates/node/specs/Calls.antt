@@ -40,7 +40,7 @@ unsent number out = (written.Refused (cause number), out)
 
 -- The record that comes with a refused set-up.
 abbrev pub noNode : Node
-noNode = record { cable = cableOf 0 0; own = 0; slots = 0; state = Out (leavingCause 4); set = 0; present = 0; returning = 0; «return_heard» = false; listening = noWindow }
+noNode = record { cable = cableOf 0 0; own = 0; slots = 0; state = Out (leavingCause 4); set = 0; present = 0; returning = 0; «return_heard» = false; «yes_heard» = false; listening = noWindow }
 
 unfoldable pub setUpOf : Cable → ℕ → Stepped
 setUpOf cable own =

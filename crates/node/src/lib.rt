@@ -38,6 +38,7 @@ pub const NO_NODE: Node = Node {
     present: 0,
     returning: 0,
     return_heard: false,
+    yes_heard: false,
     listening: Window {
         done: 0,
         heard: 0,

@@ -1,4 +1,4 @@
-// A record as the first 51 bytes of a block.
+// A record as the first bytes of a block.
 use node_record::Cause;
 use node_record::Node;
 use node_record::State;
@@ -6,6 +6,9 @@ use node_record::Window;
 use ring::Cable;
 use run_io::block;
 use run_io::block::Block;
+
+// How many bytes a record is.
+pub const RECORD: u8 = 52;
 
 fn state_of(number: u8) -> State {
     match number {
@@ -66,6 +69,7 @@ pub fn node_of(bytes: &Block) -> Node {
         present: block::word(bytes, 25),
         returning: block::word(bytes, 29),
         return_heard: bytes[33] == 1,
+        yes_heard: bytes[51] == 1,
         listening: window_of(bytes),
     }
 }
@@ -90,5 +94,6 @@ pub fn set_node(bytes: &mut Block, node: Node) {
     block::set_word(bytes, 25, node.present);
     block::set_word(bytes, 29, node.returning);
     bytes[33] = if node.return_heard { 1 } else { 0 };
+    bytes[51] = if node.yes_heard { 1 } else { 0 };
     set_window(bytes, window);
 }

@@ -1,4 +1,4 @@
-// The calls of `node` on a record of 51 bytes.
+// The calls of `node` on a record as bytes.
 use crate::bytes;
 use message::Written;
 use node::Answer;

@@ -15,7 +15,7 @@ pub fn loaded(rows: [Node; 32], row: usize, node: Node) -> [Node; 32] {
 fn put_row(output: &mut [u8; 4096], held: usize, row: Node) -> usize {
     let mut record = [0u8; 255];
     bytes::set_node(&mut record, row);
-    output::put_block(output, held, &record, 51)
+    output::put_block(output, held, &record, bytes::RECORD)
 }
 
 pub fn put_rows(output: &mut [u8; 4096], held: usize, rows: [Node; 32]) -> usize {

@@ -61,6 +61,7 @@ out-sound cause v r =
       knock = exactly-by false (eqb 0 (v .own)) (sym (not-own (v .cable .n) (v .own) (r .own-in)));
       empty = refl;
       heard = refl;
+      yes = refl;
       window = refl;
       enough = refl;
     })
@@ -82,6 +83,7 @@ listening-sound last v r l two absent =
       knock = exactly-by false (eqb 0 (v .own)) (sym (not-own (v .cable .n) (v .own) (r .own-in)));
       empty = refl;
       heard = refl;
+      yes = refl;
       window =
           all
           (all (lt-ltb 0 (v .cable .n) (omega (arith, ring-size (v .cable .n) (r .ring))))
@@ -123,6 +125,7 @@ following-sound set v r l two absent =
       knock = exactly-by false (eqb 0 (v .own)) (sym (not-own (v .cable .n) (v .own) (r .own-in)));
       empty = refl;
       heard = refl;
+      yes = refl;
       window = refl;
       enough = le-leb 2 (size (v .cable .n) set) two;
     })
@@ -144,6 +147,7 @@ starting-sound cable own h i j =
       knock = exactly-by false (eqb 0 own) (sym (not-own n own j));
       empty = refl;
       heard = refl;
+      yes = refl;
       window = refl;
       enough = refl;
     })

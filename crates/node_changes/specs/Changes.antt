@@ -16,19 +16,19 @@ noWindow = record { done = 0; heard = 0; shortest = 0; «return_seen» = false; 
 
 -- A member that begins with a set, all of it marked.
 abbrev pub beginning : Cable → ℕ → ℕ → Node
-beginning cable own set = record { cable = cable; own = own; slots = 0; state = Member; set = set; present = set; returning = 0; «return_heard» = false; listening = noWindow }
+beginning cable own set = record { cable = cable; own = own; slots = 0; state = Member; set = set; present = set; returning = 0; «return_heard» = false; «yes_heard» = false; listening = noWindow }
 
--- "All start as members, set full, all marks on, returning 0."
+-- "All start as members, set full, all marks on, returning 0."; yes heard is "cleared at set-up" (document 02, e).
 abbrev pub starting : Cable → ℕ → Node
 starting cable own = beginning cable own (full (cable .n))
 
 -- Out for a cause: "its set empty".
 abbrev pub outFor : Cause → Node → Node
-outFor cause v = record { cable = v .cable; own = v .own; slots = v .slots; state = Out cause; set = 0; present = 0; returning = 0; «return_heard» = false; listening = noWindow }
+outFor cause v = record { cable = v .cable; own = v .own; slots = v .slots; state = Out cause; set = 0; present = 0; returning = 0; «return_heard» = false; «yes_heard» = false; listening = noWindow }
 
 -- Listening, "with no slot done", after a last clean window in which the nodes `last` were heard (none where it was unclean, or there was none).
 abbrev pub listeningAfter : ℕ → Node → Node
-listeningAfter last v = record { cable = v .cable; own = v .own; slots = v .slots; state = Listening; set = 0; present = 0; returning = 0; «return_heard» = false; listening = record { done = 0; heard = 0; shortest = v .cable .k; «return_seen» = false; last = last } }
+listeningAfter last v = record { cable = v .cable; own = v .own; slots = v .slots; state = Listening; set = 0; present = 0; returning = 0; «return_heard» = false; «yes_heard» = false; listening = record { done = 0; heard = 0; shortest = v .cable .k; «return_seen» = false; last = last } }
 
 -- "starts listening afresh, with no slot done; its first window opens with the next slot"
 abbrev pub fresh : Node → Node
@@ -36,7 +36,7 @@ fresh v = listeningAfter 0 v
 
 -- "these become the set, all marked, state following"
 abbrev pub followingWith : ℕ → Node → Node
-followingWith s v = record { cable = v .cable; own = v .own; slots = v .slots; state = Following; set = s; present = s; returning = 0; «return_heard» = false; listening = noWindow }
+followingWith s v = record { cable = v .cable; own = v .own; slots = v .slots; state = Following; set = s; present = s; returning = 0; «return_heard» = false; «yes_heard» = false; listening = noWindow }
 
 -- "A member that leaves is out .. A following or knocking node that must leave starts listening afresh."
 unfoldable pub leave : Cause → Node → Node
@@ -44,22 +44,22 @@ leave cause v = cond (isMember (v .state)) (outFor cause v) (fresh v)
 
 -- Another slot count.
 abbrev pub numbered : ℕ → Node → Node
-numbered slots v = record { cable = v .cable; own = v .own; slots = slots; state = v .state; set = v .set; present = v .present; returning = v .returning; «return_heard» = v .«return_heard»; listening = v .listening }
+numbered slots v = record { cable = v .cable; own = v .own; slots = slots; state = v .state; set = v .set; present = v .present; returning = v .returning; «return_heard» = v .«return_heard»; «yes_heard» = v .«yes_heard»; listening = v .listening }
 
 -- One slot more on the count.
 abbrev pub counted : Node → Node
 counted v = numbered (v .slots + 1) v
 
 abbrev pub withSet : ℕ → Node → Node
-withSet s v = record { cable = v .cable; own = v .own; slots = v .slots; state = v .state; set = s; present = v .present; returning = v .returning; «return_heard» = v .«return_heard»; listening = v .listening }
+withSet s v = record { cable = v .cable; own = v .own; slots = v .slots; state = v .state; set = s; present = v .present; returning = v .returning; «return_heard» = v .«return_heard»; «yes_heard» = v .«yes_heard»; listening = v .listening }
 
--- Other marks, and another return heard.
-abbrev pub withMarks : ℕ → Bool → Node → Node
-withMarks p heard v = record { cable = v .cable; own = v .own; slots = v .slots; state = v .state; set = v .set; present = p; returning = v .returning; «return_heard» = heard; listening = v .listening }
+-- Other marks, another yes heard, and another return heard.
+abbrev pub withMarks : ℕ → Bool → Bool → Node → Node
+withMarks p assured heard v = record { cable = v .cable; own = v .own; slots = v .slots; state = v .state; set = v .set; present = p; returning = v .returning; «return_heard» = heard; «yes_heard» = assured; listening = v .listening }
 
 -- Another returning node, in another state.
 abbrev pub withReturning : State → ℕ → Node → Node
-withReturning state r v = record { cable = v .cable; own = v .own; slots = v .slots; state = state; set = v .set; present = v .present; returning = r; «return_heard» = v .«return_heard»; listening = v .listening }
+withReturning state r v = record { cable = v .cable; own = v .own; slots = v .slots; state = state; set = v .set; present = v .present; returning = r; «return_heard» = v .«return_heard»; «yes_heard» = v .«yes_heard»; listening = v .listening }
 
 abbrev pub withWindow : Window → Node → Node
-withWindow w v = record { cable = v .cable; own = v .own; slots = v .slots; state = v .state; set = v .set; present = v .present; returning = v .returning; «return_heard» = v .«return_heard»; listening = w }
+withWindow w v = record { cable = v .cable; own = v .own; slots = v .slots; state = v .state; set = v .set; present = v .present; returning = v .returning; «return_heard» = v .«return_heard»; «yes_heard» = v .«yes_heard»; listening = w }

@@ -33,6 +33,7 @@ pub fn starting(cable: Cable, own: u32) -> Node
         present: all,
         returning: 0,
         return_heard: false,
+        yes_heard: false,
         listening: w,
     }
 }
@@ -52,6 +53,7 @@ pub fn out_for(cause: Cause, v: Node) -> Node
         present: 0,
         returning: 0,
         return_heard: false,
+        yes_heard: false,
         listening: w,
     }
 }
@@ -77,6 +79,7 @@ pub fn listening_after(last: u32, v: Node) -> Node
         present: 0,
         returning: 0,
         return_heard: false,
+        yes_heard: false,
         listening: w,
     }
 }
@@ -103,6 +106,7 @@ pub fn following_with(set: u32, v: Node) -> Node
         present: set,
         returning: 0,
         return_heard: false,
+        yes_heard: false,
         listening: w,
     }
 }
@@ -127,12 +131,13 @@ pub fn with_set(set: u32, v: Node) -> Node
     w
 }
 
-// The record with other marks and another return heard.
-pub fn with_marks(present: u32, heard: bool, v: Node) -> Node
-    ensures { λ r. ⌜ r ≡ withMarks present heard v ⌝ }
+// The record with other marks, another yes heard and another return heard.
+pub fn with_marks(present: u32, assured: bool, heard: bool, v: Node) -> Node
+    ensures { λ r. ⌜ r ≡ withMarks present assured heard v ⌝ }
 {
     let mut w = v;
     w.present = present;
+    w.yes_heard = assured;
     w.return_heard = heard;
     w
 }
@@ -152,6 +157,7 @@ pub fn with_returning(state: State, r: u32, v: Node) -> Node
         present: v.present,
         returning: r,
         return_heard: v.return_heard,
+        yes_heard: v.yes_heard,
         listening: window,
     }
 }

@@ -104,6 +104,7 @@ window-sound w v e l h =
       knock = c .knock;
       empty = c .empty;
       heard = c .heard;
+      yes = c .yes;
       window = all (implies-by (isListening (v .state)) (windowInRange (v .cable) (v .own) w) (λ t. h)) (or-left (isListening (v .state)) (windowEmpty w) l);
       enough = c .enough;
     })

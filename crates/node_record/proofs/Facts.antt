@@ -6,7 +6,7 @@ use Rattle.nodeset.proofs.Tests.{both, all, or-else}
 use Rattle.ring.specs.Ring.{ringSize, sponsorCount, nodeNumber}
 use Rattle.node_record.specs.declared.Node.{Node}
 use Rattle.node_record.specs.States.{isListening}
-use Rattle.node_record.specs.Soundness.{limit, implies, exactly, setsSound, returningSound, ownSound, knockSound, emptySound, heardSound, windowInRange, windowEmpty, windowSound, enoughSound, sound}
+use Rattle.node_record.specs.Soundness.{limit, implies, exactly, setsSound, returningSound, ownSound, knockSound, emptySound, heardSound, yesSound, windowInRange, windowEmpty, windowSound, enoughSound, sound}
 
 pub record Clauses (v : Node) : Type 0 where
   pub ring : ringSize (v .cable .n) ≡ true
@@ -19,6 +19,7 @@ pub record Clauses (v : Node) : Type 0 where
   pub knock : knockSound v ≡ true
   pub empty : emptySound v ≡ true
   pub heard : heardSound v ≡ true
+  pub yes : yesSound v ≡ true
   pub window : windowSound v ≡ true
   pub enough : enoughSound v ≡ true
 
@@ -33,6 +34,7 @@ clauses v e =
     let c₆ = both _ _ (c₅ .1) in
     let c₇ = both _ _ (c₆ .1) in
     let c₈ = both _ _ (c₇ .1) in
+    let c₉ = both _ _ (c₈ .1) in
     let n₁ = both _ _ (c₁ .0) in
     let n₂ = both _ _ (n₁ .1) in
     let n₃ = both _ _ (n₂ .1) in
@@ -47,15 +49,16 @@ clauses v e =
       knock = c₅ .0;
       empty = c₆ .0;
       heard = c₇ .0;
-      window = c₈ .0;
-      enough = c₈ .1;
+      yes = c₈ .0;
+      window = c₉ .0;
+      enough = c₉ .1;
     }
 
 pub sound-by : (v : Node) → Clauses v → sound v ≡ true
 unfolding sound
 sound-by v c =
     all (all (c .ring) (all (c .sponsors) (all (c .own) (c .slots))))
-    (all (c .sets) (all (c .returning) (all (c .ownIn) (all (c .knock) (all (c .empty) (all (c .heard) (all (c .window) (c .enough))))))))
+    (all (c .sets) (all (c .returning) (all (c .ownIn) (all (c .knock) (all (c .empty) (all (c .heard) (all (c .yes) (all (c .window) (c .enough)))))))))
 
 -- ---- tests with a condition
 

@@ -41,6 +41,7 @@ pub record Tracking (v : Node) : Type 0 where
   pub ownIn : isMember (v .state) ≡ has (v .set) (v .own)
   pub knock : isKnocking (v .state) ≡ eqb (v .returning) (v .own)
   pub heard : v .«return_heard» ≡ true → isKnocking (v .state) ≡ true
+  pub yes : v .«yes_heard» ≡ true → isMember (v .state) ≡ true
   pub window : windowEmpty (v .listening) ≡ true
 
 -- ---- the states
@@ -97,6 +98,7 @@ sound-tracking v e t =
       ownIn = same-test (isMember (v .state)) (has (v .set) (v .own)) (c .ownIn);
       knock = same-test (isKnocking (v .state)) (eqb (v .returning) (v .own)) (c .knock);
       heard = implied (v .«return_heard») (isKnocking (v .state)) (c .heard);
+      yes = implied (v .«yes_heard») (isMember (v .state)) (c .yes);
       window = window-other v (c .window) (tracks-not-listening (v .state) t);
     }
 
@@ -120,6 +122,7 @@ tracking-sound v k two =
       knock = exactly-by (isKnocking (v .state)) (eqb (v .returning) (v .own)) (k .knock);
       empty = implies-by (isListening (v .state) || isOut (v .state)) (eqb (v .set) 0 && (eqb (v .present) 0 && eqb (v .returning) 0)) (λ h. absurd (true≢false (sym h ∙ tracks-not-away (v .state) (k .tracking))));
       heard = implies-by (v .«return_heard») (isKnocking (v .state)) (k .heard);
+      yes = implies-by (v .«yes_heard») (isMember (v .state)) (k .yes);
       window =
           all
           (implies-by (isListening (v .state)) (windowInRange (v .cable) (v .own) (v .listening)) (λ h. absurd (true≢false (sym h ∙ tracks-not-listening (v .state) (k .tracking)))))

@@ -50,6 +50,10 @@ emptySound v =
 abbrev pub heardSound : Node → Bool
 heardSound v = implies (v .«return_heard») (isKnocking (v .state))
 
+-- "yes heard .. off whenever the node is not a member" (document 02, e)
+abbrev pub yesSound : Node → Bool
+yesSound v = implies (v .«yes_heard») (isMember (v .state))
+
 -- "Listening data: slots done in this window (0 to n - 1), nodes heard in it, the shortest run of ones in it (0 to k, k while nothing is
 -- heard), whether a return bit of 1 was heard in it, and the nodes of the last clean window (none, or two or more). Neither group of
 -- nodes holds the own number." ("Listening")
@@ -86,5 +90,6 @@ sound v =
     && (knockSound v
     && (emptySound v
     && (heardSound v
+    && (yesSound v
     && (windowSound v
-    && enoughSound v)))))))
+    && enoughSound v))))))))

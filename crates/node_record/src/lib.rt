@@ -3,7 +3,7 @@
 use ring::Cable;
 ghost use mathlib.Core.Path.{_≡_};
 ghost use Rattle.node_record.specs.States.{isMember, isListening, isFollowing, isKnocking, isOut, causeNumber};
-ghost use Rattle.node_record.specs.Soundness.{numbersSound, setsSound, returningSound, ownSound, knockSound, emptySound, heardSound, windowInRange, windowEmpty, windowSound, enoughSound, sound};
+ghost use Rattle.node_record.specs.Soundness.{numbersSound, setsSound, returningSound, ownSound, knockSound, emptySound, heardSound, yesSound, windowInRange, windowEmpty, windowSound, enoughSound, sound};
 
 // Why a node is out.
 pub enum Cause {
@@ -40,6 +40,7 @@ pub struct Node {
     pub present: u32,
     pub returning: u32,
     pub return_heard: bool,
+    pub yes_heard: bool,
     pub listening: Window,
 }
 
@@ -172,6 +173,13 @@ fn heard_sound(v: Node) -> bool
     !v.return_heard | is_knocking(state)
 }
 
+fn yes_sound(v: Node) -> bool
+    ensures { λ r. ⌜ r ≡ yesSound v ⌝ }
+{
+    let state = v.state;
+    !v.yes_heard | is_member(state)
+}
+
 fn window_in_range(cable: Cable, own: u32, w: Window) -> bool
     ensures { λ r. ⌜ r ≡ windowInRange cable own w ⌝ }
 {
@@ -224,5 +232,6 @@ pub fn is_sound(v: Node) -> bool
                 & (own_sound(v)
                     & (knock_sound(v)
                         & (empty_sound(v)
-                            & (heard_sound(v) & (window_sound(v) & enough_sound(v))))))))
+                            & (heard_sound(v)
+                                & (yes_sound(v) & (window_sound(v) & enough_sound(v)))))))))
 }

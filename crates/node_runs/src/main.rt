@@ -61,7 +61,7 @@ fn body(letter: u8, size: u8) -> u8 {
     match letter {
         b'U' => 12,
         b'S' => size,
-        b'L' => 51,
+        b'L' => bytes::RECORD,
         _ => 0,
     }
 }
@@ -82,7 +82,7 @@ fn read(input: &mut [u8; 4096], left: Unread, block: &mut Block) -> Command {
 
 fn answer(output: &mut [u8; 4096], held: usize, record: &Block, number: u8) -> usize {
     let held = output::put(output, held, number);
-    output::put_block(output, held, record, 51)
+    output::put_block(output, held, record, bytes::RECORD)
 }
 
 fn answer_to_send(

@@ -27,12 +27,15 @@ use Rattle.node_steps.proofs.Digests.{tracking-digest}
 use Rattle.node_hearing.specs.Hearing.{listeningBy}
 use Rattle.node_slot.specs.Slot.{afterSlot}
 use Rattle.node_slot.specs.Inner.{heardFrom, readIn, afterBy}
-use Rattle.node_slot.proofs.Read.{after-read}
+use Rattle.node_slot.proofs.Read.{from-other, after-read}
 
 -- ---- what a sound record gives
 
-pub sound-own : (v : Node) → sound v ≡ true → 1 ≤ v .own
-sound-own v e = node-number (v .cable .n) (v .own) (clauses v e .own) .0
+pub sound-own : (v : Node) → sound v ≡ true → (1 ≤ v .own) × (v .own ≤ 32)
+sound-own v e =
+    let c = clauses v e in
+    let own = node-number (v .cable .n) (v .own) (c .own) in
+    (own .0, omega (arith, own .1, ring-size (v .cable .n) (c .ring)))
 
 pub sound-marks : (v : Node) → sound v ≡ true → v .present < 2 ^ 32
 sound-marks v e =
@@ -58,11 +61,11 @@ by-state Following s r v t e = e
 by-state Knocking s r v t e = e
 by-state (Out cause) s r v t e = refl
 
-pub after-digest : (s : ℕ) (heard told : Reading) (cable : Cable) (set : ℕ) (v : Node) → (isHeard told ≡ true → told ≡ heard) → v .cable ≡ cable → 1 ≤ v .own → v .present < 2 ^ 32
+pub after-digest : (s : ℕ) (heard told : Reading) (cable : Cable) (set : ℕ) (v : Node) → (isHeard told ≡ true → told ≡ heard) → v .cable ≡ cable → (1 ≤ v .own) × (v .own ≤ 32) → v .present < 2 ^ 32
     → afterBy (digestOf s heard cable set) s told v ≡ afterSlot s told v
 unfolding afterBy
 after-digest s heard told cable set v h a o p =
     ap (λ (c : Cable). afterBy (digestOf s heard c set) s told v) (sym a)
     ∙ by-state (v .state) s (heardFrom s told v) v (trackingBy (digestOf s heard (v .cable) set) s (heardFrom s told v) v)
-    (tracking-digest s heard (heardFrom s told v) set v (heard-told (eqb s (v .own)) heard told h) o p)
+    (tracking-digest s heard (heardFrom s told v) set v (heard-told (eqb s (v .own)) heard told h) (from-other s told v) (o .0) (o .1) p)
     ∙ sym (after-read s told v)

@@ -1,6 +1,6 @@
 -- The slot of specs/Steps, which does the steps in their order, is the slot by cases of specs/Inner. Assumes nothing.
 use Prim.Native.Nat.{ℕ}
-use mathlib.Core.Path.{_≡_, refl, sym, ap, ap₂, _∙_}
+use mathlib.Core.Path.{_≡_, refl, sym, ap, _∙_}
 use mathlib.Core.Bool.{Bool, true, false, cond, not, _&&_, true≢false}
 use lib.Dec.{eqb}
 use borrow.Author.Tests.{eqb-true, eq-eqb, ne-eqb}
@@ -16,7 +16,7 @@ use Rattle.node_record.specs.declared.Node.{Node}
 use Rattle.node_record.specs.States.{leavingCause}
 use Rattle.node_record.specs.Sponsoring.{decidedIn}
 use Rattle.node_changes.specs.Changes.{leave, withSet, withMarks}
-use Rattle.node_steps.specs.Steps.{isOwn, returnIn, hearsReturn, readMarks, marksAfter, missedReturn, returnHeard, marked, noted, leaves, departed, settle, trackingSlot}
+use Rattle.node_steps.specs.Steps.{isOwn, returnIn, hearsReturn, marksAfter, yesAfter, missedReturn, returnHeard, marked, noted, leaves, departed, settle, trackingSlot}
 use Rattle.node_steps.specs.Inner.{readReturn, readHeard, readMarked, judged, departs, departing, insideSlot, outsideSlot, slotByCases}
 
 -- ---- step 1: what is heard of the own slot is a refused reading
@@ -25,15 +25,10 @@ returns-read : (s : ℕ) (heard : Reading) (v : Node) → FromOther s heard (v .
 returns-read s (reading.Heard bits returnBit) v f = rw (ne-eqb s (v .own) f) refl
 returns-read s (reading.Refused r) v f = by-cases (isOwn s v) (λ e. rw e refl) (λ e. rw e refl)
 
-marks-read : (s : ℕ) (heard : Reading) (v : Node) → FromOther s heard (v .own) → marksAfter s heard v ≡ readMarks s heard v
-marks-read s (reading.Heard bits returnBit) v f = otherwise _ _ (ne-eqb s (v .own) f)
-marks-read s (reading.Refused r) v f =
-    by-cases (isOwn s v) (λ e. chosen _ _ e ∙ ap (without (v .present)) (sym (eqb-true s (v .own) e))) (λ e. otherwise _ _ e)
-
 marked-read : (s : ℕ) (heard : Reading) (v : Node) → FromOther s heard (v .own) → marked s heard v ≡ readMarked s heard v
 marked-read s heard v f =
     let h : returnHeard s heard v ≡ readHeard heard v = rw (returns-read s heard v f) refl in
-    ap₂ (λ (marks : ℕ) (b : Bool). withMarks marks b v) (marks-read s heard v f) h
+    ap (λ (b : Bool). withMarks (marksAfter s heard v) (yesAfter s heard v) b v) h
 
 -- ---- step 3
 

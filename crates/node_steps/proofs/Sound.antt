@@ -9,7 +9,7 @@ use native.Mathlib.Decide.{ℕ-discrete}
 use lib.Dec.{eqb, ltb}
 use borrow.Author.Tests.{eqb-true, eqb-false, eq-eqb, ne-eqb, ltb-false, not-true, le-leb}
 use Rattle.nodeset.specs.Sets.{has, with, without, size}
-use Rattle.nodeset.proofs.Tests.{by-cases, both, all}
+use Rattle.nodeset.proofs.Tests.{by-cases, both, all, or-else}
 use Rattle.nodeset.proofs.Laws.{has-with, has-with-other, has-without, has-without-other, with-lt, without-lt, has-range}
 use Rattle.nodeset.proofs.Counts.{size-with}
 use Rattle.ring.specs.declared.Found.{Found}
@@ -29,7 +29,8 @@ use Rattle.node_record.specs.Sponsoring.{sponsorsIn, sponsoredIn, decidedIn}
 use Rattle.node_record.proofs.Tracking.{Tracking, tracks, tracking-sound}
 use Rattle.node_changes.specs.Changes.{withSet, withReturning}
 use Rattle.node_changes.proofs.Sound.{InRange, fresh-sound, leave-sound}
-use Rattle.node_steps.specs.Steps.{isHeard, returnIn, confirmed, readMarks, noted, tooFew, nothingHeard, joins, stateOnList, joined, join, settle}
+use Rattle.node_steps.specs.Steps.{isHeard, returnIn, isOwn, confirmed, says, hearsNo, hearsYes, heardMarks, readMarks, marksAfter, readYes, noted, tooFew, nothingHeard, joins, stateOnList, joined, join, settle}
+use Rattle.node_steps.proofs.Answers.{told-by}
 use Rattle.node_steps.specs.Inner.{readReturn, readMarked, judged, departs, insideSlot, outsideSlot, slotByCases}
 
 numbers : (v : Node) → Tracking v → InRange (v .cable) (v .own) (v .slots)
@@ -76,9 +77,34 @@ confirmed-marks (suc j) s bits v h l e k =
     (λ t. rw t (found-marks (v .cable .n) (v .set) (confirmed j s bits v) f h l (λ m q. sponsored-member (v .cable) (v .set) s (suc j) m q) r))
     (λ t. rw t r)
 
-marks-after : (s : ℕ) (heard : Reading) (v : Node) → v .cable .n ≤ 32 → v .set < 2 ^ v .cable .n → has (v .set) s ≡ true → Marks (v .cable .n) (v .set) (v .present) → Marks (v .cable .n) (v .set) (readMarks s heard v)
-marks-after s (reading.Heard bits returnBit) v h l e k = confirmed-marks (sponsorsIn v) s bits v h l e k
-marks-after s (reading.Refused r) v h l e k = without-marks (v .cable .n) (v .set) (v .present) s k
+heard-marks : (s bits : ℕ) (v : Node) → v .cable .n ≤ 32 → v .set < 2 ^ v .cable .n → has (v .set) s ≡ true → Marks (v .cable .n) (v .set) (v .present) → Marks (v .cable .n) (v .set) (heardMarks s bits v)
+unfolding heardMarks
+heard-marks s bits v h l e k =
+    let marks = confirmed (sponsorsIn v) s bits v in
+    let m = confirmed-marks (sponsorsIn v) s bits v h l e k in
+    by-cases (hearsNo s bits v && not (v .«yes_heard»)) (λ t. rw t (without-marks (v .cable .n) (v .set) marks (v .own) m)) (λ t. rw t m)
+
+read-marks : (s : ℕ) (heard : Reading) (v : Node) → v .cable .n ≤ 32 → v .set < 2 ^ v .cable .n → has (v .set) s ≡ true → Marks (v .cable .n) (v .set) (v .present) → Marks (v .cable .n) (v .set) (readMarks s heard v)
+read-marks s (reading.Heard bits returnBit) v h l e k = heard-marks s bits v h l e k
+read-marks s (reading.Refused r) v h l e k = without-marks (v .cable .n) (v .set) (v .present) s k
+
+marks-after : (s : ℕ) (heard : Reading) (v : Node) → v .cable .n ≤ 32 → v .set < 2 ^ v .cable .n → has (v .set) s ≡ true → Marks (v .cable .n) (v .set) (v .present) → Marks (v .cable .n) (v .set) (marksAfter s heard v)
+marks-after s heard v h l e k =
+    by-cases (isOwn s v)
+    (λ t. rw t (with-marks (v .cable .n) (v .set) (v .present) (v .own) h l (ap (has (v .set)) (sym (eqb-true s (v .own) t)) ∙ e) k))
+    (λ t. rw t (read-marks s heard v h l e k))
+
+-- an acknowledgement is for a node in the set
+says-in : (answer : Bool) (j s bits : ℕ) (v : Node) → says answer j s bits v ≡ true → has (v .set) (v .own) ≡ true
+says-in answer j s bits v e =
+    let t = told-by answer j s bits v e in
+    sponsored-member (v .cable) (v .set) s (suc (t .i)) (v .own) (t .it .back) (t .it .it)
+
+-- a yes is heard by a member only
+yes-member : (s : ℕ) (heard : Reading) (v : Node) → Tracking v → readYes s heard v ≡ true → isMember (v .state) ≡ true
+yes-member s (reading.Heard bits returnBit) v k e =
+    by-cases (v .«yes_heard») (λ t. k .yes t) (λ t. k .ownIn ∙ says-in true (sponsorsIn v) s bits v (or-else (v .«yes_heard») (hearsYes s bits v) e t))
+yes-member s (reading.Refused r) v k e = k .yes e
 
 -- return heard is set only while knocking
 heard-knocking : (a b c : Bool) → (a ≡ true → b ≡ true) → (a || (b && c)) ≡ true → b ≡ true
@@ -103,6 +129,7 @@ marked-tracks s heard v e k =
       ownIn = k .ownIn;
       knock = k .knock;
       heard = heard-knocking (v .«return_heard») (isKnocking (v .state)) (returnIn heard) (k .heard);
+      yes = λ y. yes-member s heard v k (both (not (isOwn s v)) (readYes s heard v) y .1);
       window = k .window;
     }
 
@@ -134,6 +161,7 @@ knock-tracks v e k =
       ownIn = sym absent;
       knock = sym (eq-eqb (v .own) (v .own) refl);
       heard = λ h. refl;
+      yes = λ y. absurd (true≢false (sym (k .yes y) ∙ f .0));
       window = k .window;
     }
 
@@ -155,6 +183,7 @@ note-tracks s v l d e z k =
       ownIn = k .ownIn;
       knock = none ∙ sym (ne-eqb s (v .own) d);
       heard = k .heard;
+      yes = k .yes;
       window = k .window;
     }
 
@@ -187,6 +216,7 @@ departed-tracks m v off d k =
       ownIn = k .ownIn ∙ sym (has-without-other (v .set) m (v .own) d);
       knock = k .knock;
       heard = k .heard;
+      yes = k .yes;
       window = k .window;
     }
   where
@@ -231,6 +261,7 @@ refollow-tracks v e f k =
       ownIn = sym (knocking-no-member (v .state) e) ∙ k .ownIn;
       knock = sym (not-node-0 v k);
       heard = λ h. absurd (true≢false (sym h ∙ f));
+      yes = λ y. absurd (true≢false (sym (k .yes y) ∙ knocking-no-member (v .state) e));
       window = k .window;
     }
 
@@ -255,6 +286,13 @@ on-list-tracks Following e = (refl, refl)
 on-list-tracks Knocking e = (refl, refl)
 on-list-tracks (Out cause) e = (e, refl)
 
+on-list-still : (s : State) → isMember s ≡ true → isMember (stateOnList s) ≡ true
+on-list-still Member e = refl
+on-list-still Listening e = e
+on-list-still Following e = e
+on-list-still Knocking e = refl
+on-list-still (Out cause) e = e
+
 joined-tracks : (v : Node) → nodeNumber (v .cable .n) (v .returning) ≡ true → Tracking v → Tracking (joined v)
 joined-tracks v e k =
     let r = node-number (v .cable .n) (v .returning) e in
@@ -273,6 +311,7 @@ joined-tracks v e k =
       ownIn = by-cases (isKnocking (v .state)) itself others;
       knock = l .1 ∙ sym (not-node-0 v k);
       heard = λ h. absurd (true≢false (sym h));
+      yes = λ y. on-list-still (v .state) (k .yes y);
       window = k .window;
     }
   where

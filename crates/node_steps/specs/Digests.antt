@@ -13,9 +13,10 @@ use Rattle.node_record.specs.declared.Cause.the-variants.{Unconfirmed, MissedRe
 use Rattle.node_record.specs.States.{isFollowing, isKnocking}
 use Rattle.node_record.specs.Sponsoring.{decidedIn}
 use Rattle.node_changes.specs.Changes.{leave, withSet, withMarks, withReturning}
+use Rattle.node_steps.specs.declared.Said.{Said}
 use Rattle.node_steps.specs.declared.Digest.{Digest}
 use Rattle.node_steps.specs.declared.Effect.{Effect}
-use Rattle.node_steps.specs.Steps.{settle}
+use Rattle.node_steps.specs.Steps.{saysSo, settle}
 
 -- ---- the digest
 
@@ -24,40 +25,59 @@ abbrev pub bitsHeard : Reading → ℕ
 bitsHeard (reading.Heard bits returnBit) = bits
 bitsHeard (reading.Refused r) = 0
 
--- The marks that a message of s sets: its own, and those of the first j of the members that it sponsors.
-unfoldable pub marksFor : ℕ → ℕ → ℕ → Cable → ℕ → ℕ
-marksFor zero s bits cable set = with 0 s
-marksFor (suc j) s bits cable set =
-    let marks = marksFor j s bits cable set in
-    cond (has bits (suc j)) (with marks (memberIn (sponsored cable set s (suc j)))) marks
+-- The nodes given, with those of the first j members that s sponsors whose acknowledgement says so.
+unfoldable pub answered : Bool → ℕ → ℕ → ℕ → ℕ → Cable → ℕ → ℕ
+answered answer nodes zero s bits cable set = nodes
+answered answer nodes (suc j) s bits cable set =
+    let earlier = answered answer nodes j s bits cable set in
+    cond (saysSo answer (has bits (suc j))) (with earlier (memberIn (sponsored cable set s (suc j)))) earlier
 
-abbrev pub marksSet : ℕ → ℕ → Cable → ℕ → ℕ
-marksSet s bits cable set = marksFor (sponsors cable set) s bits cable set
+-- What a message of s says: a yes for s and for those that it acknowledges, a no for the others that it sponsors.
+abbrev pub saidOf : ℕ → ℕ → Cable → ℕ → Said
+saidOf s bits cable set =
+    let most = sponsors cable set in
+    record { yes = answered true (with 0 s) most s bits cable set; no = answered false 0 most s bits cable set }
 
 unfoldable pub digestOf : ℕ → Reading → Cable → ℕ → Digest
 digestOf s heard cable set = record {
   set = set;
-  marks = marksSet s (bitsHeard heard) cable set;
+  said = saidOf s (bitsHeard heard) cable set;
   decided = memberIn (decided cable set s);
 }
 
 -- It is taken by one who holds its set; any other works it out.
-abbrev pub marksBy : Digest → ℕ → ℕ → Node → ℕ
-marksBy d s bits v = cond (eqb (d .set) (v .set)) (d .marks) (marksSet s bits (v .cable) (v .set))
+abbrev pub saidBy : Digest → ℕ → ℕ → Node → Said
+saidBy d s bits v = cond (eqb (d .set) (v .set)) (d .said) (saidOf s bits (v .cable) (v .set))
 
 abbrev pub decidedBy : Digest → ℕ → Node → ℕ
 decidedBy d s v = cond (eqb (d .set) (v .set)) (d .decided) (memberIn (decidedIn s v))
 
 -- ---- the slot
 
--- What the message does, where it is heard and where it is not.
+-- What a heard message that says this does.
+abbrev pub marksBy : Said → Node → ℕ
+marksBy said v =
+    let marks = union (v .present) (said .yes) in
+    cond (has (said .no) (v .own) && not (v .«yes_heard»)) (without marks (v .own)) marks
+
+abbrev pub heardEffect : Said → Bool → Node → Effect
+heardEffect said returnBit v = record { heard = true; marks = marksBy said v; yes = v .«yes_heard» || has (said .yes) (v .own); returned = returnBit }
+
+-- What a slot does of which nothing is heard, the own one, too.
+abbrev pub unheardMarks : ℕ → Node → ℕ
+unheardMarks s v = cond (eqb s (v .own)) (with (v .present) (v .own)) (without (v .present) s)
+
+abbrev pub unheardEffect : ℕ → Node → Effect
+unheardEffect s v = record { heard = false; marks = unheardMarks s v; yes = not (eqb s (v .own)) && v .«yes_heard»; returned = false }
+
+-- What the message does.
 abbrev pub effectOf : Digest → ℕ → Reading → Node → Effect
-effectOf d s (reading.Heard bits returnBit) v = record { heard = true; marks = union (v .present) (marksBy d s bits v); returned = returnBit }
-effectOf d s (reading.Refused r) v = record { heard = false; marks = without (v .present) s; returned = false }
+effectOf d s (reading.Heard bits returnBit) v = heardEffect (saidBy d s bits v) returnBit v
+effectOf d s (reading.Refused r) v = unheardEffect s v
 
 -- Steps 1 and 2.
 abbrev pub markedBy : Effect → Node → Node
-markedBy e v = withMarks (e .marks) (v .«return_heard» || (isKnocking (v .state) && e .returned)) v
+markedBy e v = withMarks (e .marks) (e .yes) (v .«return_heard» || (isKnocking (v .state) && e .returned)) v
 
 unfoldable pub notedBy : ℕ → Bool → Node → Node
 notedBy s heard v =

@@ -1,5 +1,5 @@
 -- Inner: the slot of specs/Steps by cases, each case with what comes after it, as the code and the proofs take it; what is heard of the own slot is a refused
--- reading. The law is `slot-by-cases` in proofs/Cases.
+-- reading, so that no return bit is heard in it. The law is `slot-by-cases` in proofs/Cases.
 use Prim.Native.Nat.{ℕ}
 use mathlib.Core.Bool.{Bool, true, false, cond, _&&_, _||_}
 use lib.Dec.{eqb}
@@ -11,7 +11,7 @@ use Rattle.node_record.specs.declared.Node.{Node}
 use Rattle.node_record.specs.States.{isKnocking, leavingCause}
 use Rattle.node_record.specs.Sponsoring.{decidedIn}
 use Rattle.node_changes.specs.Changes.{leave, withSet, withMarks}
-use Rattle.node_steps.specs.Steps.{returnIn, readMarks, noted, settle}
+use Rattle.node_steps.specs.Steps.{returnIn, marksAfter, yesAfter, noted, settle}
 
 -- Step 1 by what is read.
 abbrev pub readReturn : Reading → Node → Bool
@@ -21,7 +21,7 @@ abbrev pub readHeard : Reading → Node → Bool
 readHeard heard v = v .«return_heard» || (isKnocking (v .state) && returnIn heard)
 
 abbrev pub readMarked : ℕ → Reading → Node → Node
-readMarked s heard v = withMarks (readMarks s heard v) (readHeard heard v) v
+readMarked s heard v = withMarks (marksAfter s heard v) (yesAfter s heard v) (readHeard heard v) v
 
 -- Step 3, and what comes after it: "the decided member leaves if its mark is off. If that is this node, it leaves with cause 1 and the steps end."
 unfoldable pub judged : ℕ → ℕ → Node → Node

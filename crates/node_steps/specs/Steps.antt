@@ -36,9 +36,9 @@ hearsReturn s heard v = not (isOwn s v) && returnIn heard
 
 -- ---- step 1: "The sender is in the set."
 
--- "If it is this node, its own mark goes off"
+-- "The own slot sets the own mark on, in place of off" (document 02, e; in place of document 01's "If it is this node, its own mark goes off").
 abbrev pub ownMarks : Node → ℕ
-ownMarks v = without (v .present) (v .own)
+ownMarks v = with (v .present) (v .own)
 
 -- "its mark goes on and each sponsored member whose bit is 1 is marked, this node included": the marks with the first j of the members that s sponsors.
 unfoldable pub confirmed : ℕ → ℕ → ℕ → Node → ℕ
@@ -47,13 +47,44 @@ confirmed (suc j) s bits v =
     let marks = confirmed j s bits v in
     cond (has bits (suc j)) (with marks (memberIn (sponsoredIn s (suc j) v))) marks
 
--- "If its message is heard", so; bits past ks are "ignored when heard" ("The message"). "If not heard, its mark goes off."
+-- Does a bit say so: 1 yes, 0 no?
+abbrev pub saysSo : Bool → Bool → Bool
+saysSo true bit = bit
+saysSo false bit = not bit
+
+-- Is one of the first j acknowledgements in a message of s for this node's own message, and does it say so?
+unfoldable pub says : Bool → ℕ → ℕ → ℕ → Node → Bool
+says answer zero s bits v = false
+says answer (suc j) s bits v = says answer j s bits v || (isFound (v .own) (sponsoredIn s (suc j) v) && saysSo answer (has bits (suc j)))
+
+-- "A heard no for the own message", and a yes for it: bits past ks are "ignored when heard" ("The message").
+abbrev pub hearsNo : ℕ → ℕ → Node → Bool
+hearsNo s bits v = says false (sponsorsIn v) s bits v
+
+abbrev pub hearsYes : ℕ → ℕ → Node → Bool
+hearsYes s bits v = says true (sponsorsIn v) s bits v
+
+-- "A heard no for the own message puts it off, unless a yes has been heard since that slot; a yes puts it on and keeps it on" (e).
+unfoldable pub heardMarks : ℕ → ℕ → Node → ℕ
+heardMarks s bits v =
+    let marks = confirmed (sponsorsIn v) s bits v in
+    cond (hearsNo s bits v && not (v .«yes_heard»)) (without marks (v .own)) marks
+
+-- "If its message is heard", so. "If not heard, its mark goes off."
 abbrev pub readMarks : ℕ → Reading → Node → ℕ
-readMarks s (reading.Heard bits returnBit) v = confirmed (sponsorsIn v) s bits v
+readMarks s (reading.Heard bits returnBit) v = heardMarks s bits v
 readMarks s (reading.Refused r) v = without (v .present) s
 
 abbrev pub marksAfter : ℕ → Reading → Node → ℕ
 marksAfter s heard v = cond (isOwn s v) (ownMarks v) (readMarks s heard v)
+
+-- "One more mark for "yes heard", cleared .. in the own slot" (e).
+abbrev pub readYes : ℕ → Reading → Node → Bool
+readYes s (reading.Heard bits returnBit) v = v .«yes_heard» || hearsYes s bits v
+readYes s (reading.Refused r) v = v .«yes_heard»
+
+abbrev pub yesAfter : ℕ → Reading → Node → Bool
+yesAfter s heard v = not (isOwn s v) && readYes s heard v
 
 -- "A return bit of 1 heard while returning is 0 means leaving with cause 3"
 abbrev pub missedReturn : ℕ → Reading → Node → Bool
@@ -64,7 +95,7 @@ abbrev pub returnHeard : ℕ → Reading → Node → Bool
 returnHeard s heard v = v .«return_heard» || (isKnocking (v .state) && hearsReturn s heard v)
 
 abbrev pub marked : ℕ → Reading → Node → Node
-marked s heard v = withMarks (marksAfter s heard v) (returnHeard s heard v) v
+marked s heard v = withMarks (marksAfter s heard v) (yesAfter s heard v) (returnHeard s heard v) v
 
 -- ---- step 2: "The sender is outside the set."
 
@@ -115,9 +146,9 @@ stateOnList Following = Following
 stateOnList Knocking = Member
 stateOnList (Out cause) = Out cause
 
--- The record with a state, a set and marks, returning 0.
+-- The record with a state, a set and marks, returning 0. (A node that joins has heard no yes: it was no member.)
 abbrev pub settledAs : State → ℕ → ℕ → Node → Node
-settledAs state set marks v = record { cable = v .cable; own = v .own; slots = v .slots; state = state; set = set; present = marks; returning = 0; «return_heard» = false; listening = v .listening }
+settledAs state set marks v = record { cable = v .cable; own = v .own; slots = v .slots; state = state; set = set; present = marks; returning = 0; «return_heard» = false; «yes_heard» = v .«yes_heard»; listening = v .listening }
 
 -- "that node joins, marked, and returning becomes 0"
 abbrev pub joined : Node → Node

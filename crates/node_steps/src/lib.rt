@@ -15,22 +15,29 @@ ghost use lib.Dec.{eqb};
 ghost use Rattle.nodeset.specs.Sets.{has, with};
 ghost use Rattle.ring.specs.Ring.{memberIn, isFound};
 ghost use Rattle.node_steps.specs.Steps.{tooFew, nothingHeard, joins, stateOnList, joined, join, settle};
-ghost use Rattle.node_steps.specs.Digests.{bitsHeard, marksSet, digestOf, marksBy, decidedBy, effectOf, markedBy, notedBy, takenBy, decidedWhere, isStruck, setAfter, trackingBy};
+ghost use Rattle.node_steps.specs.Digests.{bitsHeard, saidOf, digestOf, saidBy, marksBy, decidedBy, heardEffect, unheardMarks, unheardEffect, effectOf, markedBy, notedBy, takenBy, decidedWhere, isStruck, setAfter, trackingBy};
 
-// What a slot means to all who hold one set: that set; the marks that the message sets, the sender's
-// and those of the members that it acknowledges; and the member that the sender decides, 0 for
-// nobody. It is worked out once for all of them.
+// What a message says: a yes for its sender and for the members that it acknowledges, a no for the
+// other members that its sender sponsors.
+pub struct Said {
+    pub yes: u32,
+    pub no: u32,
+}
+
+// What a slot means to all who hold one set: that set; what the message says; and the member that the
+// sender decides, 0 for nobody. It is worked out once for all of them.
 pub struct Digest {
     pub set: u32,
-    pub marks: u32,
+    pub said: Said,
     pub decided: u32,
 }
 
-// What the slot's message does to a record: whether it is heard, the marks after it, and whether a
-// return bit of 1 is heard.
+// What the slot's message does to a record: whether it is heard, the marks after it, whether a yes was
+// heard since the own slot, and whether a return bit of 1 is heard.
 struct Effect {
     heard: bool,
     marks: u32,
+    yes: bool,
     returned: bool,
 }
 
@@ -49,31 +56,34 @@ fn bits_heard(heard: Reading) -> u32
     }
 }
 
-// The marks with that of node x, the j-th sponsored member, if its bit is 1.
-fn confirm(j: u32, marks: u32, bits: u32, x: u32) -> u32
-    ensures { λ r. ⌜ r ≡ cond (has bits j) (with marks x) marks ⌝ }
+// The nodes, with node x if so.
+fn with_if(so: bool, nodes: u32, x: u32) -> u32
+    ensures { λ r. ⌜ r ≡ cond so (with nodes x) nodes ⌝ }
 {
-    if nodeset::has(bits, j) {
-        return nodeset::with(marks, x);
+    if so {
+        return nodeset::with(nodes, x);
     }
-    marks
+    nodes
 }
 
-// The marks that a message sets: its sender's, and those of the members that it acknowledges, which
-// one walk back takes one after the other.
-fn marks_set(s: u32, bits: u32, cable: Cable, set: u32) -> u32
-    ensures { λ r. ⌜ r ≡ marksSet s bits cable set ⌝ }
+// What a message says of its sender and of the members that it sponsors, which one walk back takes one
+// after the other.
+fn said_of(s: u32, bits: u32, cable: Cable, set: u32) -> Said
+    ensures { λ r. ⌜ r ≡ saidOf s bits cable set ⌝ }
 {
     let most = ring::sponsors(cable, set);
     let mut place = ring::start_at(cable.n, s);
-    let mut marks = nodeset::with(0, s);
+    let mut yes = nodeset::with(0, s);
+    let mut no = 0;
     let mut j = 0;
     while j < most {
         j += 1;
         place = ring::nearest(cable.n, set, place);
-        marks = confirm(j, marks, bits, place.node);
+        let bit = nodeset::has(bits, j);
+        yes = with_if(bit, yes, place.node);
+        no = with_if(!bit, no, place.node);
     }
-    marks
+    Said { yes, no }
 }
 
 // The member found; 0 where there is none.
@@ -90,13 +100,9 @@ fn member_in(found: Found) -> u32
 pub fn digest_of(s: u32, heard: Reading, cable: Cable, set: u32) -> Digest
     ensures { λ r. ⌜ r ≡ digestOf s heard cable set ⌝ }
 {
-    let marks = marks_set(s, bits_heard(heard), cable, set);
+    let said = said_of(s, bits_heard(heard), cable, set);
     let decided = member_in(ring::decided_member(cable, set, s));
-    Digest {
-        set,
-        marks,
-        decided,
-    }
+    Digest { set, said, decided }
 }
 
 // Whether the digest is that of the node's set.
@@ -106,15 +112,15 @@ fn is_for(digest: Digest, v: Node) -> bool
     digest.set == v.set
 }
 
-// The marks that the message sets, by the digest, if it is that of the node's set.
-fn marks_by(digest: Digest, s: u32, bits: u32, v: Node) -> u32
-    ensures { λ r. ⌜ r ≡ marksBy digest s bits v ⌝ }
+// What the message says, by the digest, if it is that of the node's set.
+fn said_by(digest: Digest, s: u32, bits: u32, v: Node) -> Said
+    ensures { λ r. ⌜ r ≡ saidBy digest s bits v ⌝ }
 {
     if is_for(digest, v) {
-        return digest.marks;
+        return digest.said;
     }
     let cable = v.cable;
-    marks_set(s, bits, cable, v.set)
+    said_of(s, bits, cable, v.set)
 }
 
 // The member that the sender decides, by the digest, if it is that of the node's set.
@@ -130,7 +136,55 @@ fn decided_by(digest: Digest, s: u32, v: Node) -> u32
 
 // ---- Steps 1 and 2
 
-// What the message does. An unreadable message counts as not heard: the sender's mark goes off.
+// The marks after a heard message that says this: a no for the own message takes the own mark, unless
+// a yes was heard before it.
+fn marks_by(said: Said, v: Node) -> u32
+    ensures { λ r. ⌜ r ≡ marksBy said v ⌝ }
+{
+    let marks = nodeset::union(v.present, said.yes);
+    if nodeset::has(said.no, v.own) & !v.yes_heard {
+        return nodeset::without(marks, v.own);
+    }
+    marks
+}
+
+// What a heard message does.
+fn heard_effect(said: Said, returned: bool, v: Node) -> Effect
+    ensures { λ r. ⌜ r ≡ heardEffect said returned v ⌝ }
+{
+    let yes = nodeset::has(said.yes, v.own);
+    Effect {
+        heard: true,
+        marks: marks_by(said, v),
+        yes: v.yes_heard | yes,
+        returned,
+    }
+}
+
+// The marks after the own slot: the own one goes on. And after one that is not heard: the sender's
+// goes off.
+fn unheard_marks(s: u32, v: Node) -> u32
+    ensures { λ r. ⌜ r ≡ unheardMarks s v ⌝ }
+{
+    if s == v.own {
+        return nodeset::with(v.present, v.own);
+    }
+    nodeset::without(v.present, s)
+}
+
+// What a slot does of which nothing is heard, the own one, too.
+fn unheard_effect(s: u32, v: Node) -> Effect
+    ensures { λ r. ⌜ r ≡ unheardEffect s v ⌝ }
+{
+    Effect {
+        heard: false,
+        marks: unheard_marks(s, v),
+        yes: (s != v.own) & v.yes_heard,
+        returned: false,
+    }
+}
+
+// What the message does. An unreadable message counts as not heard.
 fn effect_of(digest: Digest, s: u32, heard: Reading, v: Node) -> Effect
     ensures { λ r. ⌜ r ≡ effectOf digest s heard v ⌝ }
 {
@@ -139,18 +193,9 @@ fn effect_of(digest: Digest, s: u32, heard: Reading, v: Node) -> Effect
         return_bit,
     } = heard
     else {
-        return Effect {
-            heard: false,
-            marks: nodeset::without(v.present, s),
-            returned: false,
-        };
+        return unheard_effect(s, v);
     };
-    let set = marks_by(digest, s, acknowledgements, v);
-    Effect {
-        heard: true,
-        marks: nodeset::union(v.present, set),
-        returned: return_bit,
-    }
+    heard_effect(said_by(digest, s, acknowledgements, v), return_bit, v)
 }
 
 // Step 1: the marks, and whether a return bit was heard while knocking.
@@ -159,7 +204,7 @@ fn marked(effect: Effect, v: Node) -> Node
 {
     let state = v.state;
     let heard = v.return_heard | (is_knocking(state) & effect.returned);
-    node_changes::with_marks(effect.marks, heard, v)
+    node_changes::with_marks(effect.marks, effect.yes, heard, v)
 }
 
 // Step 2: a knock is noted, or this node knocks.
@@ -285,6 +330,7 @@ fn joined(v: Node) -> Node
         present,
         returning: 0,
         return_heard: false,
+        yes_heard: v.yes_heard,
         listening: window,
     }
 }

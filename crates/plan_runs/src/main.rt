@@ -60,7 +60,7 @@ fn with_room(length: u8) -> u8 {
 fn body(letter: u8, byte: u8) -> u8 {
     match letter {
         b'P' => 12,
-        b'L' => 51,
+        b'L' => bytes::RECORD,
         b'T' => 121,
         b'F' | b'A' => with_room(byte),
         b'E' => 4,

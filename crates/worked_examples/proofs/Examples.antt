@@ -7,7 +7,7 @@ use Rattle.bench.proofs.Computed.{computed}
 use Rattle.plan_program.proofs.Computed.{printing}
 use Rattle.worked_examples.specs.Rows.{AllHold}
 use Rattle.worked_examples.specs.Examples.{examples}
-use Rattle.worked_examples.specs.Requests.{fixedOrder}
+use Rattle.worked_examples.specs.Requests.{fixedOrder, feederCut, ownMarks}
 
 infixr 1 _and_
 _and_ : {A B : Type 0} → A → B → A × B
@@ -28,8 +28,13 @@ worked-examples a b c d =
     and refl and refl and refl and refl  -- nodes 1 and 2 off
     and tt
 
-pub request-examples : (a b c d : Node) → AllHold (fixedOrder (a ∷ b ∷ c ∷ d ∷ []))
-unfolding fixedOrder computed
-request-examples a b c d =
-    refl and refl  -- c
-    and tt
+pub request-examples : (a b c d e f : Node)
+    → AllHold (fixedOrder (a ∷ b ∷ c ∷ d ∷ []))
+    × AllHold (feederCut (a ∷ b ∷ c ∷ d ∷ e ∷ f ∷ []))
+    × AllHold (ownMarks (a ∷ b ∷ c ∷ d ∷ []))
+unfolding fixedOrder feederCut ownMarks computed
+request-examples a b c d e f = (
+  refl and refl and tt,
+  refl and refl and refl and refl and refl and refl and refl and refl and tt,
+  refl and refl and refl and refl and tt,
+)

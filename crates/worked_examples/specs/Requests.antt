@@ -1,13 +1,14 @@
 -- Examples of document 02's requests, under its sentences.
 use Prim.Native.Nat.{ℕ}
-use mathlib.Core.Bool.{false}
+use mathlib.Core.Bool.{Bool, true, false}
 use mathlib.Core.List.{List, [], _∷_, _++_}
 use lib.ListN.{replicate}
-use Rattle.bench.specs.Table.{Table}
+use Rattle.nodeset.specs.Sets.{has}
+use Rattle.bench.specs.Table.{Table, recordOf}
 use Rattle.bench.specs.Calls.{slotOf}
 use Rattle.bench.specs.Pairs.{slotBytes}
-use Rattle.bench.specs.Runs.{Call, restart}
-use Rattle.worked_examples.specs.Rows.{Row, _gives_, these, holds, out, tellings, ok, lost, after}
+use Rattle.bench.specs.Runs.{Call, off, restart}
+use Rattle.worked_examples.specs.Rows.{Row, _gives_, these, Told, holds, out, tellings, ok, lost, miss, after}
 
 -- ---- c: changes in a fixed order
 
@@ -24,4 +25,51 @@ unfoldable pub fixedOrder : Table → List Row
 fixedOrder lent =
     (bytesAfter (after 4 2 lent joinsAsOneLeaves) gives 3 ∷ 1 ∷ 2 ∷ 4 ∷ replicate 60 0xAA)
     ∷ (tellings (after 4 2 lent (joinsAsOneLeaves ++ ok ∷ [])) gives holds (these (1 ∷ 2 ∷ 4 ∷ [])) ∷ holds (these (1 ∷ 2 ∷ 4 ∷ [])) ∷ out 1 ∷ holds (these (1 ∷ 2 ∷ 4 ∷ [])) ∷ [])
+    ∷ []
+
+-- ---- e: a feeder cut takes no healthy controller along
+
+-- "A cut feeder silenced 2, 3, 5 and 6 of six controllers, k = 2. Node 1 was sound and heard by node 4", and stays: 2 leaves at slot 4, 3 at slot 5, 5 at slot 7, 6 at slot 10.
+abbrev pub cutFeeder : ℕ → List Call
+cutFeeder slots = off 2 ∷ off 3 ∷ off 5 ∷ off 6 ∷ replicate slots ok
+
+-- What nodes 1 and 4 hold, the others being switched off.
+abbrev pub onlyTwo : List ℕ → List Told
+onlyTwo nodes = let both = holds (these nodes) in both ∷ out 4 ∷ out 4 ∷ both ∷ out 4 ∷ out 4 ∷ []
+
+-- Over any table of six records that was lent to set-up.
+unfoldable pub feederCut : Table → List Row
+feederCut lent =
+    (tellings (after 6 2 lent (cutFeeder 3)) gives onlyTwo (1 ∷ 2 ∷ 3 ∷ 4 ∷ 5 ∷ 6 ∷ []))
+    ∷ (tellings (after 6 2 lent (cutFeeder 4)) gives onlyTwo (1 ∷ 3 ∷ 4 ∷ 5 ∷ 6 ∷ []))
+    ∷ (tellings (after 6 2 lent (cutFeeder 5)) gives onlyTwo (1 ∷ 4 ∷ 5 ∷ 6 ∷ []))
+    ∷ (tellings (after 6 2 lent (cutFeeder 6)) gives onlyTwo (1 ∷ 4 ∷ 5 ∷ 6 ∷ []))
+    ∷ (tellings (after 6 2 lent (cutFeeder 7)) gives onlyTwo (1 ∷ 4 ∷ 6 ∷ []))
+    ∷ (tellings (after 6 2 lent (cutFeeder 9)) gives onlyTwo (1 ∷ 4 ∷ 6 ∷ []))
+    ∷ (tellings (after 6 2 lent (cutFeeder 10)) gives onlyTwo (1 ∷ 4 ∷ []))
+    ∷ (tellings (after 6 2 lent (cutFeeder 16)) gives onlyTwo (1 ∷ 4 ∷ []))
+    ∷ []
+
+-- Node i's own mark, and whether it has heard a yes.
+abbrev pub ownMark : Table → ℕ → Bool × Bool
+ownMark t i = (has (recordOf t i .present) i, recordOf t i .«yes_heard»)
+
+-- n = 4, k = 3: node 3 misses the messages of slots 1 and 2 and says no to both in slot 3. Node 1 has heard a yes of node 2, node 2 has not yet heard one.
+abbrev pub noAfterYes : List Call
+noAfterYes = miss (3 ∷ []) ∷ miss (3 ∷ []) ∷ ok ∷ []
+
+-- n = 4, k = 3: node 2, which would speak of node 1 first, is off.
+abbrev pub silentSponsor : List Call
+silentSponsor = off 2 ∷ ok ∷ ok ∷ []
+
+-- Over any table of four records that was lent to set-up.
+unfoldable pub ownMarks : Table → List Row
+ownMarks lent =
+    -- "The own slot sets the own mark on"; yes heard is "cleared .. in the own slot".
+    (ownMark (after 4 3 lent (ok ∷ [])) 1 gives (true, false))
+    -- "A heard no for the own message puts it off, unless a yes has been heard since that slot; a yes puts it on and keeps it on."
+    ∷ (ownMark (after 4 3 lent noAfterYes) 1 gives (true, true))
+    ∷ (ownMark (after 4 3 lent noAfterYes) 2 gives (false, false))
+    -- A silent sponsor says no "no".
+    ∷ (ownMark (after 4 3 lent silentSponsor) 1 gives (true, false))
     ∷ []

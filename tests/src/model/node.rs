@@ -1,6 +1,6 @@
 //! Document 01, "The node record", "One slot, for a member, following or knocking node" and
-//! "Listening". Every call takes a record and gives the next one, or the number of the refusal: a
-//! refused record stays as it was.
+//! "Listening", with the own mark of document 02, request e. Every call takes a record and gives the next
+//! one, or the number of the refusal: a refused record stays as it was.
 
 use super::ring::{self, Set};
 use super::{message, refusal};
@@ -47,6 +47,8 @@ pub struct Node {
     pub returning: u32,
     pub return_heard: bool,
     pub listening: ListeningData,
+    /// Request e: "one more mark for "yes heard""
+    pub yes_heard: bool,
 }
 
 /// A clause of the soundness sentence and whether a record keeps it.
@@ -55,8 +57,8 @@ pub struct Clause {
     pub kept: fn(&Node) -> bool,
 }
 
-/// "A record is sound if ..": its clauses in the document's order, and what "The node record" and
-/// "Listening" say of the values.
+/// "A record is sound if ..": its clauses in the document's order, what "The node record" and "Listening"
+/// say of the values, and request e's clause.
 #[rustfmt::skip]
 pub const CLAUSES: &[Clause] = &[
     Clause { says: "n in range", kept: |r| ring::is_size(r.n) },
@@ -84,6 +86,7 @@ pub const CLAUSES: &[Clause] = &[
     Clause { says: "last clean window none, or two or more", kept: |r| !r.listens() || r.listening.last.count() != 1 },
     Clause { says: "listening data zero or no in every other state", kept: |r| r.listens() || r.listening == ListeningData::default() },
     Clause { says: "following and knocking need two members", kept: |r| !r.returns() || r.set.count() >= 2 },
+    Clause { says: "yes heard only in the member state", kept: |r| !r.yes_heard || r.state == State::Member },
 ];
 
 /// A node must leave: with a cause, or because too few members remain.
@@ -96,7 +99,7 @@ pub enum Leaving {
 pub type Said = (u32, bool);
 
 impl Node {
-    /// "All start as members, set full, all marks on, returning 0."
+    /// "All start as members, set full, all marks on, returning 0."; yes heard is "cleared at set-up".
     pub fn set_up(n: u32, k: u32, own: u32) -> Result<Node, u32> {
         ring::check(n, Some(k), own)?;
         Ok(Node {
@@ -110,6 +113,7 @@ impl Node {
             returning: 0,
             return_heard: false,
             listening: ListeningData::default(),
+            yes_heard: false,
         })
     }
 
@@ -160,6 +164,7 @@ impl Node {
             returning: 0,
             return_heard: false,
             listening: ListeningData::default(),
+            yes_heard: false,
             ..*self
         }
     }
@@ -259,8 +264,14 @@ impl Node {
         Ok(())
     }
 
-    /// "The sender is in the set." In its own slot the node hears nothing, so its own mark goes off.
+    /// "The sender is in the set." Request e: "the own slot sets the own mark on, in place of off", and yes
+    /// heard is cleared in it.
     pub fn step_1(&mut self, sender: u32, heard: Option<Said>) -> Result<(), Leaving> {
+        if sender == self.own {
+            self.marks = self.marks.with(sender);
+            self.yes_heard = false;
+            return Ok(());
+        }
         let Some((acks, return_bit)) = heard else {
             self.marks = self.marks.without(sender);
             return Ok(());
@@ -268,7 +279,10 @@ impl Node {
         self.marks = self.marks.with(sender);
         // "ignored when heard": bits past ks concern nobody.
         for (bit, met) in ring::sponsored(self.n, self.k, self.set, sender).enumerate() {
-            if acks >> bit & 1 == 1 {
+            let yes = acks >> bit & 1 == 1;
+            if met.member == self.own {
+                self.answered(yes);
+            } else if yes {
                 self.marks = self.marks.with(met.member);
             }
         }
@@ -279,6 +293,17 @@ impl Node {
             self.return_heard = true;
         }
         Ok(())
+    }
+
+    /// "A heard no for the own message puts it off, unless a yes has been heard since that slot; a yes puts it
+    /// on and keeps it on." Only members are in their own set.
+    fn answered(&mut self, yes: bool) {
+        if yes {
+            self.marks = self.marks.with(self.own);
+            self.yes_heard = true;
+        } else if !self.yes_heard {
+            self.marks = self.marks.without(self.own);
+        }
     }
 
     /// "The sender is outside the set."

@@ -27,6 +27,9 @@ empty-sound-requires c κs = search needs
 heard-sound-requires : tie.Need-heard-sound-requires
 heard-sound-requires c κs = search needs
 
+yes-sound-requires : tie.Need-yes-sound-requires
+yes-sound-requires c κs = search needs
+
 window-sound-requires : tie.Need-window-sound-requires
 window-sound-requires c κs = search needs
 
@@ -36,15 +39,16 @@ enough-sound-requires c κs = search needs
 returns : tie.Need-returns
 unfolding sound
 returns c =
-    ap₂ _&&_ (c .before .before .before .before .before .before .before .before .numbers-sound .ensures)
-    (ap₂ _&&_ (c .before .before .before .before .before .before .before .sets-sound .ensures)
-    (ap₂ _&&_ (c .before .before .before .before .before .before .returning-sound .ensures)
-    (ap₂ _&&_ (c .before .before .before .before .before .own-sound .ensures)
-    (ap₂ _&&_ (c .before .before .before .before .knock-sound .ensures)
-    (ap₂ _&&_ (c .before .before .before .empty-sound .ensures)
-    (ap₂ _&&_ (c .before .before .heard-sound .ensures)
+    ap₂ _&&_ (c .before .before .before .before .before .before .before .before .before .numbers-sound .ensures)
+    (ap₂ _&&_ (c .before .before .before .before .before .before .before .before .sets-sound .ensures)
+    (ap₂ _&&_ (c .before .before .before .before .before .before .before .returning-sound .ensures)
+    (ap₂ _&&_ (c .before .before .before .before .before .before .own-sound .ensures)
+    (ap₂ _&&_ (c .before .before .before .before .before .knock-sound .ensures)
+    (ap₂ _&&_ (c .before .before .before .before .empty-sound .ensures)
+    (ap₂ _&&_ (c .before .before .before .heard-sound .ensures)
+    (ap₂ _&&_ (c .before .before .yes-sound .ensures)
     (ap₂ _&&_ (c .before .window-sound .ensures)
-    (c .enough-sound .ensures))))))))
+    (c .enough-sound .ensures)))))))))
 
 pub is-sound-spec : {M : Type 1} → statement M
 is-sound-spec =
@@ -57,6 +61,7 @@ is-sound-spec =
     knock-sound-requires
     empty-sound-requires
     heard-sound-requires
+    yes-sound-requires
     window-sound-requires
     enough-sound-requires
     returns)

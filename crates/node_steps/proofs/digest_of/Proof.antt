@@ -3,15 +3,16 @@ use Prim.Native.Nat.{ℕ}
 use mathlib.Core.Path.{ap, ap₂, _∙_}
 use borrow.Author.Needs.{needs}
 use Rattle.ring.specs.Ring.{memberIn}
-use Rattle.node_steps.specs.Digests.{marksSet, digestOf}
+use Rattle.node_steps.specs.declared.Said.{Said}
+use Rattle.node_steps.specs.Digests.{saidOf, digestOf}
 use Rattle.node_steps.proofs.digest_of.Statement.{statement}
 use Rattle.node_steps.proofs.digest_of.Tie as tie
 
 bits-heard-requires : tie.Need-bits-heard-requires
 bits-heard-requires c κs = search needs
 
-marks-set-requires : tie.Need-marks-set-requires
-marks-set-requires c κs = search needs
+said-of-requires : tie.Need-said-of-requires
+said-of-requires c κs = search needs
 
 decided-member-requires : tie.Need-decided-member-requires
 decided-member-requires c κs = search needs
@@ -23,16 +24,16 @@ returns : tie.Need-returns
 unfolding digestOf
 returns c =
     let a = c .before .before .before .before .args in
-    let marks = c .before .before .marks-set .ensures ∙ ap (λ (b : ℕ). marksSet (a .s) b (a .cable) (a .set)) (c .before .before .before .bits-heard .ensures) in
+    let said = c .before .before .said-of .ensures ∙ ap (λ (b : ℕ). saidOf (a .s) b (a .cable) (a .set)) (c .before .before .before .bits-heard .ensures) in
     let m = c .member-in .ensures ∙ ap memberIn (c .before .decided-member .ensures) in
-    ap₂ (λ (x y : ℕ). record { set = a .set; marks = x; decided = y }) marks m
+    ap₂ (λ (x : Said) (y : ℕ). record { set = a .set; said = x; decided = y }) said m
 
 pub digest-of-spec : {M : Type 1} → statement M
 digest-of-spec =
     tie.close
     (tie.spec
     bits-heard-requires
-    marks-set-requires
+    said-of-requires
     decided-member-requires
     member-in-requires
     returns)

@@ -17,7 +17,7 @@ returns c =
     let k = c .before .before .before in
     let a = k .before .args in
     c .with-marks .ensures
-    ∙ ap (λ (b : Bool). withMarks (a .effect .marks) (a .v .«return_heard» || (b && a .effect .returned)) (a .v)) (k .is-knocking .ensures)
+    ∙ ap (λ (b : Bool). withMarks (a .effect .marks) (a .effect .yes) (a .v .«return_heard» || (b && a .effect .returned)) (a .v)) (k .is-knocking .ensures)
 
 pub marked-spec : {M : Type 1} → statement M
 marked-spec = tie.close (tie.spec is-knocking-requires with-marks-requires returns)

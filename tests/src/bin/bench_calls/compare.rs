@@ -32,6 +32,10 @@ pub const LOWER: [&str; 5] = [
     "both groups: a lower node to listening",
 ];
 
+/// A member after a slot: its own mark, and whether it has heard a yes since its own slot.
+pub const OWN_MARKS: [&str; 3] =
+    ["members: own mark on, no yes heard", "members: own mark on, yes heard", "members: own mark off"];
+
 /// Runs the program on the commands and compares every answer: what the call tells, each byte of the buffer,
 /// each of the rows, those after the table too, and each of the entries, those after the ledger too. Notes what
 /// is expected.
@@ -54,6 +58,9 @@ fn answers(count: &mut Count, commands: &[Command], output: &mut dyn Read) -> Re
         };
         let at = || format!("command {}: {}", i + 1, shown_command(command));
         note(count, command, &told, &expected);
+        if let (Command::Call(Call::Slot { .. }, _), 0) = (command, told.number) {
+            note_own_marks(count, held.table());
+        }
         off.filter(|_| told.number == 0).into_iter().for_each(|name| count.event(name));
         child::read_answer(output, expected.len(), &mut got)
             .map_err(|why| format!("{}: the answer cannot be read: {why}", at()))?;
@@ -100,6 +107,16 @@ fn note_pairs(count: &mut Count, bytes: &[u8]) {
         if pairs().any(|pair| pair.1 == kind && pair.0 < highest) {
             count.event(name);
         }
+    }
+}
+
+fn note_own_marks(count: &mut Count, table: &[Node]) {
+    for node in table.iter().filter(|node| node.state == State::Member) {
+        count.event(match (node.marks.has(node.own), node.yes_heard) {
+            (true, false) => OWN_MARKS[0],
+            (true, true) => OWN_MARKS[1],
+            (false, _) => OWN_MARKS[2],
+        });
     }
 }
 

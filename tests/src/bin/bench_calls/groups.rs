@@ -57,7 +57,8 @@ fn record(random: &mut Random, node: &Node, sender: u32, role: Role) -> Node {
         // No other member is marked.
         Some(Kind::Left) => {
             let set = random.some_of(Set::full(node.n)).with(node.own);
-            Node { state: State::Member, set, marks: random.some_of(Set::EMPTY.with(node.own)), ..blank }
+            let (marks, yes_heard) = (random.some_of(Set::EMPTY.with(node.own)), random.bit());
+            Node { state: State::Member, set, marks, yes_heard, ..blank }
         }
         Some(Kind::Follows) => Node { state: State::Listening, listening: window, ..blank },
         Some(Kind::Knocked) => Node { state: State::Following, ..returns },

@@ -27,6 +27,11 @@ const CASES: &[Case] = &[
         run: vectors::groups,
     },
     Case {
+        name: "vectors: lists of request e's example, model and program",
+        meets: &[0],
+        run: vectors::feeder_cut,
+    },
+    Case {
         name: "vectors: figures of leavings, joinings and offs by request a, model and program",
         meets: &[0],
         run: vectors::figures,

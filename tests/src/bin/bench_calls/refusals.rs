@@ -8,7 +8,7 @@ use super::tables::sound_table;
 use comparison::model::node::{Node, State};
 use comparison::model::ring::LIMIT;
 use comparison::random::Random;
-use comparison::records::sound_of;
+use comparison::records::{sound_of, spoil};
 use comparison::report::Count;
 
 /// Every number of rows, for every n and k that could be one and a few that could not. Any ledger is lent.
@@ -77,7 +77,8 @@ fn table(random: &mut Random, (n, k, x): (u32, u32, u32), unsound: bool, at_limi
         table[x as usize - 1] = sound_of(random, State::Member, (n, k, x), slots);
     }
     if unsound {
-        table[random.below(u64::from(n)) as usize].listening.done = n;
+        let row = random.below(u64::from(n)) as usize;
+        spoil(random, &mut table[row]);
     }
     table
 }

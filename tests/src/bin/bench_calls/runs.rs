@@ -1,7 +1,7 @@
 //! Runs from set-up and a ledger of zeros on, with losses, misses, offs and restarts, and refused calls and
 //! looks in between.
 
-use super::compare::{compare, BOTH, LOWER, OFFS};
+use super::compare::{compare, BOTH, LOWER, OFFS, OWN_MARKS};
 use super::protocol::{Call, Command, ROWS};
 use super::script::{any_record, no_node, one_not_out, Script, SHORT};
 use comparison::adversary::Adversary;
@@ -111,6 +111,7 @@ fn compare_met(count: &mut Count, script: &Script) -> Result<(), String> {
     count.needs(TOLD)?;
     count.needs(&["told: sets that differ"])?;
     count.needs(&OFFS)?;
+    count.needs(&OWN_MARKS)?;
     count.needs(&[BOTH, LOWER[2], LOWER[4]])?;
     count.needs(&KINDS)
 }
@@ -153,5 +154,6 @@ pub fn lasting(count: &mut Count) -> Result<(), String> {
     }
     compare(count, &script.commands)?;
     count.needs(TOLD)?;
+    count.needs(&OWN_MARKS)?;
     count.needs(&KINDS[..5])
 }

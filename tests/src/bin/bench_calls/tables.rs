@@ -1,6 +1,6 @@
 //! Tables that are loaded as they stand: ones of any sound records, and ones that are no table.
 
-use super::compare::{compare, LOWER, OFFS};
+use super::compare::{compare, LOWER, OFFS, OWN_MARKS};
 use super::figures;
 use super::protocol::{Call, Command};
 use super::script::{Script, ENOUGH};
@@ -52,6 +52,7 @@ pub fn sound(count: &mut Count) -> Result<(), String> {
     count.needs(&KINDS)?;
     count.needs(&LOWER)?;
     count.needs(&OFFS)?;
+    count.needs(&OWN_MARKS)?;
     count.needs(&["told: no list", "told: a list", "told: sets that differ"])
 }
 

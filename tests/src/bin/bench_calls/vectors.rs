@@ -1,5 +1,5 @@
-//! Runs whose pairs are typed from document 01 and request c and whose figures are typed from request a; neither
-//! side makes an expected answer.
+//! Runs whose pairs are typed from document 01 and request c, whose figures are typed from request a and whose
+//! lists are typed from request e; neither side makes an expected answer.
 
 use super::compare::{compare, BOTH, LOWER, OFFS};
 use super::protocol::{buffer_of, Call, Command, Held, FILL};
@@ -52,8 +52,9 @@ const KNOCKS: Run = &[
 /// It hears nothing more: in slot 16 node 4 decides node 1, whose mark is off, and no mark is left.
 const DEAF: Run = &[(MISS, &[]), (OK, &[(2, 3)]), (MISS, &[]), (MISS, &[(2, 6)])];
 
-/// No message is heard. In slot 15 node 3 decides node 4, whose message of slot 12 nobody could confirm to it. In
-/// slot 16 node 4 decides node 1, which nobody heard; no mark of another is left to node 3, nor to node 2.
+/// No message is heard. In slot 15 node 3 decides node 4, whose own mark is on since slot 12, as it has heard no no;
+/// but now node 4 has neither 1 nor 3 marked, and leaves. In slot 16, which is silent, no mark of another is left to
+/// nodes 1, 2 and 3.
 const SILENCE: Run = &[(LOST, &[]), (LOST, &[(2, 3)]), (LOST, &[(4, 1)]), (LOST, &[(1, 1), (3, 1), (2, 6)])];
 
 /// n = 5, k = 2: node 2 leaves in slot 4 and follows after two windows of five slots.
@@ -148,6 +149,33 @@ pub fn groups(count: &mut Count) -> Result<(), String> {
         compare(count, &commands)?;
     }
     count.needs(&[BOTH, LOWER[0], LOWER[2], LOWER[3], LOWER[4]])
+}
+
+/// n = 6, k = 2; 2, 3, 5 and 6 are off before slot 1. The list after each slot: 2 leaves at slot 4, 3 at 5, 5 at 7
+/// and 6 at 10.
+#[rustfmt::skip]
+const FEEDER_CUT: [u32; 18] = [
+    0x3f, 0x3f, 0x3f, 0x3d, 0x39, 0x39,
+    0x29, 0x29, 0x29, 0x09, 0x09, 0x09,
+    0x09, 0x09, 0x09, 0x09, 0x09, 0x09,
+];
+
+/// Request e's example: nodes 1 and 4 stay, and no node's state changes in a slot.
+pub fn feeder_cut(count: &mut Count) -> Result<(), String> {
+    let mut random = Random::new(100);
+    let mut script = Script::new();
+    script.push(Command::Size(6));
+    script.lend(&mut random, &[Figures::default(); 6]);
+    script.call(&mut random, Call::SetUp { n: 6, k: 2 });
+    for x in [2, 3, 5, 6] {
+        script.call(&mut random, Call::Off(x));
+    }
+    for list in FEEDER_CUT {
+        let told = script.push(Command::Call(OK, 64)).expect("a call is answered");
+        let same = (told.number, told.pairs) == (0, 0) && (told.list, told.distance) == (Some(list), 0);
+        count.check(same, || format!("slot {}: list {list:08x}, and by the model {told:?}", told.slot))?;
+    }
+    compare(count, &script.commands)
 }
 
 /// A call that is made so many times, and node 2's figures after each: left, joined, slot of the last leaving.

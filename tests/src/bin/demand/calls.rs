@@ -45,6 +45,7 @@ fn bad_tables() -> Vec<Vec<Node>> {
         changed(|nodes| nodes[0] = table(5, 2)[0]),
         changed(|nodes| nodes[3].marks = Set(0x10)),
         changed(|nodes| nodes[0].state = State::Following),
+        changed(|nodes| nodes[1] = Node { yes_heard: true, ..nodes[1].off().expect("a sound record") }),
     ]
 }
 

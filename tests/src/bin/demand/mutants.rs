@@ -1,4 +1,5 @@
-//! Rules with one change each. Under the premises each of them must break demand 3.
+//! Rules with one change each. Under the premises each of them must break demand 3. A no that erases an earlier
+//! yes is none of them: the demand holds with it, and the vectors of single nodes rule it out.
 
 use comparison::model::bench::Rules;
 use comparison::model::node::{Cause, Leaving, Node, Said, State};
@@ -6,8 +7,14 @@ use comparison::model::ring::{self, Set};
 
 #[derive(Clone, Copy, PartialEq, Eq, Debug)]
 pub enum Mutant {
-    /// The own mark stays on in the own slot.
-    OwnMarkStays,
+    /// A no for the own message is ignored: the own mark never goes off.
+    NoIgnored,
+    /// Yes heard is not cleared in the own slot.
+    YesStays,
+    /// A yes for anybody counts as one for the own message.
+    AnyYes,
+    /// So does a sponsor that is not heard.
+    SilenceIsYes,
     /// A return bit of 1 heard while returning is 0 is ignored.
     NoCause3,
     /// The return bit is always sent as 0.
@@ -27,8 +34,11 @@ pub enum Mutant {
 use Mutant::*;
 
 /// All of them, with the names that the report shows.
-pub const ALL: [(Mutant, &str); 8] = [
-    (OwnMarkStays, "claim fails: the own mark stays on in the own slot"),
+pub const ALL: [(Mutant, &str); 11] = [
+    (NoIgnored, "claim fails: a no for the own message is ignored"),
+    (YesStays, "claim fails: yes heard is not cleared in the own slot"),
+    (AnyYes, "claim fails: a yes for anybody counts for the own message"),
+    (SilenceIsYes, "claim fails: an unheard sponsor counts as a yes for the own message"),
     (NoCause3, "claim fails: no leaving with cause 3"),
     (NoReturnBit, "claim fails: the return bit is never sent"),
     (JoinsUnheard, "claim fails: a knocking node joins unheard"),
@@ -51,7 +61,18 @@ impl Rules for Mutant {
     fn step(&self, node: &Node, heard: Option<Said>) -> Node {
         let mut node = *node;
         match (self, node.state) {
-            (OwnMarkStays, State::Member) => own_mark_stays(&node, heard),
+            (NoIgnored, State::Member) => {
+                node.yes_heard = true;
+                node.step(heard)
+            }
+            (YesStays, State::Member) => yes_stays(&node, heard),
+            (AnyYes | SilenceIsYes, State::Member) => {
+                if self.takes_for_yes(&node, heard) {
+                    node.yes_heard = true;
+                    node.marks = node.marks.with(node.own);
+                }
+                node.step(heard)
+            }
             (JoinsUnheard, State::Knocking) => {
                 node.return_heard = true;
                 node.step(heard)
@@ -76,11 +97,9 @@ fn next_sender(node: &Node) -> u32 {
     ring::sender(node.n, node.slots + 1)
 }
 
-fn own_mark_stays(node: &Node, heard: Option<Said>) -> Node {
+fn yes_stays(node: &Node, heard: Option<Said>) -> Node {
     let mut next = node.step(heard);
-    if next.state == State::Member && next_sender(node) == node.own {
-        next.marks = next.marks.with(node.own);
-    }
+    next.yes_heard |= node.yes_heard && next.state == State::Member;
     next
 }
 
@@ -94,14 +113,33 @@ fn acks_by_number(node: &Node) -> u32 {
     by_number(node, node.own).enumerate().fold(0, |acks, (bit, x)| acks | u32::from(node.marks.has(x)) << bit)
 }
 
-/// The same acknowledgements in the places that the rules give them.
+/// The same acknowledgements in the places that the rules give them; 0 for whom none is sent.
 fn acks_by_member(node: &Node, sender: u32, acks: u32) -> u32 {
     let said_yes = |x| by_number(node, sender).position(|y| y == x).is_some_and(|bit| acks >> bit & 1 == 1);
     let sponsored = ring::sponsored(node.n, node.k, node.set, sender);
     sponsored.enumerate().fold(0, |acks, (bit, met)| acks | u32::from(said_yes(met.member)) << bit)
 }
 
+/// No bit was sent for the own message: its mark is as before.
+fn unanswered(node: &mut Node, before: &Node) {
+    node.yes_heard = before.yes_heard;
+    if before.marks.has(node.own) {
+        node.marks = node.marks.with(node.own);
+    }
+}
+
 impl Mutant {
+    /// What is heard in the next slot, or not, counts as a yes for this member's own message.
+    fn takes_for_yes(self, node: &Node, heard: Option<Said>) -> bool {
+        let sender = next_sender(node);
+        let sponsors = |x| ring::sponsored(node.n, node.k, node.set, sender).any(|met| met.member == x);
+        node.set.has(sender)
+            && match heard {
+                None => self == SilenceIsYes && sponsors(node.own),
+                Some((acks, _)) => self == AnyYes && acks != 0,
+            }
+    }
+
     /// At the end of a window: the last one counts as clean and as equal.
     fn other_windows(self, node: &mut Node, heard: bool) {
         let data = &mut node.listening;
@@ -143,7 +181,13 @@ impl Mutant {
     fn step_1(self, node: &mut Node, sender: u32, heard: Option<Said>) -> Result<(), Leaving> {
         match heard {
             Some((acks, return_bit)) if self == SponsorsByNumber => {
-                node.step_1(sender, Some((acks_by_member(node, sender, acks), return_bit)))
+                let before = *node;
+                let heard = Some((acks_by_member(node, sender, acks), return_bit));
+                node.step_1(sender, heard)?;
+                if by_number(node, sender).all(|x| x != node.own) {
+                    unanswered(node, &before);
+                }
+                Ok(())
             }
             _ => node.step_1(sender, heard),
         }

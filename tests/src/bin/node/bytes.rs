@@ -10,10 +10,11 @@ use comparison::record_bytes::{record_bytes, RECORD};
 use comparison::records::{sound, STATES};
 use comparison::report::Count;
 
-/// The places of the state and of the two yes or no in a record's bytes.
+/// The places of the state and of the three yes or no in a record's bytes.
 const STATE: usize = 20;
 const RETURN_HEARD: usize = 33;
 const RETURN_SEEN: usize = 46;
+const YES_HEARD: usize = 51;
 
 const CALLS: &[&str] =
     &["refused: slot", "refused: sending", "refused: off", "refused: restart", "refused: set-up"];
@@ -24,7 +25,7 @@ fn rewritten(random: &mut Random, node: &Node) -> [u8; RECORD] {
     if node.state == State::Out(Cause::SwitchedOff) {
         bytes[STATE] = random.within(8, 255) as u8;
     }
-    for place in [RETURN_HEARD, RETURN_SEEN] {
+    for place in [RETURN_HEARD, RETURN_SEEN, YES_HEARD] {
         if bytes[place] == 0 {
             bytes[place] = random.within(2, 255) as u8;
         }
@@ -60,7 +61,7 @@ pub fn left_by_refusals(count: &mut Count) -> Result<(), String> {
     let mut random = Random::new(24);
     let mut script = Script::default();
     let mut few = [0; RECORD];
-    (few[STATE], few[RETURN_HEARD], few[RETURN_SEEN]) = (9, 5, 2);
+    (few[STATE], few[RETURN_HEARD], few[RETURN_SEEN], few[YES_HEARD]) = (9, 5, 2, 3);
     refused_calls(count, &mut script, few);
     for state in STATES {
         for i in 0..3 * 500 {

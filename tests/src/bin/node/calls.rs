@@ -9,7 +9,7 @@ use comparison::model::node::{Node, State};
 use comparison::model::ring::LIMIT;
 use comparison::numbers::small_and_large;
 use comparison::random::Random;
-use comparison::records::{sound, STATES};
+use comparison::records::{sound, spoil, STATES};
 use comparison::report::Count;
 
 /// All n, k and own numbers from 0 to 40 and large ones; calls on the record before the first set-up,
@@ -36,7 +36,7 @@ fn turn(node: &mut Node) {
 }
 
 /// Into rooms 0 to 12 and a large one. Then a restart, which most nodes refuse, shows that the record is
-/// as it was: in the slot that follows a send the own mark goes off anyway.
+/// as it was: the slot that follows a send sets the own mark and clears yes heard anyway.
 pub fn sending(count: &mut Count) -> Result<(), String> {
     let mut random = Random::new(31);
     let mut script = Script::default();
@@ -137,7 +137,7 @@ pub fn order(count: &mut Count) -> Result<(), String> {
             let (unsound, at_limit, own_turn) = (i & 1 == 1, i & 2 == 2, i & 4 == 4);
             let mut node = drawn(&mut random, state, at_limit, own_turn);
             if unsound {
-                node.listening.done = node.n;
+                spoil(&mut random, &mut node);
             }
             note_causes(count, &node, unsound, at_limit);
             every_call(&mut random, &mut script, &node);

@@ -17,6 +17,13 @@ pub const OF_CABLES: &[&str] = &[
     "member: drops another",
     "member: drops another, sender not heard",
     "member: drops one and sees one join in one slot",
+    "member: decided, neither yes nor no heard",
+    "own message: first yes",
+    "own message: yes after a no",
+    "own message: further yes",
+    "own message: first no",
+    "own message: further no",
+    "own message: no after a yes",
     "listening: first clean window",
     "listening: clean window with other nodes",
     "listening: unclean window",
@@ -89,6 +96,7 @@ pub fn slot(count: &mut Count, before: &Node, after: &Node, bytes: &[u8]) {
 
 impl Slot<'_> {
     fn of_member(&self, count: &mut Count) {
+        self.answer(count);
         match self.after.state {
             State::Out(Cause::Unconfirmed) => count.event("member: out, cause 1"),
             State::Out(Cause::NothingHeard) => count.event("member: out, cause 2"),
@@ -113,8 +121,35 @@ impl Slot<'_> {
                 if self.hears_knock() && self.before.returning != 0 {
                     count.event("member: hears a later knock");
                 }
+                if self.decides_unanswered() {
+                    count.event("member: decided, neither yes nor no heard");
+                }
             }
         }
+    }
+
+    /// What a heard message says to this member's own.
+    fn answer(&self, count: &mut Count) {
+        let Node { n, k, own, set, marks, yes_heard, .. } = *self.before;
+        let (Some((acks, _)), true) = (self.heard, set.has(self.sender)) else { return };
+        let Some(bit) = ring::sponsored(n, k, set, self.sender).position(|met| met.member == own) else {
+            return;
+        };
+        count.event(match (acks >> bit & 1 == 1, yes_heard, marks.has(own)) {
+            (true, true, _) => "own message: further yes",
+            (true, false, true) => "own message: first yes",
+            (true, false, false) => "own message: yes after a no",
+            (false, true, _) => "own message: no after a yes",
+            (false, false, true) => "own message: first no",
+            (false, false, false) => "own message: further no",
+        });
+    }
+
+    /// The sender decides this member, which stays only because its mark is on from its own slot.
+    fn decides_unanswered(&self) -> bool {
+        let Node { n, k, own, set, .. } = *self.before;
+        let decided = ring::decided(n, k, set, self.sender);
+        set.has(self.sender) && decided.is_some_and(|met| met.member == own) && !self.after.yes_heard
     }
 
     fn of_listening(&self, count: &mut Count) {

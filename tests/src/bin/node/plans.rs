@@ -1,5 +1,5 @@
-//! Whole cables with literal tables after them: the examples of document 01 that concern a cable, and
-//! runs that break a premise of the agreement each.
+//! Whole cables with literal tables after them: the examples of document 01 that concern a cable, request e's
+//! example, and runs that break a premise of the agreement each.
 
 use super::cable::{Cable, Fate};
 use super::compare::compare;
@@ -33,6 +33,11 @@ const MEMBER: State = State::Member;
 const UNCONFIRMED: State = State::Out(Cause::Unconfirmed);
 const OFF: State = State::Out(Cause::SwitchedOff);
 
+/// Request e's example: "A cut feeder silenced 2, 3, 5 and 6 of six controllers, k = 2." So many slots follow.
+const fn feeder_cut(slots: u32) -> [(u32, Line); 5] {
+    [(1, Off(2)), (1, Off(3)), (1, Off(5)), (1, Off(6)), (slots, Ok)]
+}
+
 #[rustfmt::skip]
 const PLANS: &[Plan] = &[
     Plan { what: "the listing", ring: (4, 2), lines: &[(1, Ok), (1, Lost), (2, Ok)], after: &[
@@ -55,6 +60,25 @@ const PLANS: &[Plan] = &[
     ] },
     Plan { what: "two off, slot 8", ring: (4, 3), lines: &[(1, Off(1)), (1, Off(2)), (8, Ok)], after: &[
         (1, OFF, &[]), (2, OFF, &[]), (3, MEMBER, &[3, 4]), (4, MEMBER, &[3, 4]),
+    ] },
+    // Nodes 1 and 4 hold the same set throughout: 2 leaves at slot 4, 3 at 5, 5 at 7, 6 at 10.
+    Plan { what: "feeder cut, slot 3", ring: (6, 2), lines: &feeder_cut(3), after: &[
+        (1, MEMBER, &[1, 2, 3, 4, 5, 6]), (4, MEMBER, &[1, 2, 3, 4, 5, 6]),
+    ] },
+    Plan { what: "feeder cut, slot 4", ring: (6, 2), lines: &feeder_cut(4), after: &[
+        (1, MEMBER, &[1, 3, 4, 5, 6]), (4, MEMBER, &[1, 3, 4, 5, 6]),
+    ] },
+    Plan { what: "feeder cut, slot 6", ring: (6, 2), lines: &feeder_cut(6), after: &[
+        (1, MEMBER, &[1, 4, 5, 6]), (4, MEMBER, &[1, 4, 5, 6]),
+    ] },
+    Plan { what: "feeder cut, slot 9", ring: (6, 2), lines: &feeder_cut(9), after: &[
+        (1, MEMBER, &[1, 4, 6]), (4, MEMBER, &[1, 4, 6]),
+    ] },
+    Plan { what: "feeder cut, slot 10", ring: (6, 2), lines: &feeder_cut(10), after: &[
+        (1, MEMBER, &[1, 4]), (2, OFF, &[]), (3, OFF, &[]), (4, MEMBER, &[1, 4]), (5, OFF, &[]), (6, OFF, &[]),
+    ] },
+    Plan { what: "feeder cut, slot 30", ring: (6, 2), lines: &feeder_cut(30), after: &[
+        (1, MEMBER, &[1, 4]), (4, MEMBER, &[1, 4]),
     ] },
     // Both sponsors of node 1 miss it.
     Plan { what: "k failures", ring: (4, 2), lines: &[(1, Miss(&[2, 3])), (2, Ok)], after: &[

@@ -101,7 +101,7 @@ pub fn next_command<'a>(script: &mut Reader<'a>) -> Option<Command<'a>> {
         b'T' => Command::Send { room: script.u8() },
         b'F' => Command::Off,
         b'R' => Command::Restart,
-        b'L' => Command::Load(script.take(RECORD).try_into().expect("51 bytes")),
+        b'L' => Command::Load(script.take(RECORD).try_into().expect("52 bytes")),
         other => panic!("{other:#04X} is no command"),
     })
 }

@@ -90,6 +90,27 @@ pub fn unsound_in_one_clause(count: &mut Count) -> Result<(), String> {
     compare(count, &script)
 }
 
+/// Yes heard, in each of the five states.
+const YES_HEARD: [&str; 5] = [
+    "yes heard: member",
+    "yes heard: listening",
+    "yes heard: following",
+    "yes heard: knocking",
+    "yes heard: out",
+];
+
+fn note_yes_heard(count: &mut Count, node: &Node) {
+    if node.yes_heard {
+        count.event(match node.state {
+            State::Member => YES_HEARD[0],
+            State::Listening => YES_HEARD[1],
+            State::Following => YES_HEARD[2],
+            State::Knocking => YES_HEARD[3],
+            State::Out(_) => YES_HEARD[4],
+        });
+    }
+}
+
 /// Records of small and wild values: most are not sound, in many clauses at once.
 pub fn wild(count: &mut Count) -> Result<(), String> {
     let mut random = Random::new(23);
@@ -101,8 +122,10 @@ pub fn wild(count: &mut Count) -> Result<(), String> {
             disturb(&mut random, &mut node);
         }
         count.event(if node.is_sound() { "sound" } else { "not sound" });
+        note_yes_heard(count, &node);
         every_call(&mut random, &mut script, &node);
     }
+    count.needs(&YES_HEARD)?;
     compare(count, &script)
 }
 

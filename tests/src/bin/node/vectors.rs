@@ -1,5 +1,5 @@
-//! Runs of single nodes with literal answers, typed from document 01; neither side makes an expected
-//! answer. The examples of whole cables are followed on each of their nodes.
+//! Runs of single nodes with literal answers, typed from document 01 and request e; neither side makes an
+//! expected answer. The examples of whole cables are followed on each of their nodes.
 
 use super::compare::compare;
 use super::protocol::{Command, Script};
@@ -15,8 +15,11 @@ type Bytes = &'static [u8];
 /// A record but for n, k, own number and slot count, which are told by the run.
 #[derive(Clone, Copy)]
 enum Is {
-    /// Set, marks, returning.
+    /// Set, marks, returning; no yes heard for the own message since the own slot.
     Member(Nodes, Nodes, u32),
+    /// The same with yes heard.
+    Confirmed(Nodes, Nodes, u32),
+    /// Set, marks, returning.
     Following(Nodes, Nodes, u32),
     /// Set, marks, return heard.
     Knocking(Nodes, Nodes, bool),
@@ -58,24 +61,29 @@ const YNN: Bytes = &[0x03, 0x01, 0x01, 0x00];
 const NYN: Bytes = &[0x03, 0x02, 0x01, 0x00];
 const NNY: Bytes = &[0x03, 0x04, 0x01, 0x00];
 const NYY: Bytes = &[0x03, 0x06, 0x01, 0x00];
+const YYN: Bytes = &[0x03, 0x03, 0x01, 0x00];
+const YYY: Bytes = &[0x03, 0x07, 0x01, 0x00];
 const NOTHING: Bytes = &[];
 
 const ALL: Nodes = &[1, 2, 3, 4];
+const FIVE: Nodes = &[1, 2, 3, 4, 5];
+const SIX: Nodes = &[1, 2, 3, 4, 5, 6];
 
 #[rustfmt::skip]
 const RUNS: &[Run] = &[
-    // "P: the listing above; node 2 is out, cause 1."
+    // "P: the listing above; node 2 is out, cause 1." Node 1's message of slot 1 already says yes to 4 and 3.
     Run { what: "the listing, node 1", ring: (4, 2, 1), from: None, steps: &[
         Sends(YY),
-        Slot(NOTHING, Member(ALL, &[2, 3, 4], 0)),
-        Slot(NOTHING, Member(ALL, &[3, 4], 0)),
-        Slot(NY, Member(ALL, &[1, 3, 4], 0)),
-        Slot(YN, Member(&[1, 3, 4], &[1, 3, 4], 0)),
+        Slot(NOTHING, Member(ALL, ALL, 0)),
+        Slot(NOTHING, Member(ALL, &[1, 3, 4], 0)),
+        Slot(NY, Confirmed(ALL, &[1, 3, 4], 0)),
+        Slot(YN, Confirmed(&[1, 3, 4], &[1, 3, 4], 0)),
     ] },
+    // Its mark is on until node 3's no.
     Run { what: "the listing, node 2", ring: (4, 2, 2), from: None, steps: &[
         Slot(YY, Member(ALL, ALL, 0)),
         Sends(YY),
-        Slot(NOTHING, Member(ALL, &[1, 3, 4], 0)),
+        Slot(NOTHING, Member(ALL, ALL, 0)),
         Slot(NY, Member(ALL, &[1, 3, 4], 0)),
         Slot(YN, Out(Cause::Unconfirmed)),
         SendRefused(10),
@@ -83,68 +91,69 @@ const RUNS: &[Run] = &[
         SendRefused(10),
     ] },
     Run { what: "the listing, node 3", ring: (4, 2, 3), from: None, steps: &[
-        Slot(YY, Member(ALL, ALL, 0)),
-        Slot(NOTHING, Member(ALL, &[1, 3, 4], 0)),
+        Slot(YY, Confirmed(ALL, ALL, 0)),
+        Slot(NOTHING, Confirmed(ALL, &[1, 3, 4], 0)),
         Sends(NY),
-        Slot(NOTHING, Member(ALL, &[1, 4], 0)),
-        Slot(YN, Member(&[1, 3, 4], &[1, 3, 4], 0)),
+        Slot(NOTHING, Member(ALL, &[1, 3, 4], 0)),
+        Slot(YN, Confirmed(&[1, 3, 4], &[1, 3, 4], 0)),
     ] },
     Run { what: "the listing, node 4", ring: (4, 2, 4), from: None, steps: &[
-        Slot(YY, Member(ALL, ALL, 0)),
-        Slot(NOTHING, Member(ALL, &[1, 3, 4], 0)),
-        Slot(NY, Member(ALL, &[1, 3, 4], 0)),
+        Slot(YY, Confirmed(ALL, ALL, 0)),
+        Slot(NOTHING, Confirmed(ALL, &[1, 3, 4], 0)),
+        Slot(NY, Confirmed(ALL, &[1, 3, 4], 0)),
         Sends(YN),
-        Slot(NOTHING, Member(&[1, 3, 4], &[1, 3], 0)),
+        Slot(NOTHING, Member(&[1, 3, 4], &[1, 3, 4], 0)),
     ] },
     // "P: n = 4, k = 2, node 3 alone misses slot 2: after slot 4 all hold {1,2,3,4}."
     Run { what: "node 3 misses slot 2, node 1", ring: (4, 2, 1), from: None, steps: &[
         Sends(YY),
-        Slot(NOTHING, Member(ALL, &[2, 3, 4], 0)),
-        Slot(YY, Member(ALL, ALL, 0)),
-        Slot(NY, Member(ALL, ALL, 0)),
-        Slot(YY, Member(ALL, ALL, 0)),
+        Slot(NOTHING, Member(ALL, ALL, 0)),
+        Slot(YY, Confirmed(ALL, ALL, 0)),
+        Slot(NY, Confirmed(ALL, ALL, 0)),
+        Slot(YY, Confirmed(ALL, ALL, 0)),
     ] },
     Run { what: "node 3 misses slot 2, node 2", ring: (4, 2, 2), from: None, steps: &[
         Slot(YY, Member(ALL, ALL, 0)),
         Sends(YY),
-        Slot(NOTHING, Member(ALL, &[1, 3, 4], 0)),
+        Slot(NOTHING, Member(ALL, ALL, 0)),
         Slot(NY, Member(ALL, &[1, 3, 4], 0)),
-        Slot(YY, Member(ALL, ALL, 0)),
+        Slot(YY, Confirmed(ALL, ALL, 0)),
     ] },
     Run { what: "node 3 misses slot 2, node 3", ring: (4, 2, 3), from: None, steps: &[
-        Slot(YY, Member(ALL, ALL, 0)),
-        Slot(NOTHING, Member(ALL, &[1, 3, 4], 0)),
+        Slot(YY, Confirmed(ALL, ALL, 0)),
+        Slot(NOTHING, Confirmed(ALL, &[1, 3, 4], 0)),
         Sends(NY),
-        Slot(NOTHING, Member(ALL, &[1, 4], 0)),
-        Slot(YY, Member(ALL, ALL, 0)),
+        Slot(NOTHING, Member(ALL, &[1, 3, 4], 0)),
+        Slot(YY, Confirmed(ALL, ALL, 0)),
     ] },
     // "Letting a later no erase a yes": node 3's no leaves the mark of node 2.
     Run { what: "node 3 misses slot 2, node 4", ring: (4, 2, 4), from: None, steps: &[
-        Slot(YY, Member(ALL, ALL, 0)),
-        Slot(YY, Member(ALL, ALL, 0)),
-        Slot(NY, Member(ALL, ALL, 0)),
+        Slot(YY, Confirmed(ALL, ALL, 0)),
+        Slot(YY, Confirmed(ALL, ALL, 0)),
+        Slot(NY, Confirmed(ALL, ALL, 0)),
         Sends(YY),
-        Slot(NOTHING, Member(ALL, &[1, 2, 3], 0)),
+        Slot(NOTHING, Member(ALL, ALL, 0)),
     ] },
     // "P: the same with slot 4 lost: two failures; node 3 holds {1,3,4}, node 1 all four, node 2 is out"
     // "Skipping the decision because the sender was silent": it is made on each node.
     Run { what: "slot 4 lost too, node 1", ring: (4, 2, 1), from: None, steps: &[
-        Slot(NOTHING, Member(ALL, &[2, 3, 4], 0)),
-        Slot(YY, Member(ALL, ALL, 0)),
-        Slot(NY, Member(ALL, ALL, 0)),
-        Slot(NOTHING, Member(ALL, &[1, 2, 3], 0)),
+        Slot(NOTHING, Member(ALL, ALL, 0)),
+        Slot(YY, Confirmed(ALL, ALL, 0)),
+        Slot(NY, Confirmed(ALL, ALL, 0)),
+        Slot(NOTHING, Confirmed(ALL, &[1, 2, 3], 0)),
     ] },
+    // Node 3's no decides: node 4's yes, which is lost, would have come in time.
     Run { what: "slot 4 lost too, node 2", ring: (4, 2, 2), from: None, steps: &[
         Slot(YY, Member(ALL, ALL, 0)),
-        Slot(NOTHING, Member(ALL, &[1, 3, 4], 0)),
+        Slot(NOTHING, Member(ALL, ALL, 0)),
         Slot(NY, Member(ALL, &[1, 3, 4], 0)),
         Slot(NOTHING, Out(Cause::Unconfirmed)),
     ] },
     Run { what: "slot 4 lost too, node 3", ring: (4, 2, 3), from: None, steps: &[
-        Slot(YY, Member(ALL, ALL, 0)),
+        Slot(YY, Confirmed(ALL, ALL, 0)),
+        Slot(NOTHING, Confirmed(ALL, &[1, 3, 4], 0)),
         Slot(NOTHING, Member(ALL, &[1, 3, 4], 0)),
-        Slot(NOTHING, Member(ALL, &[1, 4], 0)),
-        Slot(NOTHING, Member(&[1, 3, 4], &[1], 0)),
+        Slot(NOTHING, Member(&[1, 3, 4], &[1, 3], 0)),
     ] },
     // "P: n = 4, k = 3, nodes 1 and 2 off from the start: 1 leaves at slot 4, 2 at slot 8."
     Run { what: "nodes 1 and 2 off, node 1", ring: (4, 3, 1), from: None, steps: &[
@@ -158,36 +167,37 @@ const RUNS: &[Run] = &[
         Slot(NOTHING, Member(ALL, &[2, 3, 4], 0)),
         Slot(NOTHING, Member(ALL, &[3, 4], 0)),
         Sends(NNY),
-        Slot(NOTHING, Member(ALL, &[4], 0)),
-        Slot(YNN, Member(&[2, 3, 4], &[3, 4], 0)),
-        Slot(NOTHING, Member(&[2, 3, 4], &[3, 4], 0)),
-        Slot(NOTHING, Member(&[2, 3, 4], &[3, 4], 0)),
+        Slot(NOTHING, Member(ALL, &[3, 4], 0)),
+        Slot(YNN, Confirmed(&[2, 3, 4], &[3, 4], 0)),
+        Slot(NOTHING, Confirmed(&[2, 3, 4], &[3, 4], 0)),
+        Slot(NOTHING, Confirmed(&[2, 3, 4], &[3, 4], 0)),
         Sends(NYN),
-        Slot(NOTHING, Member(&[2, 3, 4], &[4], 0)),
-        Slot(YNN, Member(&[3, 4], &[3, 4], 0)),
+        Slot(NOTHING, Member(&[2, 3, 4], &[3, 4], 0)),
+        Slot(YNN, Confirmed(&[3, 4], &[3, 4], 0)),
     ] },
     Run { what: "nodes 1 and 2 off, node 4", ring: (4, 3, 4), from: None, steps: &[
         Slot(NOTHING, Member(ALL, &[2, 3, 4], 0)),
         Slot(NOTHING, Member(ALL, &[3, 4], 0)),
-        Slot(NNY, Member(ALL, &[3, 4], 0)),
+        Slot(NNY, Confirmed(ALL, &[3, 4], 0)),
         Sends(YNN),
-        Slot(NOTHING, Member(&[2, 3, 4], &[3], 0)),
-        Slot(NOTHING, Member(&[2, 3, 4], &[3], 0)),
-        Slot(NOTHING, Member(&[2, 3, 4], &[3], 0)),
-        Slot(NYN, Member(&[2, 3, 4], &[3, 4], 0)),
+        Slot(NOTHING, Member(&[2, 3, 4], &[3, 4], 0)),
+        Slot(NOTHING, Member(&[2, 3, 4], &[3, 4], 0)),
+        Slot(NOTHING, Member(&[2, 3, 4], &[3, 4], 0)),
+        Slot(NYN, Confirmed(&[2, 3, 4], &[3, 4], 0)),
         Sends(YNN),
-        Slot(NOTHING, Member(&[3, 4], &[3], 0)),
+        Slot(NOTHING, Member(&[3, 4], &[3, 4], 0)),
     ] },
     // "P: n = 4, slot 4 has sender 4; slot 5 has 1."
     Run { what: "sender of slot 4", ring: (4, 2, 4), from: Some((3, Member(ALL, ALL, 0))), steps: &[Sends(YY)] },
     Run { what: "sender of slot 5", ring: (4, 2, 1), from: Some((4, Member(ALL, ALL, 0))), steps: &[Sends(YY)] },
     // "P: set {1,3,4}, k = 2: node 1 sponsors 4, 3 and decides 3."
     Run { what: "sponsored by 1", ring: (4, 2, 1), from: Some((0, Member(&[1, 3, 4], &[1, 3], 0))), steps: &[Sends(NY)] },
+    // Bit 1 is a no for node 4 itself: its own mark goes off, but node 1 does not decide it.
     Run { what: "decided by 1: no", ring: (4, 2, 4), from: Some((0, Member(&[1, 3, 4], &[4], 0))), steps: &[
-        Slot(NN, Member(&[1, 4], &[1, 4], 0)),
+        Slot(NN, Member(&[1, 4], &[1], 0)),
     ] },
     Run { what: "decided by 1: yes", ring: (4, 2, 4), from: Some((0, Member(&[1, 3, 4], &[4], 0))), steps: &[
-        Slot(NY, Member(&[1, 3, 4], &[1, 3, 4], 0)),
+        Slot(NY, Member(&[1, 3, 4], &[1, 3], 0)),
     ] },
     // "P: set {2,5}, k = 3: node 5 sponsors and decides 2." Bits past ks are "ignored when heard".
     Run { what: "sponsored by 5", ring: (5, 3, 5), from: Some((4, Member(&[2, 5], &[2, 5], 0))), steps: &[Sends(YNN)] },
@@ -195,7 +205,7 @@ const RUNS: &[Run] = &[
         Slot(NYY, Out(Cause::Unconfirmed)),
     ] },
     Run { what: "decided by 5: yes", ring: (5, 3, 2), from: Some((4, Member(&[2, 5], &[5], 0))), steps: &[
-        Slot(YNN, Member(&[2, 5], &[2, 5], 0)),
+        Slot(YNN, Confirmed(&[2, 5], &[2, 5], 0)),
     ] },
     // "P: set {2}: nobody."
     Run { what: "alone", ring: (5, 3, 2), from: Some((1, Member(&[2], &[2], 0))), steps: &[
@@ -238,21 +248,21 @@ const RUNS: &[Run] = &[
         Slot(YY_RETURN, Knocking(&[2, 3, 4], &[2, 3, 4], true)),
         Slot(YY_RETURN, Member(ALL, ALL, 0)),
         Sends(YY),
-        Slot(NOTHING, Member(ALL, &[2, 3, 4], 0)),
-        Slot(YY, Member(ALL, ALL, 0)),
+        Slot(NOTHING, Member(ALL, ALL, 0)),
+        Slot(YY, Confirmed(ALL, ALL, 0)),
     ] },
     Run { what: "seen by node 2", ring: (4, 2, 2), from: None, steps: &[
         Slot(NOTHING, Member(ALL, &[2, 3, 4], 0)),
         Sends(NY),
-        Slot(NOTHING, Member(ALL, &[3, 4], 0)),
-        Slot(YN, Member(&[2, 3, 4], &[2, 3, 4], 0)),
-        Slot(YY, Member(&[2, 3, 4], &[2, 3, 4], 0)),
-        Slot(NN, Member(&[2, 3, 4], &[2, 3, 4], 1)),
+        Slot(NOTHING, Member(ALL, &[2, 3, 4], 0)),
+        Slot(YN, Confirmed(&[2, 3, 4], &[2, 3, 4], 0)),
+        Slot(YY, Confirmed(&[2, 3, 4], &[2, 3, 4], 0)),
+        Slot(NN, Confirmed(&[2, 3, 4], &[2, 3, 4], 1)),
         Sends(YY_RETURN),
-        Slot(NOTHING, Member(&[2, 3, 4], &[3, 4], 1)),
-        Slot(YY_RETURN, Member(&[2, 3, 4], &[2, 3, 4], 1)),
-        Slot(YY_RETURN, Member(ALL, ALL, 0)),
-        Slot(YY, Member(ALL, ALL, 0)),
+        Slot(NOTHING, Member(&[2, 3, 4], &[2, 3, 4], 1)),
+        Slot(YY_RETURN, Confirmed(&[2, 3, 4], &[2, 3, 4], 1)),
+        Slot(YY_RETURN, Confirmed(ALL, ALL, 0)),
+        Slot(YY, Confirmed(ALL, ALL, 0)),
         Sends(YY),
     ] },
     // "Joining a knocker that nobody heard"
@@ -292,26 +302,27 @@ const RUNS: &[Run] = &[
         Slot(YY, Following(&[2, 3, 4], &[2, 3, 4], 1)),
         Slot(NN, Following(&[2, 3, 4], &[2, 3, 4], 1)),
     ] },
-    // "if returning is not 0 it is ignored. The contents don't matter."
+    // "if returning is not 0 it is ignored. The contents don't matter." The knocks of slots 5, 6 and 7 say neither
+    // yes nor no to node 3.
     Run { what: "a later knock", ring: (6, 2, 3), from: Some((4, Member(&[2, 3, 4], &[2, 3, 4], 0))), steps: &[
         Slot(YY_RETURN, Member(&[2, 3, 4], &[2, 3, 4], 5)),
         Slot(NN, Member(&[2, 3, 4], &[2, 3, 4], 5)),
         Slot(NN, Member(&[2, 3, 4], &[2, 3, 4], 5)),
-        Slot(YY_RETURN, Member(&[2, 3, 4], &[2, 3, 4], 5)),
+        Slot(YY_RETURN, Confirmed(&[2, 3, 4], &[2, 3, 4], 5)),
         Sends(YY_RETURN),
-        Slot(NOTHING, Member(&[2, 3, 4], &[2, 4], 5)),
-        Slot(YY_RETURN, Member(&[2, 3, 4, 5], &[2, 3, 4, 5], 0)),
+        Slot(NOTHING, Member(&[2, 3, 4], &[2, 3, 4], 5)),
+        Slot(YY_RETURN, Confirmed(&[2, 3, 4, 5], &[2, 3, 4, 5], 0)),
     ] },
     // "if no other member is marked, this node leaves with cause 2"
     Run { what: "nothing heard", ring: (5, 2, 1), from: None, steps: &[
         Sends(YY),
-        Slot(NOTHING, Member(&[1, 2, 3, 4, 5], &[2, 3, 4, 5], 0)),
-        Slot(YY, Member(&[1, 2, 3, 4, 5], &[1, 2, 3, 4, 5], 0)),
-        Slot(NOTHING, Member(&[1, 2, 3, 4, 5], &[1, 2, 4, 5], 0)),
-        Slot(NOTHING, Member(&[1, 2, 3, 4, 5], &[1, 2, 5], 0)),
-        Slot(NOTHING, Member(&[1, 2, 4, 5], &[1, 2], 0)),
+        Slot(NOTHING, Member(FIVE, FIVE, 0)),
+        Slot(YY, Confirmed(FIVE, FIVE, 0)),
+        Slot(NOTHING, Confirmed(FIVE, &[1, 2, 4, 5], 0)),
+        Slot(NOTHING, Confirmed(FIVE, &[1, 2, 5], 0)),
+        Slot(NOTHING, Confirmed(&[1, 2, 4, 5], &[1, 2], 0)),
         Sends(NN),
-        Slot(NOTHING, Member(&[1, 2, 5], &[2], 0)),
+        Slot(NOTHING, Member(&[1, 2, 5], &[1, 2], 0)),
         Slot(NOTHING, Out(Cause::NothingHeard)),
     ] },
     // "Following and knocking need two members or more in the set"
@@ -326,7 +337,142 @@ const RUNS: &[Run] = &[
     ] },
     // "Joining before departing in one slot": 3 decides 4, which leaves; then 3 is the nearest before 5.
     Run { what: "departing and joining", ring: (5, 3, 1), from: Some((2, Member(&[1, 2, 3, 4], &[1, 2, 3], 5))), steps: &[
-        Slot(&[0x03, 0x03, 0x01, 0x01], Member(&[1, 2, 3, 5], &[1, 2, 3, 5], 0)),
+        Slot(&[0x03, 0x03, 0x01, 0x01], Confirmed(&[1, 2, 3, 5], &[1, 2, 3, 5], 0)),
+    ] },
+    // Request e's example: n = 6, k = 2; 2, 3, 5 and 6 are off. 2 leaves at slot 4, 3 at 5, 5 at 7, 6 at 10. Slot
+    // 3 decides node 1 and slot 6 node 4, and neither has heard a yes or a no.
+    Run { what: "feeder cut, node 1", ring: (6, 2, 1), from: None, steps: &[
+        Sends(YY),
+        Slot(NOTHING, Member(SIX, SIX, 0)),
+        Slot(NOTHING, Member(SIX, &[1, 3, 4, 5, 6], 0)),
+        Slot(NOTHING, Member(SIX, &[1, 4, 5, 6], 0)),
+        Slot(NN, Member(&[1, 3, 4, 5, 6], &[1, 4, 5, 6], 0)),
+        Slot(NOTHING, Member(&[1, 4, 5, 6], &[1, 4, 6], 0)),
+        Slot(NOTHING, Member(&[1, 4, 5, 6], &[1, 4], 0)),
+        Sends(NN),
+        Slot(NOTHING, Member(&[1, 4, 6], &[1, 4], 0)),
+        Slot(NOTHING, Member(&[1, 4, 6], &[1, 4], 0)),
+        Slot(NOTHING, Member(&[1, 4, 6], &[1, 4], 0)),
+        Slot(YN, Confirmed(&[1, 4], &[1, 4], 0)),
+        Slot(NOTHING, Confirmed(&[1, 4], &[1, 4], 0)),
+        Slot(NOTHING, Confirmed(&[1, 4], &[1, 4], 0)),
+        Sends(YN),
+        Slot(NOTHING, Member(&[1, 4], &[1, 4], 0)),
+        Slot(NOTHING, Member(&[1, 4], &[1, 4], 0)),
+        Slot(NOTHING, Member(&[1, 4], &[1, 4], 0)),
+        Slot(YN, Confirmed(&[1, 4], &[1, 4], 0)),
+    ] },
+    Run { what: "feeder cut, node 4", ring: (6, 2, 4), from: None, steps: &[
+        Slot(YY, Member(SIX, SIX, 0)),
+        Slot(NOTHING, Member(SIX, &[1, 3, 4, 5, 6], 0)),
+        Slot(NOTHING, Member(SIX, &[1, 4, 5, 6], 0)),
+        Sends(NN),
+        Slot(NOTHING, Member(&[1, 3, 4, 5, 6], &[1, 4, 5, 6], 0)),
+        Slot(NOTHING, Member(&[1, 4, 5, 6], &[1, 4, 6], 0)),
+        Slot(NOTHING, Member(&[1, 4, 5, 6], &[1, 4], 0)),
+        Slot(NN, Member(&[1, 4, 6], &[1, 4], 0)),
+        Slot(NOTHING, Member(&[1, 4, 6], &[1, 4], 0)),
+        Slot(NOTHING, Member(&[1, 4, 6], &[1, 4], 0)),
+        Sends(YN),
+        Slot(NOTHING, Member(&[1, 4], &[1, 4], 0)),
+        Slot(NOTHING, Member(&[1, 4], &[1, 4], 0)),
+        Slot(NOTHING, Member(&[1, 4], &[1, 4], 0)),
+        Slot(YN, Confirmed(&[1, 4], &[1, 4], 0)),
+        Slot(NOTHING, Confirmed(&[1, 4], &[1, 4], 0)),
+        Slot(NOTHING, Confirmed(&[1, 4], &[1, 4], 0)),
+        Sends(YN),
+        Slot(NOTHING, Member(&[1, 4], &[1, 4], 0)),
+    ] },
+    // "the own slot sets the own mark on, in place of off"; yes heard is "cleared .. in the own slot". What is handed
+    // over in it says neither yes nor no.
+    Run { what: "own slot", ring: (4, 2, 1), from: Some((0, Confirmed(ALL, &[2, 3, 4], 0))), steps: &[
+        Slot(NOTHING, Member(ALL, ALL, 0)),
+    ] },
+    Run { what: "own slot, a no handed over", ring: (4, 2, 1), from: Some((0, Member(ALL, ALL, 0))), steps: &[
+        Slot(NN, Member(ALL, ALL, 0)),
+    ] },
+    Run { what: "own slot, a yes handed over", ring: (4, 2, 1), from: Some((0, Confirmed(ALL, ALL, 0))), steps: &[
+        Slot(YY, Member(ALL, ALL, 0)),
+    ] },
+    // "A heard no for the own message puts it off", and the next sponsor decides node 1, heard or not.
+    Run { what: "a no, then another", ring: (4, 2, 1), from: Some((1, Member(ALL, ALL, 0))), steps: &[
+        Slot(NY, Member(ALL, &[2, 3, 4], 0)),
+        Slot(YN, Out(Cause::Unconfirmed)),
+    ] },
+    Run { what: "a no, then silence", ring: (4, 2, 1), from: Some((1, Member(ALL, ALL, 0))), steps: &[
+        Slot(NY, Member(ALL, &[2, 3, 4], 0)),
+        Slot(NOTHING, Out(Cause::Unconfirmed)),
+    ] },
+    // "unless a yes has been heard since that slot": slot 3's no does nothing, nor does slot 4's message, in which
+    // no bit concerns node 1. In slot 6 the yes of the round before is past.
+    Run { what: "a yes, then a no", ring: (4, 2, 1), from: Some((1, Member(ALL, ALL, 0))), steps: &[
+        Slot(YY, Confirmed(ALL, ALL, 0)),
+        Slot(YN, Confirmed(ALL, ALL, 0)),
+        Slot(NN, Confirmed(ALL, ALL, 0)),
+        Sends(YY),
+        Slot(NOTHING, Member(ALL, ALL, 0)),
+        Slot(NY, Member(ALL, &[2, 3, 4], 0)),
+        Slot(YN, Out(Cause::Unconfirmed)),
+    ] },
+    // "a yes puts it on and keeps it on": n = 5, k = 3, so that nodes 2, 3 and 4 answer node 1; node 4 decides it.
+    Run { what: "a no, a yes, a no", ring: (5, 3, 1), from: Some((1, Member(FIVE, FIVE, 0))), steps: &[
+        Slot(NYY, Member(FIVE, &[2, 3, 4, 5], 0)),
+        Slot(YYY, Confirmed(FIVE, FIVE, 0)),
+        Slot(YYN, Confirmed(FIVE, FIVE, 0)),
+    ] },
+    Run { what: "a no, a no, a yes", ring: (5, 3, 1), from: Some((1, Member(FIVE, FIVE, 0))), steps: &[
+        Slot(NYY, Member(FIVE, &[2, 3, 4, 5], 0)),
+        Slot(YNN, Member(FIVE, &[2, 3, 4, 5], 0)),
+        Slot(YYY, Confirmed(FIVE, FIVE, 0)),
+    ] },
+    // A silent sponsor says no to nobody, nor does one whose message cannot be read. Then the own mark is no cause,
+    // but with nothing heard at all node 4 leaves with cause 2.
+    Run { what: "two silent sponsors", ring: (4, 2, 1), from: Some((1, Member(ALL, ALL, 0))), steps: &[
+        Slot(NOTHING, Member(ALL, &[1, 3, 4], 0)),
+        Slot(NOTHING, Member(ALL, &[1, 4], 0)),
+    ] },
+    Run { what: "all silent", ring: (4, 2, 4), from: Some((12, Member(&[1, 3, 4], &[1, 3, 4], 0))), steps: &[
+        Slot(NOTHING, Member(&[1, 3, 4], &[3, 4], 0)),
+        Slot(NOTHING, Member(&[1, 3, 4], &[3, 4], 0)),
+        Slot(NOTHING, Out(Cause::NothingHeard)),
+    ] },
+    Run { what: "an unreadable no", ring: (4, 2, 1), from: Some((1, Member(ALL, ALL, 0))), steps: &[
+        Slot(&[0x02, 0x00, 0x02, 0x00], Member(ALL, &[1, 3, 4], 0)),
+    ] },
+    // Node 4 sponsors 3 and 2, not node 1; and a no takes no other node's mark.
+    Run { what: "a no for others", ring: (4, 2, 1), from: Some((3, Member(ALL, ALL, 0))), steps: &[
+        Slot(NN, Member(ALL, ALL, 0)),
+    ] },
+    // Bits past ks say neither no nor yes: in the set {2,5} node 5 sponsors node 2 alone, by bit 1.
+    Run { what: "no past ks", ring: (5, 3, 2), from: Some((4, Member(&[2, 5], &[2, 5], 0))), steps: &[
+        Slot(YNN, Confirmed(&[2, 5], &[2, 5], 0)),
+    ] },
+    Run { what: "yes past ks", ring: (5, 3, 2), from: Some((4, Member(&[2, 5], &[2, 5], 0))), steps: &[
+        Slot(NYY, Out(Cause::Unconfirmed)),
+    ] },
+    Run { what: "yes past ks, yes heard", ring: (5, 3, 2), from: Some((4, Confirmed(&[2, 5], &[2, 5], 0))), steps: &[
+        Slot(NYY, Confirmed(&[2, 5], &[2, 5], 0)),
+    ] },
+    // A knock's bits are nothing; node 5 is outside the set.
+    Run { what: "a knock's no", ring: (6, 2, 3), from: Some((4, Member(&[2, 3, 4], &[2, 3, 4], 0))), steps: &[
+        Slot(NN, Member(&[2, 3, 4], &[2, 3, 4], 5)),
+    ] },
+    Run { what: "a knock's yes", ring: (6, 2, 3), from: Some((4, Member(&[2, 3, 4], &[2, 4], 0))), steps: &[
+        Slot(YY, Member(&[2, 3, 4], &[2, 4], 5)),
+    ] },
+    // Yes heard is "off whenever the node is not a member": after leaving with each cause, and then listening.
+    Run { what: "yes heard, cause 1", ring: (4, 2, 1), from: Some((2, Confirmed(ALL, &[2, 3, 4], 0))), steps: &[
+        Slot(NOTHING, Out(Cause::Unconfirmed)),
+    ] },
+    Run { what: "yes heard, cause 2", ring: (4, 2, 1), from: Some((1, Confirmed(ALL, &[1, 2], 0))), steps: &[
+        Slot(NOTHING, Out(Cause::NothingHeard)),
+    ] },
+    Run { what: "yes heard, cause 3", ring: (4, 2, 3), from: Some((13, Confirmed(&[2, 3, 4], &[2, 3, 4], 0))), steps: &[
+        Slot(YY_RETURN, Out(Cause::MissedReturn)),
+    ] },
+    Run { what: "yes heard, cause 4", ring: (4, 2, 1), from: Some((2, Confirmed(ALL, ALL, 0))), steps: &[
+        Off,
+        Restart(Listening(0, &[], 2, false, &[])),
     ] },
     // Six windows: other nodes replace the clean one, with a run of 1, enough for two nodes heard; a run
     // of 1 is too short for three and wipes it out; clean; a return bit; a knock; one node heard.
@@ -366,22 +512,22 @@ fn record((n, k, own): (u32, u32, u32), slots: u64, is: Is) -> Node {
     let (mut set, mut marks, mut returning, mut return_heard) = (&[][..], &[][..], 0, false);
     let mut listening = ListeningData::default();
     let state = match is {
-        Member(..) => State::Member,
+        Member(..) | Confirmed(..) => State::Member,
         Following(..) => State::Following,
         Knocking(..) => State::Knocking,
         Listening(..) => State::Listening,
         Out(cause) => State::Out(cause),
     };
     match is {
-        Member(s, m, r) | Following(s, m, r) => (set, marks, returning) = (s, m, r),
+        Member(s, m, r) | Confirmed(s, m, r) | Following(s, m, r) => (set, marks, returning) = (s, m, r),
         Knocking(s, m, r) => (set, marks, returning, return_heard) = (s, m, own, r),
         Listening(done, heard, shortest, return_seen, last) => {
             listening = ListeningData { done, heard: nodes(heard), shortest, return_seen, last: nodes(last) };
         }
         Out(_) => {}
     }
-    let (set, marks) = (nodes(set), nodes(marks));
-    Node { n, k, own, slots, state, set, marks, returning, return_heard, listening }
+    let (set, marks, yes_heard) = (nodes(set), nodes(marks), matches!(is, Confirmed(..)));
+    Node { n, k, own, slots, state, set, marks, returning, return_heard, listening, yes_heard }
 }
 
 /// The record must be this one.
@@ -397,7 +543,7 @@ fn see(
         Err(number) => format!("refusal {number}"),
     };
     count.check(got == expected, || {
-        format!("{what}:\n        model:       {}\n        document 01: {}", shown(&got), shown(&expected))
+        format!("{what}:\n        model:    {}\n        expected: {}", shown(&got), shown(&expected))
     })
 }
 
@@ -407,7 +553,7 @@ fn see_sent(count: &mut Count, what: &str, node: &Node, expected: Result<Bytes, 
     let got = node.send(&mut out).map(|length| &out[..length]);
     count.check(got == expected, || {
         let shown = |answer: Result<&[u8], u32>| answer.map(hex);
-        format!("{what}: model sends {:?}, document 01 {:?}", shown(got), shown(expected))
+        format!("{what}: model sends {:?}, expected {:?}", shown(got), shown(expected))
     })
 }
 

@@ -11,7 +11,7 @@ use std::process::ExitCode;
 
 const CASES: &[Case] = &[
     Case {
-        name: "vectors: the examples of document 01, model and program",
+        name: "vectors: the examples of document 01 and of request e, model and program",
         meets: &[0],
         run: vectors::examples,
     },

@@ -1,4 +1,4 @@
-//! Plans with what they print, typed from document 01 or worked out by hand; and the sample plans.
+//! Plans with what they print, typed from document 01 and request e or worked out by hand; and the sample plans.
 
 use super::compare::{compare_with, repository};
 use comparison::report::Count;
@@ -26,9 +26,20 @@ const EXAMPLES: &[Vector] = &[
     ("3 2; off 1; lost; off 2; off 3; lost; ok", &["1 1 silent 00000007 0", "2 2 silent -------- 0", "3 3 silent -------- 0"]),
     // "A sender .. is unaffected by being named."
     ("3 2; miss 1; ok; ok", &["1 1 sent 00000007 0", "2 2 sent 00000007 0", "3 3 sent 00000007 0"]),
-    // In slot 2 node 3 has no other member marked and leaves; in slot 3 node 1 is decided, and node 2 drops it
-    // and has nobody marked.
+    // In slot 2 node 3 has no other member marked and leaves; in slot 3 nodes 1 and 2 have none left either.
     ("3 2; lost; lost; lost; ok", &["1 1 lost 00000007 0", "2 2 lost 00000007 0", "3 3 silent -------- 0", "4 1 silent -------- 0"]),
+    // Request e's example: 2 leaves at slot 4, 3 at 5, 5 at 7, 6 at 10.
+    ("6 2; off 2; off 3; off 5; off 6; ok; ok; ok; ok; ok; ok; ok; ok; ok; ok; ok; ok; ok", &[
+        "1 1 sent 0000003f 0", "2 2 silent 0000003f 0", "3 3 silent 0000003f 0", "4 4 sent 0000003d 0",
+        "5 5 silent 00000039 0", "6 6 silent 00000039 0", "7 1 sent 00000029 0", "8 2 silent 00000029 0",
+        "9 3 silent 00000029 0", "10 4 sent 00000009 0", "11 5 silent 00000009 0", "12 6 silent 00000009 0",
+        "13 1 sent 00000009 0",
+    ]),
+    // Node 2 says yes to node 1. Node 3 heard neither of them: in slot 3 it says no to both, and it alone drops 1. Node
+    // 1 keeps its mark and sends in slot 5.
+    ("4 2; miss 3; miss 3; ok; ok; ok", &[
+        "1 1 sent 0000000f 0", "2 2 sent 0000000f 0", "3 3 sent 0000000f 1", "4 4 sent 0000000f 1", "5 1 sent 0000000f 1",
+    ]),
     // A set-up and nothing else prints nothing.
     ("4 2", &[]),
     ("32 31; ok", &["1 1 sent ffffffff 0"]),
@@ -117,7 +128,7 @@ const REFUSED: &[Refused] = &[
     ("4 2\n4 2\n", "line 2 refusal 12\n"),
 ];
 
-/// The examples of document 01 and some more.
+/// The examples of document 01 and of request e, and some more.
 pub fn examples(count: &mut Count) -> Result<(), String> {
     for &(plan, printed) in EXAMPLES {
         let plan = plan.replace("; ", "\n") + "\n";
