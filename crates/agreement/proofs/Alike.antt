@@ -96,16 +96,28 @@ listening-not-member s r v li = go (overheard s r (v .listening))
         (λ _. refl))
 
 -- by what a node is
-pub by-state : (P : Node → Type 0) (v : Node) (s : ℕ) (r : Reading)
-    → (tracks (v .state) ≡ true → P (slotByCases s r (counted v)))
+pub by-state : (P : Node → Type 0) (v : Node) (times s : ℕ) (r : Reading)
+    → (tracks (v .state) ≡ true → P (slotByCases times s r (counted v)))
     → (isListening (v .state) ≡ true → P (listeningBy s r (counted v)))
     → ((c : Cause) → v .state ≡ Out c → P (counted v))
-    → P (readIn (v .state) s r (counted v))
-by-state P v s r f g o = go (v .state) refl
+    → P (readIn times (v .state) s r (counted v))
+by-state P v times s r f g o = go (v .state) refl
   where
-    go : (st : State) → v .state ≡ st → P (readIn st s r (counted v))
+    go : (st : State) → v .state ≡ st → P (readIn times st s r (counted v))
     go Member e = f (rw e refl)
     go Listening e = g (rw e refl)
     go Following e = f (rw e refl)
     go Knocking e = f (rw e refl)
     go (Out c) e = o c e
+
+-- so many departure steps as so many, where that is so of a node that tracks the list
+pub as-many : (a b s : ℕ) (r : Reading) (v : Node) → (tracks (v .state) ≡ true → slotByCases a s r (counted v) ≡ slotByCases b s r (counted v))
+    → readIn a (v .state) s r (counted v) ≡ readIn b (v .state) s r (counted v)
+as-many a b s r v f = go (v .state) refl
+  where
+    go : (st : State) → v .state ≡ st → readIn a st s r (counted v) ≡ readIn b st s r (counted v)
+    go Member e = f (rw e refl)
+    go Listening e = refl
+    go Following e = f (rw e refl)
+    go Knocking e = f (rw e refl)
+    go (Out c) e = refl

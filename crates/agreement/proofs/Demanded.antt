@@ -23,7 +23,7 @@ use Rattle.node_record.specs.Soundness.{sound, limit}
 use Rattle.bench.specs.Table.{Table, recordOf, slotsOf, speaker}
 use Rattle.bench.specs.Calls.{setUpOf}
 use Rattle.bench.specs.Runs.{Call, slot, off, restart, tableAfter, isSlot, listOf, Entry, entry}
-use Rattle.agreement.specs.Demand.{AtEach, AfterEach, KeepsList, HearEverything, Premises, memberAfter, isDeciding, decidingRan, LostOrSilent, MemberAt, OffAll, Agree, Stays, Leaves, InTime, EverySequence, Demand3}
+use Rattle.agreement.specs.Demand.{HearEverythingOn, KeepsListOn, AtEach, AfterEach, KeepsList, HearEverything, Premises, memberAfter, isDeciding, decidingRan, LostOrSilent, MemberAt, OffAll, Agree, Stays, Leaves, InTime, EverySequence, Demand3}
 use Rattle.agreement.proofs.Past.{pastOf, past, entryIn, entry-is}
 use Rattle.agreement.proofs.History.{World, lst, full-round, num-is, num-isnt}
 use Rattle.agreement.proofs.Marks.{no-both}
@@ -38,8 +38,8 @@ use Rattle.agreement.proofs.Leaving.{deciding, undecided}
 use Rattle.agreement.proofs.Kept as kept
 use Rattle.agreement.proofs.Kept.{Given, Run, run, none-yet, past-at}
 
-module _ (G : Given) where
-  open Given G using (cable, all, premises)
+module _ (G : Given) (premises : Premises (G .cable) (kept.start G) (G .all)) where
+  open Given G using (cable, all)
   open Cable cable using (n, k)
 
   abbrev start : Table
@@ -64,7 +64,7 @@ module _ (G : Given) where
     enough-at : k < size n L
 
   slot-facts : (c : Call) (cs : List Call) → Beginning all (c ∷ cs) → KeepsList cable start c cs → HearEverything cable start c cs → isSlot c (tableAfter start cs) ≡ true → (r : Run G cs) → Slot c cs (slotsOf (tableAfter start cs) + n) (r .0)
-  unfolding KeepsList HearEverything
+  unfolding KeepsListOn HearEverythingOn
   slot-facts (slot lost missed room) cs b kl he e r = record {
     speaker-at = speaker-is W N (r .0) t lost missed (r .1) eq (kl e .0) (he e) good below;
     list-at = list W N (r .0) t lost missed (r .1) eq (kl e .0) (he e) good below;
@@ -90,7 +90,7 @@ module _ (G : Given) where
   slot-facts (restart a) cs b kl he e r = absurd (no-both e (restart-no-slot a (tableAfter start cs)))
 
   ends-enough : (c : Call) (cs : List Call) → KeepsList cable start c cs → isSlot c (tableAfter start cs) ≡ true → (r : Run G (c ∷ cs)) → k < size n (r .0)
-  unfolding KeepsList
+  unfolding KeepsListOn
   ends-enough c cs kl e r = omega (arith, kl e .1, ap (size n) (list-is W _ (r .0) _ (r .1) (omega (arith, kl e .1))))
 
   data Status (N u : ℕ) (b : Bool) : Type 0 where
@@ -255,10 +255,10 @@ module _ (G : Given) where
 pub demand3 : Demand3
 unfolding EverySequence
 demand3 cable ring sponsors lent one-each cs p = record {
-  agree = after (Agree cable first) (λ x q. agrees (given x q));
-  stays = after (Stays cable first) (λ x q. stays-on (given x q));
-  leaves = at-each cable pos first placed (Leaves cable first) (λ c x q s. leaves-all (given (c ∷ x) q) s c x refl) cs p;
-  in-time = after (InTime cable first) (λ x q. decided-in-time (given x q));
+  agree = after (Agree cable first) (λ x q. agrees (given x q) q);
+  stays = after (Stays cable first) (λ x q. stays-on (given x q) q);
+  leaves = at-each cable pos first placed (Leaves cable first) (λ c x q s. leaves-all (given (c ∷ x) q) q s c x refl) cs p;
+  in-time = after (InTime cable first) (λ x q. decided-in-time (given x q) q);
 }
   where
     first : Table
@@ -271,7 +271,7 @@ demand3 cable ring sponsors lent one-each cs p = record {
     placed = start-placed cable ring sponsors lent one-each
 
     given : (x : List Call) → Premises cable first x → Given
-    given x q = record { cable = cable; ring = ring; sponsors = sponsors; lent = lent; one-each = one-each; all = x; premises = q }
+    given x q = record { cable = cable; ring = ring; sponsors = sponsors; lent = lent; one-each = one-each; all = x; few-failures = q .few-failures; one-outside = q .one-outside }
 
     after : (P : List Call → Type 0) → ((x : List Call) → Premises cable first x → P x) → AfterEach P cs
     after P h = after-each cable pos first placed P h cs p

@@ -18,8 +18,7 @@ use Rattle.ring.proofs.Ranges.{ring-size, sponsor-count}
 use Rattle.node_record.specs.States.{isMember}
 use Rattle.bench.specs.Table.{Table, recordOf, nodeCount, slotsOf, speaker}
 use Rattle.bench.specs.Calls.{transmits}
-use Rattle.bench.specs.Runs.{Call, slot, off, restart, tableAfter, isSlot, isListed, misses, failuresIn, Entry, noEntry, entry}
-use Rattle.agreement.specs.Demand.{Premises}
+use Rattle.bench.specs.Runs.{Call, slot, off, restart, tableAfter, isSlot, isListed, misses, failuresIn, Entry, entry}
 use Rattle.agreement.proofs.Past.{Past, pastOf, noPast, newPast, past, entryIn, entry-is}
 use Rattle.agreement.proofs.History.{sum-more, Fair, World, num-is}
 use Rattle.bench.proofs.Choices.{choose}
@@ -54,9 +53,6 @@ past-new start c cs e = chosen _ _ (all e (eq-eqb (slotsOf (tableAfter start cs)
 pub past-none : (start : Table) (c : Call) (cs : List Call) (u : ℕ) → isSlot c (tableAfter start cs) ≡ false → past start (c ∷ cs) u ≡ past start cs u
 unfolding past
 past-none start c cs u e = otherwise _ _ (ap (λ (b : Bool). b && eqb u (slotsOf (tableAfter start cs) + 1)) e)
-
-pub entry-old : (start : Table) (c : Call) (cs : List Call) (u : ℕ) → u ≤ slotsOf (tableAfter start cs) → entry start (c ∷ cs) u ≡ entry start cs u
-entry-old start c cs u h = entry-is start (c ∷ cs) u ∙ ap entryIn (past-old start c cs u h) ∙ sym (entry-is start cs u)
 
 -- ---- what that tells
 
@@ -117,9 +113,6 @@ module _ (cable : Cable) (pos : 1 ≤ cable .n) (start : Table) (begins : Placed
       go false e r = past-none start c cs u e ∙ r
       go true e r = past-other start c cs u (λ z. omega (arith, slots-next cable pos start begins c cs, num-is e)) ∙ r
 
-  pub entry-later : (cs : List Call) (u : ℕ) → slotsOf (tableAfter start cs) < u → entry start cs u ≡ noEntry
-  entry-later cs u h = entry-is start cs u ∙ ap entryIn (past-later cs u h)
-
   pub past-fair : (cs : List Call) (u : ℕ) → Fair n (past start cs u)
   unfolding past
   past-fair [] u = fair-none n
@@ -167,8 +160,9 @@ pub same-count : (f : Entry → ℕ) (start : Table) (cs : List Call) (a m : ℕ
 same-count f start cs a m = sum-same (λ u. f (entryIn (past start cs u))) (λ u. f (entry start cs u)) a m (λ u _ _. ap f (sym (entry-is start cs u)))
 
 -- the world of a sequence of calls
-abbrev pub world : (cable : Cable) → ringSize (cable .n) ≡ true → sponsorCount cable ≡ true → (start : Table) → Placed cable 0 start → (cs : List Call) → Premises cable start cs → World
-world cable ring sponsors start begins cs p =
+abbrev pub world : (cable : Cable) → ringSize (cable .n) ≡ true → sponsorCount cable ≡ true → (start : Table) → Placed cable 0 start → (cs : List Call)
+    → ((a : ℕ) → sum (λ u. entry start cs u .failures) (suc a) (cable .n) ≤ cable .k - 1) → ((a : ℕ) → sum (λ u. num (entry start cs u .outside)) (suc a) (cable .n) ≤ 1) → World
+world cable ring sponsors start begins cs few-failures one-outside =
     let n = cable .n in
     let r = ring-size n ring in
     let c = sponsor-count cable sponsors in
@@ -181,6 +175,6 @@ world cable ring sponsors start begins cs p =
       E = λ q. past start cs (q - n);
       fair = λ q. past-fair cable (omega arith) start begins cs (q - n);
       early = λ q h. let z : q - n ≡ 0 = omega arith in ap (past start cs) z ∙ past-zero start cs;
-      few = λ a. omega (arith, any-round (λ u. past start cs u .failures) n (cable .k - 1) (ap (λ (e : Past). e .failures) (past-zero start cs)) (λ b. omega (arith, p .few-failures b, same-count (λ e. e .failures) start cs (suc b) n)) a);
-      once = λ a. any-round (λ u. num (past start cs u .outside)) n 1 (ap (λ (e : Past). num (e .outside)) (past-zero start cs)) (λ b. omega (arith, p .one-outside b, same-count (λ e. num (e .outside)) start cs (suc b) n)) a;
+      few = λ a. omega (arith, any-round (λ u. past start cs u .failures) n (cable .k - 1) (ap (λ (e : Past). e .failures) (past-zero start cs)) (λ b. omega (arith, few-failures b, same-count (λ e. e .failures) start cs (suc b) n)) a);
+      once = λ a. any-round (λ u. num (past start cs u .outside)) n 1 (ap (λ (e : Past). num (e .outside)) (past-zero start cs)) (λ b. omega (arith, one-outside b, same-count (λ e. num (e .outside)) start cs (suc b) n)) a;
     }

@@ -21,22 +21,18 @@ use Rattle.agreement.proofs.Past.{Past, noPast}
 pub sum-more : (f : ℕ → ℕ) (a m d : ℕ) → sum f a m ≤ sum f a (m + d)
 sum-more f a m d = omega (arith, sum-split f a m d)
 
--- Counting lemma 2 of the paper proof: where nobody has told those who missed slot u what it was, fewer than k listed slots have been since.
-module _ (n k : ℕ) (speaks : ℕ → ℕ) (listed failures : ℕ → ℕ) (missed : ℕ → ℕ → ℕ) where
-  told : (u m : ℕ) → m < n
-      → ((t : ℕ) → u < t → t ≤ u + m → listed t ≤ failures t + missed u (speaks t))
-      → sum (λ t. missed u (speaks t)) (suc u) n ≤ failures u
-      → sum failures u n < k
-      → sum listed (suc u) m < k
-  told u m hm un cm hf =
-      let d : ℕ = n - suc m in
-      let e₁ : m + suc d ≡ n = omega arith in
-      let e₂ : suc m + d ≡ n = omega arith in
-      let miss : ℕ → ℕ = λ t. missed u (speaks t) in
-      let a₁ : sum listed (suc u) m ≤ sum (λ t. failures t + miss t) (suc u) m = sum-le listed (λ t. failures t + miss t) (suc u) m (λ t p q. un t (omega arith) (omega arith)) in
-      let a₂ : sum miss (suc u) m ≤ sum miss (suc u) n = rw (← e₁) (sum-more miss (suc u) m (suc d)) in
-      let a₃ : sum failures u (suc m) ≤ sum failures u n = rw (← e₂) (sum-more failures u (suc m) d) in
-      omega (arith, a₁, a₂, a₃, sum-add failures miss (suc u) m, sum-first failures u m, cm)
+-- Counting lemma 2 of the paper proof: where nobody has told those who missed slot u what it was, no more listed slots have been since than there were failures.
+told : (n : ℕ) (speaks : ℕ → ℕ) (listed failures : ℕ → ℕ) (missed : ℕ → ℕ → ℕ) (u m : ℕ) → m < n
+    → ((t : ℕ) → u < t → t ≤ u + m → listed t ≤ failures t + missed u (speaks t))
+    → sum (λ t. missed u (speaks t)) (suc u) n ≤ failures u
+    → sum listed (suc u) m ≤ sum failures u (suc m)
+told n speaks listed failures missed u m hm un cm =
+    let d : ℕ = n - suc m in
+    let e₁ : m + suc d ≡ n = omega arith in
+    let miss : ℕ → ℕ = λ t. missed u (speaks t) in
+    let a₁ : sum listed (suc u) m ≤ sum (λ t. failures t + miss t) (suc u) m = sum-le listed (λ t. failures t + miss t) (suc u) m (λ t p q. un t (omega arith) (omega arith)) in
+    let a₂ : sum miss (suc u) m ≤ sum miss (suc u) n = rw (← e₁) (sum-more miss (suc u) m (suc d)) in
+    omega (arith, a₁, a₂, sum-add failures miss (suc u) m, sum-first failures u m, cm)
 
 pub record Fair (n : ℕ) (e : Past) : Type 0 where
   pub count : sum (λ i. num (e .missed i)) 1 n ≤ e .failures
@@ -77,12 +73,21 @@ module _ (W : World) where
   abbrev pub Untold : ℕ → ℕ → Type 0
   Untold u N = (t : ℕ) → u < t → t ≤ N → lst t ≤ E t .failures + num (E u .missed (sender n t))
 
+  abbrev pub failed : ℕ → ℕ
+  failed q = E q .failures
+
+  pub few-from : (u : ℕ) → 1 ≤ u → sum failed u n < k
+  few-from u h = let z : suc (u - 1) ≡ u = omega arith in rw z at (few (u - 1))
+
+  pub told-failures : (u e : ℕ) → e < n → Untold u (u + e) → sum lst (suc u) e ≤ sum failed u (suc e)
+  told-failures u e he un =
+      told n (sender n) lst failed (λ q x. num (E q .missed x)) u e he un (omega (arith, round n n-pos (λ x. num (E u .missed x)) u, fair u .count))
+
   pub told-in-time : (u e : ℕ) → 1 ≤ u → e < n → Untold u (u + e) → sum lst (suc u) e < k
   told-in-time u e hu he un =
-      let z : suc (u - 1) ≡ u = omega arith in
-      let f : sum (λ q. E q .failures) u n < k = rw z at (few (u - 1)) in
-      told n k (sender n) lst (λ q. E q .failures) (λ q x. num (E q .missed x)) u e he un
-      (omega (arith, round n n-pos (λ x. num (E u .missed x)) u, fair u .count)) f
+      let d : ℕ = n - suc e in
+      let z : suc e + d ≡ n = omega arith in
+      omega (arith, told-failures u e he un, sum-more failed u (suc e) d, ap (sum failed u) z, few-from u hu)
 
   -- two transmissions from outside the list in one round
   pub one-knock : (w e q : ℕ) → 1 ≤ w → 1 ≤ e → e < n → w + e ≡ q → E w .outside ≡ true → E q .outside ≡ true → ⊥

@@ -5,6 +5,7 @@ use mathlib.Core.Bool.{Bool, true, false}
 use mathlib.Core.List.{List, [], _∷_}
 use native.Mathlib.Omega.{arith}
 use lib.ListN.{length}
+use Rattle.nodeset.specs.Sums.{sum, num}
 use Rattle.nodeset.specs.Sets.{full}
 use Rattle.nodeset.proofs.Tests.{by-cases, both, chosen}
 use Rattle.ring.specs.declared.Cable.{Cable}
@@ -15,8 +16,8 @@ use Rattle.node.specs.declared.Stepped.{Stepped}
 use Rattle.node.specs.Calls as node
 use Rattle.bench.specs.Table.{Table, tableSound, nodeCount, slotsOf}
 use Rattle.bench.specs.Calls.{setUpOf, tableAfterSlot}
-use Rattle.bench.specs.Runs.{Call, slot, off, restart, tableAfter, isSlot}
-use Rattle.agreement.specs.Demand.{AtEach, KeepsList, HearEverything, Premises}
+use Rattle.bench.specs.Runs.{Call, slot, off, restart, tableAfter, isSlot, entry}
+use Rattle.agreement.specs.Demand.{HearEverythingOn, KeepsListOn, AtEach, KeepsList, HearEverything}
 use Rattle.agreement.proofs.Past.{pastOf, past}
 use Rattle.agreement.proofs.History.{World, num-is, num-isnt}
 use Rattle.bench.proofs.Places.{Placed, slots-of-placed}
@@ -27,7 +28,7 @@ use Rattle.agreement.proofs.Beginnings.{Beginning, shorter, past-here}
 use Rattle.agreement.proofs.Tables.{TableInv, off-keeps, restart-keeps, start-keeps}
 use Rattle.agreement.proofs.Slots.{slot-keeps}
 
--- what demand 3 is given
+-- calls from a common start with few failures and few transmissions from outside the list
 pub record Given : Type 0 where
   pub cable : Cable
   pub ring : ringSize (cable .n) ≡ true
@@ -35,10 +36,11 @@ pub record Given : Type 0 where
   pub lent : Table
   pub one-each : length lent ≡ cable .n
   pub all : List Call
-  pub premises : Premises cable (setUpOf cable lent .table) all
+  pub few-failures : (a : ℕ) → sum (λ u. entry (setUpOf cable lent .table) all u .failures) (suc a) (cable .n) ≤ cable .k - 1
+  pub one-outside : (a : ℕ) → sum (λ u. num (entry (setUpOf cable lent .table) all u .outside)) (suc a) (cable .n) ≤ 1
 
 module _ (G : Given) where
-  open Given G using (cable, ring, sponsors, lent, one-each, all, premises)
+  open Given G using (cable, ring, sponsors, lent, one-each, all, few-failures, one-outside)
   open Cable cable using (n)
 
   -- the common start
@@ -49,7 +51,7 @@ module _ (G : Given) where
   begins = start-placed cable ring sponsors lent one-each
 
   abbrev pub W : World
-  W = world cable ring sponsors start begins all premises
+  W = world cable ring sponsors start begins all few-failures one-outside
 
   pub pos : 1 ≤ n
   pos = omega (arith, ring-size n ring)
@@ -92,7 +94,7 @@ module _ (G : Given) where
 
   slot-case : (lost : Bool) (missed room : ℕ) (cs : List Call) → Beginning all (slot lost missed room ∷ cs) → KeepsList cable start (slot lost missed room) cs → HearEverything cable start (slot lost missed room) cs
       → isSlot (slot lost missed room) (tableAfter start cs) ≡ true → Run cs → Run (slot lost missed room ∷ cs)
-  unfolding KeepsList HearEverything
+  unfolding KeepsListOn HearEverythingOn
   slot-case lost missed room cs b kl he e r = go (slot-keeps W (slotsOf (tableAfter start cs) + n) (r .0) (tableAfter start cs) lost missed (r .1) (past-at lost missed room cs b e) (kl e .0) (he e)
       (λ i h l. placed cs .at i h l .is-sound) (below-limit cable _ _ pos (placed cs) lost missed room e) (rw (← tb) (kl e .1)))
     where

@@ -12,6 +12,7 @@ pub mod Rounds
 pub mod Outside
 pub mod Hearing
 pub mod Alike
+pub mod Again
 pub mod Nodes
 pub mod Tables
 pub mod Reached
@@ -21,5 +22,6 @@ pub mod Onwards
 pub mod Leaving
 pub mod Beginnings
 pub mod Kept
+pub mod Differs
 pub mod Demanded
 pub mod Throughout

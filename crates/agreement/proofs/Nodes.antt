@@ -1,10 +1,10 @@
 -- One slot, for any node: what it was and what it is after the slot. Assumes nothing.
-use Prim.Native.Nat.{ℕ, suc, _+_, _^_, _≤_, _<_}
+use Prim.Native.Nat.{ℕ, suc, _+_, _-_, _^_, _≤_, _<_}
 use mathlib.Core.Path.{_≡_, sym, ap, ap₂, _∙_, subst}
 use mathlib.Core.Logic.{_⊎_, inl, inr}
-use mathlib.Core.Bool.{true, false, false≢true}
+use mathlib.Core.Bool.{true, false, cond, false≢true}
 use native.Mathlib.Omega.{arith}
-use Rattle.nodeset.specs.Sets.{has}
+use Rattle.nodeset.specs.Sets.{has, size}
 use Rattle.ring.specs.declared.Cable.{Cable}
 use Rattle.ring.specs.declared.Found.the-variants as found
 use Rattle.ring.specs.Ring.{sender, decided}
@@ -12,32 +12,35 @@ use Rattle.message.specs.declared.Reading.{Reading}
 use Rattle.node_record.specs.declared.Node.{Node}
 use Rattle.node_record.specs.declared.State.the-variants.{Member, Out}
 use Rattle.node_record.specs.declared.Cause.{Cause}
+use Rattle.node_record.specs.declared.Cause.the-variants.{MissedReturn}
 use Rattle.node_record.specs.States.{isMember, isListening}
 use Rattle.node_record.specs.Sponsoring.{decidedIn}
 use Rattle.node_record.proofs.Tracking.{tracks}
-use Rattle.node_changes.specs.Changes.{counted, withSet}
+use Rattle.node_changes.specs.Changes.{counted, leave, withSet}
 use Rattle.node_steps.specs.Steps.{isHeard, noted, settle}
 use Rattle.node_steps.specs.Digests.{bitsHeard}
-use Rattle.node_steps.specs.Inner.{readMarked, insideSlot, outsideSlot, slotByCases}
+use Rattle.node_steps.specs.Inner.{readReturn, readMarked, departing, insideSlot, outsideSlot, slotByCases}
 use Rattle.node_steps.proofs.Cases.{slot-inside, slot-outside}
 use Rattle.node_hearing.specs.Hearing.{listeningBy}
 use Rattle.node_slot.specs.Inner.{readIn}
+use Rattle.bench.proofs.Choices.{choose}
 use Rattle.bench.proofs.Counted.{Same, same-then}
 use Rattle.agreement.proofs.History.{World, K}
 use Rattle.agreement.proofs.Invariant.{Tracking, ListeningInv, Awaits, aware, unaware}
 use Rattle.agreement.proofs.Marks.{no-both}
-use Rattle.agreement.proofs.Outcome.{Gone, Settled, left, settled, Inside, missed, went, inside-law, noted-law, Noted, settle-outside, setAfter}
+use Rattle.agreement.proofs.Outcome.{Gone, leave-law, Settled, left, settled, Inside, missed, went, inside-law, noted-law, Noted, settle-outside, setAfter}
 use Rattle.agreement.proofs.Listed.{Begins, Hears, Says, ListedSlot, Hearer}
 use Rattle.agreement.proofs.Returns.{set-after}
 use Rattle.agreement.proofs.Join.{A, Next, after-inside, next-from}
 use Rattle.agreement.proofs.Outside.{OwnSlot, after-noted}
 use Rattle.agreement.proofs.Rounds.{K′}
 use Rattle.agreement.proofs.Hearing.{fresh-inv, listening-law, Hearkened, on, again, follows}
-use Rattle.agreement.proofs.Alike.{not-listening, listening-only, Like, gone-like, gone-not, inside-like, noted-like, member-tracks, listening-not-member, by-state}
+use Rattle.agreement.proofs.Alike.{not-listening, listening-only, Like, gone-like, gone-not, inside-like, noted-like, member-tracks, listening-not-member, by-state, as-many}
+use Rattle.agreement.proofs.Again.{second, Once, once, shrunk}
 
 module _ (W : World) where
-  open World W using (cable, E)
-  open Cable cable using (n)
+  open World W using (cable, k-two, k-lt, E)
+  open Cable cable using (n, k)
 
   pub record NodeInv (N L i : ℕ) (v : Node) : Type 0 where
     pub cable-is : v .cable ≡ cable
@@ -145,8 +148,8 @@ module _ (W : World) where
 
     module _ (r : Reading) (says : isHeard r ≡ true → Says W N L r)
         (i : ℕ) (i-pos : 1 ≤ i) (i-le : i ≤ n) (v : Node) (nv : NodeInv N L i v) (h : HearsAny N i v r) where
-      is-inside : (tr : tracks (v .state) ≡ true) → slotByCases s r (counted v) ≡ insideSlot s r (counted v)
-      is-inside tr = slot-inside s r (counted v) (ap (λ (y : ℕ). has y s) (nv .track tr .set-is) ∙ onL)
+      is-inside : (times : ℕ) (tr : tracks (v .state) ≡ true) → slotByCases times s r (counted v) ≡ insideSlot times s r (counted v)
+      is-inside times tr = slot-inside times s r (counted v) (ap (λ (y : ℕ). has y s) (nv .track tr .set-is) ∙ onL)
 
       module _ (tr : tracks (v .state) ≡ true) where
         iv : Tracking W N L i (counted v)
@@ -162,7 +165,7 @@ module _ (W : World) where
         decides-it : decidedIn s v ≡ found.Member d (suc (D .e))
         decides-it = ap₂ (λ (c : Cable) (set : ℕ). decided c set s) (nv .cable-is) (nv .track tr .set-is) ∙ D .it
 
-        outcome : Inside s d r (counted v) (insideSlot s r (counted v))
+        outcome : Inside s d r (counted v) (insideSlot 1 s r (counted v))
         outcome = inside-law s d (suc (D .e)) r (counted v) decides-it
 
         settled-at : (x : Node) → Settled true s (withSet (setAfter d (readMarked s r (counted v))) (readMarked s r (counted v))) x
@@ -190,21 +193,52 @@ module _ (W : World) where
             go (inl g) = absurd (no-both p (gone-not _ x g))
             go (inr t) = t
 
-        tracking-after : (L′ : ℕ) → Next W S L′ → NodeInv (suc N) L′ i (slotByCases s r (counted v))
-        tracking-after L′ nx = rw (is-inside tr) (finish N L L′ i v _ nv
+        tracking-after : (L′ : ℕ) → Next W S L′ → NodeInv (suc N) L′ i (slotByCases 1 s r (counted v))
+        tracking-after L′ nx = rw (is-inside 1 tr) (finish N L L′ i v _ nv
             (inside-like s d r (counted v) _ (not-listening (v .state) tr) outcome)
             (tracked L′ nx _ outcome))
 
-      pub listed-after : (L′ : ℕ) → Next W S L′ → K W (suc N) L′ → K′ W (suc N) → L′ < 2 ^ n → NodeInv (suc N) L′ i (readIn (v .state) s r (counted v))
-      listed-after L′ nx κ κ′ small = by-state (NodeInv (suc N) L′ i) v s r
+        -- where nobody leaves but the member that is decided first, repeating the departure changes nothing
+        slot-once : Once W S → slotByCases n s r (counted v) ≡ slotByCases 1 s r (counted v)
+        unfolding insideSlot
+        slot-once o =
+            let z : n ≡ suc (suc (n - 2)) = omega (arith, k-two, k-lt) in
+            is-inside n tr
+            ∙ ap (cond (readReturn r (counted v)) (leave MissedReturn (counted v))) (ap (λ (x : ℕ). departing x s (readMarked s r (counted v))) z ∙ once W S T o (n - 2))
+            ∙ sym (is-inside 1 tr)
+
+        -- where a second leaves, k members are left at the most
+        slot-shrunk : E (D .u) .sent ≡ false → E (second W S .u) .sent ≡ false → isMember (slotByCases n s r (counted v) .state) ≡ true → size n (slotByCases n s r (counted v) .set) ≤ k
+        unfolding insideSlot
+        slot-shrunk p o = subst Small (sym (is-inside n tr)) (choose Small (readReturn r (counted v)) (leave MissedReturn (counted v)) (departing n s (readMarked s r (counted v)))
+            (λ _ q. absurd (no-both (member-tracks (leave MissedReturn (counted v) .state) q) (gone-not (counted v) (leave MissedReturn (counted v)) (leave-law MissedReturn (counted v)))))
+            (λ _. subst (λ (x : ℕ). Small (departing x s (readMarked s r (counted v)))) (sym z) (λ q. shrunk W S T p o (n - 2) (member-tracks (departing (suc (suc (n - 2))) s (readMarked s r (counted v)) .state) q))))
+          where
+            Small : Node → Type 0
+            Small x = isMember (x .state) ≡ true → size n (x .set) ≤ k
+
+            z : n ≡ suc (suc (n - 2))
+            z = omega (arith, k-two, k-lt)
+
+      pub read-once : Once W S → readIn n (v .state) s r (counted v) ≡ readIn 1 (v .state) s r (counted v)
+      read-once o = as-many n 1 s r v (λ tr. slot-once tr o)
+
+      pub read-shrunk : E (D .u) .sent ≡ false → E (second W S .u) .sent ≡ false → isMember (readIn n (v .state) s r (counted v) .state) ≡ true → size n (readIn n (v .state) s r (counted v) .set) ≤ k
+      read-shrunk p o = by-state (λ (x : Node). isMember (x .state) ≡ true → size n (x .set) ≤ k) v n s r
+          (λ tr. slot-shrunk tr p o)
+          (λ li q. absurd (no-both q (listening-not-member s r (counted v) li)))
+          (λ c e q. absurd (false≢true (sym (ap isMember e) ∙ q)))
+
+      pub listed-after : (L′ : ℕ) → Next W S L′ → K W (suc N) L′ → K′ W (suc N) → L′ < 2 ^ n → NodeInv (suc N) L′ i (readIn 1 (v .state) s r (counted v))
+      listed-after L′ nx κ κ′ small = by-state (NodeInv (suc N) L′ i) v 1 s r
           (λ tr. tracking-after tr L′ nx)
           (λ li. listening-after N L L′ i (B .late) i-pos κ κ′ small v nv li r (h .listening li) (h .own) (λ _ u. absurd (no-both lT u)))
           (λ c e. out-after N L L′ i v nv c e)
 
       -- the list after the slot, as a member-state node has it
-      pub next-list : isMember (readIn (v .state) s r (counted v) .state) ≡ true → Next W S (readIn (v .state) s r (counted v) .set)
-      next-list = by-state (λ (x : Node). isMember (x .state) ≡ true → Next W S (x .set)) v s r
-          (λ tr. rw (is-inside tr) (λ p. next-of tr _ (outcome tr) (member-tracks (insideSlot s r (counted v) .state) p)))
+      pub next-list : isMember (readIn 1 (v .state) s r (counted v) .state) ≡ true → Next W S (readIn 1 (v .state) s r (counted v) .set)
+      next-list = by-state (λ (x : Node). isMember (x .state) ≡ true → Next W S (x .set)) v 1 s r
+          (λ tr. rw (is-inside 1 tr) (λ p. next-of tr _ (outcome tr) (member-tracks (insideSlot 1 s r (counted v) .state) p)))
           (λ li p. absurd (no-both p (listening-not-member s r (counted v) li)))
           (λ c e p. absurd (false≢true (sym (ap isMember e) ∙ p)))
 
@@ -212,8 +246,8 @@ module _ (W : World) where
   module _ (N L : ℕ) (B : Begins W N L) (lT : E (suc N) .listed ≡ false) (offL : has L (sender n (suc N)) ≡ false)
       (i : ℕ) (i-pos : 1 ≤ i) (v : Node) (nv : NodeInv N L i v) (r : Reading) (h : HearsAny N i v r) (o : OwnSlot W N i v)
       (knock-bits : E (suc N) .sent ≡ true → bitsHeard r ≡ 0) where
-    is-outside : (tr : tracks (v .state) ≡ true) → slotByCases (sender n (suc N)) r (counted v) ≡ outsideSlot (sender n (suc N)) r (counted v)
-    is-outside tr = slot-outside (sender n (suc N)) r (counted v) (ap (λ (y : ℕ). has y (sender n (suc N))) (nv .track tr .set-is) ∙ offL)
+    is-outside : (tr : tracks (v .state) ≡ true) → slotByCases 1 (sender n (suc N)) r (counted v) ≡ outsideSlot (sender n (suc N)) r (counted v)
+    is-outside tr = slot-outside 1 (sender n (suc N)) r (counted v) (ap (λ (y : ℕ). has y (sender n (suc N))) (nv .track tr .set-is) ∙ offL)
 
     own-counted : OwnSlot W N i (counted v)
     own-counted = record { out = o .out; sent = o .sent }
@@ -235,8 +269,8 @@ module _ (W : World) where
               inr (after-noted W N L B lT offL i i-pos (counted v) (nv .own-is) (counted-inv N L i v (nv .track tr)) r (counted-hears N i v r (h .tracking tr)) own-counted y nt),
             )
 
-    pub outside-after : K W (suc N) L → K′ W (suc N) → L < 2 ^ n → NodeInv (suc N) L i (readIn (v .state) (sender n (suc N)) r (counted v))
-    outside-after κ κ′ small = by-state (NodeInv (suc N) L i) v (sender n (suc N)) r
+    pub outside-after : K W (suc N) L → K′ W (suc N) → L < 2 ^ n → NodeInv (suc N) L i (readIn 1 (v .state) (sender n (suc N)) r (counted v))
+    outside-after κ κ′ small = by-state (NodeInv (suc N) L i) v 1 (sender n (suc N)) r
         (λ tr. rw (is-outside tr) (finish N L L i v _ nv (outside-slot tr .0) (outside-slot tr .1)))
         (λ li. listening-after N L L i (B .late) i-pos κ κ′ small v nv li r (h .listening li) (h .own) (λ q _. knock-bits q))
         (λ c e. out-after N L L i v nv c e)

@@ -1,14 +1,15 @@
 -- What a slot makes of a tracking node, as the cases of the rules: the order of the steps (node_steps' specs/Steps) is opened here and nowhere else. Assumes nothing.
-use Prim.Native.Nat.{ℕ}
-use mathlib.Core.Path.{_≡_, refl, sym, ap, _∙_}
+use Prim.Native.Nat.{ℕ, suc}
+use mathlib.Core.Path.{_≡_, refl, sym, ap, _∙_, subst}
 use mathlib.Core.Logic.{_≢_, _⊎_, inl, inr}
 use mathlib.Core.Bool.{Bool, true, false, cond, not, _&&_, true≢false, false≢true}
 use lib.Dec.{eqb}
-use borrow.Author.Tests.{eqb-true, eqb-false}
+use borrow.Author.Tests.{eqb-true, eqb-false, eq-eqb}
 use Rattle.nodeset.specs.Sets.{has, with, without}
 use Rattle.nodeset.proofs.Tests.{both, chosen, otherwise}
 use Rattle.ring.specs.declared.Found.{Found}
 use Rattle.ring.specs.declared.Found.the-variants as found
+use Rattle.ring.specs.Ring.{memberIn, isFound}
 use Rattle.message.specs.declared.Reading.{Reading}
 use Rattle.node_record.specs.declared.Node.{Node}
 use Rattle.node_record.specs.declared.State.{State}
@@ -18,8 +19,8 @@ use Rattle.node_record.specs.declared.Cause.the-variants.{Unconfirmed, NothingH
 use Rattle.node_record.specs.States.{isMember, isFollowing, isKnocking}
 use Rattle.node_record.specs.Sponsoring.{decidedIn}
 use Rattle.node_changes.specs.Changes.{outFor, fresh, leave, withSet, withReturning}
-use Rattle.node_steps.specs.Steps.{isHeard, noted, tooFew, nothingHeard, joins, stateOnList, settledAs, join, settle}
-use Rattle.node_steps.specs.Inner.{readReturn, readMarked, judged, departs, departing, insideSlot}
+use Rattle.node_steps.specs.Steps.{isHeard, noted, leaves, tooFew, nothingHeard, joins, stateOnList, settledAs, join, settle}
+use Rattle.node_steps.specs.Inner.{readReturn, readMarked, departing, insideSlot}
 use Rattle.bench.proofs.Choices.{choose}
 
 -- no longer tracking
@@ -103,9 +104,8 @@ pub data Departed (s m : ℕ) (v w : Node) : Type 0 where
   left : Gone v w → Departed s m v w
   settled : (has (v .present) m ≡ false → m ≢ v .own) → Settled true s (withSet (setAfter m v) v) w → Departed s m v w
 
-judged-law : (s m : ℕ) (v : Node) → Departed s m v (judged s m v)
-unfolding judged
-judged-law s m v = go (has (v .present) m) refl
+departed-law : (s m : ℕ) (v : Node) → Departed s m v (cond (not (has (v .present) m)) (cond (eqb m (v .own)) (leave Unconfirmed v) (settle true s (withSet (without (v .set) m) v))) (settle true s v))
+departed-law s m v = go (has (v .present) m) refl
   where
     one : has (v .present) m ≡ false → m ≢ v .own → Departed s m v (settle true s (withSet (without (v .set) m) v))
     one e f =
@@ -113,7 +113,7 @@ judged-law s m v = go (has (v .present) m) refl
         settled (λ _. f) (rw z (settle-law true s (withSet (without (v .set) m) v)))
 
     go : (b : Bool) → has (v .present) m ≡ b
-        → Departed s m v (cond b (settle true s v) (cond (eqb m (v .own)) (leave Unconfirmed v) (settle true s (withSet (without (v .set) m) v))))
+        → Departed s m v (cond (not b) (cond (eqb m (v .own)) (leave Unconfirmed v) (settle true s (withSet (without (v .set) m) v))) (settle true s v))
     go true e =
         let z : setAfter m v ≡ v .set = chosen _ _ e in
         settled (λ p. absurd (true≢false (sym e ∙ p))) (rw z (settle-law true s v))
@@ -122,8 +122,28 @@ judged-law s m v = go (has (v .present) m) refl
         (λ f. left (leave-law _ v))
         (λ f. one e (eqb-false m (v .own) f))
 
-depart-law : (s m back : ℕ) (v : Node) → decidedIn s v ≡ found.Member m back → Departed s m v (departing s v)
-depart-law s m back v e = rw (ap (λ (f : Found). departs s f v) e) (judged-law s m v)
+-- whether the decided member leaves
+pub leaves-is : (s m back : ℕ) (v : Node) → decidedIn s v ≡ found.Member m back → leaves s v (memberIn (decidedIn s v)) ≡ not (has (v .present) m)
+leaves-is s m back v e =
+    ap (λ (f : Found). isFound (memberIn f) f && not (has (v .present) (memberIn f))) e ∙ ap (λ (b : Bool). b && not (has (v .present) m)) (eq-eqb m m refl)
+
+-- one look, and what comes after it
+pub look : (times s m back : ℕ) (v : Node) → decidedIn s v ≡ found.Member m back
+    → departing (suc times) s v ≡ cond (not (has (v .present) m)) (cond (eqb m (v .own)) (leave Unconfirmed v) (departing times s (withSet (without (v .set) m) v))) (settle true s v)
+unfolding departing
+look times s m back v e =
+    ap (λ (b : Bool). cond b (cond (eqb (memberIn (decidedIn s v)) (v .own)) (leave Unconfirmed v) (departing times s (withSet (without (v .set) (memberIn (decidedIn s v))) v))) (settle true s v)) (leaves-is s m back v e)
+    ∙ ap (λ (x : ℕ). cond (not (has (v .present) m)) (cond (eqb x (v .own)) (leave Unconfirmed v) (departing times s (withSet (without (v .set) x) v))) (settle true s v)) (ap memberIn e)
+
+pub no-look : (s : ℕ) (v : Node) → departing 0 s v ≡ settle true s v
+unfolding departing
+no-look s v = refl
+
+-- one departure at the most
+depart-law : (s m back : ℕ) (v : Node) → decidedIn s v ≡ found.Member m back → Departed s m v (departing 1 s v)
+depart-law s m back v e =
+    subst (Departed s m v) (sym (look 0 s m back v e ∙ ap (λ (x : Node). cond (not (has (v .present) m)) (cond (eqb m (v .own)) (leave Unconfirmed v) x) (settle true s v)) (no-look s (withSet (without (v .set) m) v))))
+    (departed-law s m v)
 
 -- ---- a slot whose sender is in the set
 
@@ -131,10 +151,10 @@ pub data Inside (s m : ℕ) (r : Reading) (v w : Node) : Type 0 where
   missed : Gone v w → Inside s m r v w
   went : readReturn r v ≡ false → Departed s m (readMarked s r v) w → Inside s m r v w
 
-pub inside-law : (s m back : ℕ) (r : Reading) (v : Node) → decidedIn s v ≡ found.Member m back → Inside s m r v (insideSlot s r v)
+pub inside-law : (s m back : ℕ) (r : Reading) (v : Node) → decidedIn s v ≡ found.Member m back → Inside s m r v (insideSlot 1 s r v)
 unfolding insideSlot
 inside-law s m back r v e =
-    choose (λ (w : Node). Inside s m r v w) (readReturn r v) (leave MissedReturn v) (departing s (readMarked s r v))
+    choose (λ (w : Node). Inside s m r v w) (readReturn r v) (leave MissedReturn v) (departing 1 s (readMarked s r v))
     (λ f. missed (leave-law MissedReturn v))
     (λ f. went f (depart-law s m back (readMarked s r v) e))
 

@@ -6,7 +6,7 @@ use mathlib.Core.List.{List, [], _∷_}
 use lib.Dec.{eqb}
 use Rattle.bench.specs.Table.{Table, slotsOf}
 use Rattle.bench.specs.Calls.{transmits}
-use Rattle.bench.specs.Runs.{Call, slot, off, restart, tableAfter, isSlot, isListed, misses, failuresIn, Entry, newEntry, entry}
+use Rattle.bench.specs.Runs.{Call, slot, off, restart, tableAfter, isSlot, isListed, misses, failuresIn, Entry, newEntry, entryOn, entry}
 
 pub record Past : Type 0 where
   pub listed : Bool
@@ -50,7 +50,7 @@ new-is (off a) t = refl
 new-is (restart a) t = refl
 
 pub entry-is : (start : Table) (cs : List Call) (u : ℕ) → entry start cs u ≡ entryIn (past start cs u)
-unfolding entry past
+unfolding entryOn past
 entry-is start [] u = refl
 entry-is start (c ∷ cs) u = go (isSlot c (tableAfter start cs) && eqb u (slotsOf (tableAfter start cs) + 1)) (entry-is start cs u)
   where

@@ -113,7 +113,7 @@ module _ (W : World) where
           omega (arith, told-in-time W (D .u) (suc (D .e)) (omega (arith, D .ago, D .recent, B .late)) (D .recent) un, since-next W N (D .u) (D .e) (D .ago), D .exact, num-is lT)
 
       -- the decided member is marked exactly if its slot was sent
-      marked-is : has (v₁ .present) (sender n (D .u)) ≡ E (D .u) .sent
+      pub marked-is : has (v₁ .present) (sender n (D .u)) ≡ E (D .u) .sent
       marked-is = by-cases (E (D .u) .sent)
           (λ p. not-false (has (v₁ .present) (sender n (D .u))) (λ off. d-told (on-after W S T (D .u) (suc (D .e)) d-ago (D .recent) p (D .member) off .untold)) ∙ sym p)
           (λ p. not-true (has (v₁ .present) (sender n (D .u))) (λ on. d-told (off-after W S T (D .u) (suc (D .e)) d-ago (D .recent) (D .listed) p .on on .1)) ∙ sym p)

@@ -1,7 +1,7 @@
 -- A slot keeps the invariant of a table. Assumes nothing.
 use Prim.Native.Nat.{ℕ, suc, _+_, _^_, _≤_, _<_}
 use mathlib.Core.Path.{_≡_, refl, sym, ap, ap₂, _∙_, subst}
-use mathlib.Core.Logic.{_≢_}
+use mathlib.Core.Logic.{_≢_, inl, inr}
 use mathlib.Core.Bool.{Bool, true, false, cond, not, _&&_, _||_, false≢true}
 use native.Mathlib.Omega.{arith}
 use native.Mathlib.Decide.{ℕ-discrete}
@@ -25,6 +25,7 @@ use Rattle.node_record.proofs.Tracking.{tracks}
 use Rattle.node_changes.specs.Changes.{counted}
 use Rattle.node_steps.specs.Steps.{isHeard}
 use Rattle.node_steps.specs.Digests.{bitsHeard}
+use Rattle.node_steps.proofs.Cases.{slot-outside}
 use Rattle.node_sending.specs.Sending.{sends, markBits, bitsSent, returnSent}
 use Rattle.node_sending.proofs.Laws.{has-markBits}
 use Rattle.node_slot.specs.Slot.{afterSlot}
@@ -44,8 +45,9 @@ use Rattle.agreement.proofs.Listed.{Begins, Says, ListedSlot}
 use Rattle.agreement.proofs.Join.{Next}
 use Rattle.agreement.proofs.Outside.{OwnSlot}
 use Rattle.agreement.proofs.Rounds.{K′, k-next, next-lt, k′-listed, k′-outside, k-outside}
-use Rattle.agreement.proofs.Alike.{listening-only}
-use Rattle.agreement.proofs.Nodes.{NodeInv, HearsAny, listed-after, next-list, outside-after}
+use Rattle.agreement.proofs.Alike.{listening-only, as-many}
+use Rattle.agreement.proofs.Again.{second, Once}
+use Rattle.agreement.proofs.Nodes.{NodeInv, HearsAny, read-once, read-shrunk, listed-after, next-list, outside-after}
 use Rattle.bench.proofs.Counted.{step-done}
 use Rattle.bench.proofs.Runs.{heard-unless, after-slot-length, after-slot-record}
 use Rattle.agreement.proofs.Tables.{TableInv, Witness, witness, list-is, slots-at}
@@ -58,7 +60,7 @@ module _ (W : World) where
   module _ (N L : ℕ) (t : Table) (lost : Bool) (missed : ℕ) (inv : TableInv W N L t) (eq : E (suc N) ≡ pastOf lost missed t)
       (enough : k + 1 ≤ size n (listOf t)) (hears : AllHear n (slot lost missed 64) t)
       (good : (i : ℕ) → 1 ≤ i → i ≤ n → sound (recordOf t i) ≡ true) (below : slotsOf t < limit) where
-    abbrev s : ℕ
+    abbrev pub s : ℕ
     s = sender n (suc N)
 
     s-pos : 1 ≤ s
@@ -90,7 +92,7 @@ module _ (W : World) where
     sent-sends : E (suc N) .sent ≡ true → sends (recordOf t s) ≡ true
     sent-sends p = sym transmits-is ∙ sent-parts (transmits t) lost (sym sent-is ∙ p) .0
 
-    begins : Begins W N L
+    pub begins : Begins W N L
     begins = record { late = inv .late; kept = inv .kept; enough = rw (← list) (omega arith); small = inv .small }
 
     -- the sender transmits
@@ -101,7 +103,7 @@ module _ (W : World) where
     sender-inv p = inv .nodes s s-pos s-le .track (sender-tracks p)
 
     -- its message
-    abbrev message : Reading
+    abbrev pub message : Reading
     message = reading.Heard (bitsSent (recordOf t s)) (returnSent (recordOf t s))
 
     spoken-is : spoken t ≡ cond (transmits t) message unheard
@@ -109,7 +111,7 @@ module _ (W : World) where
     spoken-is = ap (λ (x : ℕ). cond (transmits t) (reading.Heard (bitsSent (recordOf t x)) (returnSent (recordOf t x))) unheard) speaker-is
 
     -- what node i hears
-    abbrev hd : ℕ → Reading
+    abbrev pub hd : ℕ → Reading
     hd i = cond (eqb s (recordOf t i .own)) unheard (cond (lost || has missed i) unheard (cond (transmits t) message unheard))
 
     heard-is : (i : ℕ) → isHeard (hd i) ≡ ((transmits t && (not lost && not (has missed i))) && not (eqb s (recordOf t i .own)))
@@ -154,7 +156,7 @@ module _ (W : World) where
             ∙ has-markBits (recordOf t s) k (suc j) (omega arith) (omega arith) (omega (arith, k-lt, n-most))
             ∙ ap (λ (f : Found). has (recordOf t s .present) (memberIn f)) (here (suc j) ∙ e .it)
 
-    says : has L s ≡ true → (i : ℕ) → isHeard (hd i) ≡ true → Says W N L (hd i)
+    pub says : has L s ≡ true → (i : ℕ) → isHeard (hd i) ≡ true → Says W N L (hd i)
     says onL i e = subst (λ (r : Reading). Says W N L r) (sym (heard-message i e)) (message-says onL (sym transmits-is ∙ sent))
       where
         parts : (a b c d : Bool) → ((a && (b && c)) && d) ≡ true → a ≡ true
@@ -171,7 +173,7 @@ module _ (W : World) where
         none : bitsSent (recordOf t s) ≡ 0
         none = otherwise _ _ (not-true (isMember (recordOf t s .state)) (λ q. no-both (sender-inv (sent-sends p) .own-in q) offL))
 
-    hears-any : (i : ℕ) → 1 ≤ i → i ≤ n → HearsAny W N i (recordOf t i) (hd i)
+    pub hears-any : (i : ℕ) → 1 ≤ i → i ≤ n → HearsAny W N i (recordOf t i) (hd i)
     unfolding misses
     hears-any i h l = record {
       own = own;
@@ -223,15 +225,19 @@ module _ (W : World) where
     abbrev after : Table
     after = tableAfterSlot lost missed t
 
+    -- what it is told is that
+    pub told-is : (i : ℕ) → cond (eqb s (recordOf t i .own)) unheard (heardBy lost missed t i) ≡ hd i
+    told-is i = ap (cond (eqb s (recordOf t i .own)) unheard) (heard-unless lost missed t i ∙ ap (cond (lost || has missed i) unheard) spoken-is)
+
     -- the node after the slot
-    node-after : (i : ℕ) → 1 ≤ i → i ≤ n → recordOf (tableAfterSlot lost missed t) i ≡ readIn (recordOf t i .state) s (hd i) (counted (recordOf t i))
+    node-after : (i : ℕ) → 1 ≤ i → i ≤ n → recordOf (tableAfterSlot lost missed t) i ≡ readIn n (recordOf t i .state) s (hd i) (counted (recordOf t i))
     node-after i h l =
         after-slot-record lost missed t i h (omega (arith, inv .len))
         ∙ ap (λ (x : Stepped). x .node) (step-done (heardBy lost missed t i) (recordOf t i) (good i h l) few)
         ∙ ap (λ (x : ℕ). afterSlot x (heardBy lost missed t i) (counted (recordOf t i))) its
         ∙ after-read s (heardBy lost missed t i) (counted (recordOf t i))
-        ∙ ap (λ (x : Reading). readIn (recordOf t i .state) s (cond (eqb s (recordOf t i .own)) unheard x) (counted (recordOf t i)))
-        (heard-unless lost missed t i ∙ ap (cond (lost || has missed i) unheard) spoken-is)
+        ∙ ap (λ (c : Cable). readIn (c .n) (recordOf t i .state) s (cond (eqb s (recordOf t i .own)) unheard (heardBy lost missed t i)) (counted (recordOf t i))) (nv .cable-is)
+        ∙ ap (λ (x : Reading). readIn n (recordOf t i .state) s x (counted (recordOf t i))) (told-is i)
       where
         nv : NodeInv W N L i (recordOf t i)
         nv = inv .nodes i h l
@@ -244,45 +250,70 @@ module _ (W : World) where
             let z : recordOf t i .slots + 1 + n ≡ suc N = omega (arith, nv .slots-is) in
             ap (λ (c : Cable). sender (c .n) (recordOf t i .slots + 1)) (nv .cable-is) ∙ sym (sender-period n n-pos (recordOf t i .slots + 1) (omega arith)) ∙ ap (sender n) z
 
-    len-after : length (tableAfterSlot lost missed t) ≡ n
+    pub len-after : length (tableAfterSlot lost missed t) ≡ n
     len-after = after-slot-length lost missed t ∙ inv .len
 
-    listed-table : (onL : has L s ≡ true) → k + 1 ≤ size n (listOf after) → TableInv W (suc N) (listOf after) after
-    listed-table onL ends = go (witness W after len-after (omega arith))
-      where
-        S : ListedSlot W
-        S = record { N = N; L = L; B = begins; lT = listed-is ∙ onL; onL = onL; D = decision W N L (inv .late) (inv .kept) (begins .enough) }
+    module _ (onL : has L (sender n (suc N)) ≡ true) where
+      -- the slot as one of a listed node
+      abbrev pub S : ListedSlot W
+      S = record { N = N; L = L; B = begins; lT = listed-is ∙ onL; onL = onL; D = decision W N L (inv .late) (inv .kept) (begins .enough) }
 
-        go : Witness W after → TableInv W (suc N) (listOf after) after
-        go x = done (rw (← (x .its)) at nx)
-          where
-            e : recordOf after (x .i) ≡ readIn (recordOf t (x .i) .state) s (hd (x .i)) (counted (recordOf t (x .i)))
-            e = node-after (x .i) (x .pos) (x .le)
+      -- in a slot that leaves k + 1 on the list nobody leaves but the member that is decided first
+      leaves-once : k + 1 ≤ size n (listOf after) → Once W S
+      leaves-once ends = by-cases (E (S .D .u) .sent) (λ p. inl p) (λ p. by-cases (E (second W S .u) .sent) (λ q. inr q) (λ q. absurd (too-few p q (witness W after len-after (omega arith)))))
+        where
+          too-few : E (S .D .u) .sent ≡ false → E (second W S .u) .sent ≡ false → Witness W after → ⊥
+          too-few p q x =
+              let e : recordOf after (x .i) ≡ readIn n (recordOf t (x .i) .state) s (hd (x .i)) (counted (recordOf t (x .i))) = node-after (x .i) (x .pos) (x .le) in
+              let small : size n (recordOf after (x .i) .set) ≤ k
+              = subst (λ (y : Node). isMember (y .state) ≡ true → size n (y .set) ≤ k) (sym e)
+              (read-shrunk W S (hd (x .i)) (says onL (x .i)) (x .i) (x .pos) (x .le) (recordOf t (x .i)) (inv .nodes (x .i) (x .pos) (x .le)) (hears-any (x .i) (x .pos) (x .le)) p q)
+              (x .member) in
+              omega (arith, ap (size n) (x .its))
 
-            nx : Next W S (recordOf after (x .i) .set)
-            nx = subst (λ (y : Node). isMember (y .state) ≡ true → Next W S (y .set)) (sym e)
-                (next-list W S (hd (x .i)) (says onL (x .i)) (x .i) (x .pos) (x .le) (recordOf t (x .i)) (inv .nodes (x .i) (x .pos) (x .le)) (hears-any (x .i) (x .pos) (x .le)))
-                (x .member)
+      -- then it is the slot with one departure
+      pub node-once : Once W S → (i : ℕ) → 1 ≤ i → i ≤ n → recordOf (tableAfterSlot lost missed t) i ≡ readIn 1 (recordOf t i .state) s (hd i) (counted (recordOf t i))
+      node-once o i h l = node-after i h l ∙ read-once W S (hd i) (says onL i) i h l (recordOf t i) (inv .nodes i h l) (hears-any i h l) o
 
-            done : Next W S (listOf after) → TableInv W (suc N) (listOf after) after
-            done nx′ = record {
-              len = len-after;
-              late = omega (arith, inv .late);
-              kept = κ;
-              kept′ = κ′;
-              small = sm;
-              nodes = λ i h l. subst (λ (y : Node). NodeInv W (suc N) (listOf after) i y) (sym (node-after i h l))
-                  (listed-after W S (hd i) (says onL i) i h l (recordOf t i) (inv .nodes i h l) (hears-any i h l) (listOf after) nx′ κ κ′ sm);
-            }
-              where
-                κ : K W (suc N) (listOf after)
-                κ = k-next W S (listOf after) nx′
+      listed-table : k + 1 ≤ size n (listOf after) → TableInv W (suc N) (listOf after) after
+      listed-table ends = go (leaves-once ends) (witness W after len-after (omega arith))
+        where
+          go : Once W S → Witness W after → TableInv W (suc N) (listOf after) after
+          go o x = done (rw (← (x .its)) at nx)
+            where
+              e : recordOf after (x .i) ≡ readIn 1 (recordOf t (x .i) .state) s (hd (x .i)) (counted (recordOf t (x .i)))
+              e = node-once o (x .i) (x .pos) (x .le)
 
-                κ′ : K′ W (suc N)
-                κ′ = k′-listed W N L begins onL (inv .kept′)
+              nx : Next W S (recordOf after (x .i) .set)
+              nx = subst (λ (y : Node). isMember (y .state) ≡ true → Next W S (y .set)) (sym e)
+                  (next-list W S (hd (x .i)) (says onL (x .i)) (x .i) (x .pos) (x .le) (recordOf t (x .i)) (inv .nodes (x .i) (x .pos) (x .le)) (hears-any (x .i) (x .pos) (x .le)))
+                  (x .member)
 
-                sm : listOf after < 2 ^ n
-                sm = next-lt W S (listOf after) nx′
+              done : Next W S (listOf after) → TableInv W (suc N) (listOf after) after
+              done nx′ = record {
+                len = len-after;
+                late = omega (arith, inv .late);
+                kept = κ;
+                kept′ = κ′;
+                small = sm;
+                nodes = λ i h l. subst (λ (y : Node). NodeInv W (suc N) (listOf after) i y) (sym (node-once o i h l))
+                    (listed-after W S (hd i) (says onL i) i h l (recordOf t i) (inv .nodes i h l) (hears-any i h l) (listOf after) nx′ κ κ′ sm);
+              }
+                where
+                  κ : K W (suc N) (listOf after)
+                  κ = k-next W S (listOf after) nx′
+
+                  κ′ : K′ W (suc N)
+                  κ′ = k′-listed W N L begins onL (inv .kept′)
+
+                  sm : listOf after < 2 ^ n
+                  sm = next-lt W S (listOf after) nx′
+
+    -- outside the list nobody is decided, however often
+    pub node-outside : has L (sender n (suc N)) ≡ false → (i : ℕ) → 1 ≤ i → i ≤ n → recordOf (tableAfterSlot lost missed t) i ≡ readIn 1 (recordOf t i .state) s (hd i) (counted (recordOf t i))
+    node-outside offL i h l = node-after i h l ∙ as-many n 1 s (hd i) (recordOf t i) (λ tr.
+        let off : has (recordOf t i .set) s ≡ false = ap (λ (y : ℕ). has y s) (inv .nodes i h l .track tr .set-is) ∙ offL in
+        slot-outside n s (hd i) (counted (recordOf t i)) off ∙ sym (slot-outside 1 s (hd i) (counted (recordOf t i)) off))
 
     outside-table : (offL : has L s ≡ false) → TableInv W (suc N) L after
     outside-table offL = record {
@@ -291,7 +322,7 @@ module _ (W : World) where
       kept = κ;
       kept′ = κ′;
       small = inv .small;
-      nodes = λ i h l. subst (λ (y : Node). NodeInv W (suc N) L i y) (sym (node-after i h l))
+      nodes = λ i h l. subst (λ (y : Node). NodeInv W (suc N) L i y) (sym (node-outside offL i h l))
           (outside-after W N L begins lT offL i h (recordOf t i) (inv .nodes i h l) (hd i) (hears-any i h l) (own-slot i) (knock-bits offL i) κ κ′ (inv .small));
     }
       where

@@ -65,6 +65,32 @@ OnAll n t x = (i : ℕ) → MemberAt n t i → has (recordOf t i .set) x ≡ tru
 abbrev pub OffAll : ℕ → Table → ℕ → Type 0
 OffAll n t x = (i : ℕ) → MemberAt n t i → has (recordOf t i .set) x ≡ false
 
+-- ---- the premises, of a run that gives the table after any of the calls
+
+module _ (cable : Cable) (run : List Call → Table) where
+  open Cable cable using (n, k)
+
+  -- What slot u was among the calls.
+  abbrev entryAt : List Call → ℕ → Entry
+  entryAt cs u = runs.entryOn run cs u
+
+  -- "It keeps k + 1 members if there is such a node and its set holds that many as each slot begins and as it ends." (Where there is none the list is empty.)
+  unfoldable pub KeepsListOn : Call → List Call → Type 0
+  KeepsListOn c cs = isSlot c (run cs) ≡ true → (k + 1 ≤ size n (listOf (run cs))) × (k + 1 ≤ size n (listOf (run (c ∷ cs))))
+
+  -- "Hears everything", in each slot.
+  unfoldable pub HearEverythingOn : Call → List Call → Type 0
+  HearEverythingOn c cs = isSlot c (run cs) ≡ true → AllHear n c (run cs)
+
+  -- "Any n slots in a row" are the slots a + 1 to a + n, for each a: "all the slots where fewer than n have run", since in a slot that did not run nothing fails.
+  pub record PremisesOn (cs : List Call) : Type 0 where
+    -- at most k - 1 failures in any n slots in a row
+    pub few-failures : (a : ℕ) → sum (λ u. entryAt cs u .failures) (suc a) n ≤ k - 1
+    -- at most one transmission from outside the list in any n slots in a row
+    pub one-outside : (a : ℕ) → sum (λ u. num (entryAt cs u .outside)) (suc a) n ≤ 1
+    pub list-kept : AtEach KeepsListOn cs
+    pub all-heard : AtEach HearEverythingOn cs
+
 -- ---- of the calls from a start
 
 module _ (cable : Cable) (start : Table) where
@@ -77,26 +103,15 @@ module _ (cable : Cable) (start : Table) where
   abbrev entry : List Call → ℕ → Entry
   entry cs u = runs.entry start cs u
 
-  -- ---- the premises
+  -- The premises of demand 3, on the tables that the calls leave.
+  abbrev pub KeepsList : Call → List Call → Type 0
+  KeepsList c cs = KeepsListOn cable (runs.tableAfter start) c cs
 
-  -- "It keeps k + 1 members if there is such a node and its set holds that many as each slot begins and as it ends." (Where there is none the list is empty.)
-  unfoldable pub KeepsList : Call → List Call → Type 0
-  KeepsList c cs =
-      isSlot c (tableAfter cs) ≡ true
-      → (k + 1 ≤ size n (listOf (tableAfter cs))) × (k + 1 ≤ size n (listOf (tableAfter (c ∷ cs))))
+  abbrev pub HearEverything : Call → List Call → Type 0
+  HearEverything c cs = HearEverythingOn cable (runs.tableAfter start) c cs
 
-  -- "Hears everything", in each slot.
-  unfoldable pub HearEverything : Call → List Call → Type 0
-  HearEverything c cs = isSlot c (tableAfter cs) ≡ true → AllHear n c (tableAfter cs)
-
-  -- "Any n slots in a row" are the slots a + 1 to a + n, for each a: "all the slots where fewer than n have run", since in a slot that did not run nothing fails.
-  pub record Premises (cs : List Call) : Type 0 where
-    -- at most k - 1 failures in any n slots in a row
-    pub few-failures : (a : ℕ) → sum (λ u. entry cs u .failures) (suc a) n ≤ k - 1
-    -- at most one transmission from outside the list in any n slots in a row
-    pub one-outside : (a : ℕ) → sum (λ u. num (entry cs u .outside)) (suc a) n ≤ 1
-    pub list-kept : AtEach KeepsList cs
-    pub all-heard : AtEach HearEverything cs
+  abbrev pub Premises : List Call → Type 0
+  Premises cs = PremisesOn cable (runs.tableAfter start) cs
 
   -- ---- the deciding slot
 

@@ -1,2 +1,3 @@
 pub mod Demand
 pub mod Distance
+pub mod Repeated

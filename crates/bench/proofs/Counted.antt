@@ -1,15 +1,13 @@
 -- The calls on a record keep its cable and own number; a slot counts one, off and restart count none (node's specs/Calls). Assumes nothing.
-use Prim.Native.Nat.{ℕ, _+_, _<_}
+use Prim.Native.Nat.{ℕ, zero, suc, _+_, _<_}
 use mathlib.Core.Path.{_≡_, refl, sym, ap, subst, _∙_}
 use mathlib.Core.Bool.{Bool, true, false, cond, not, _&&_}
 use lib.Dec.{eqb, ltb}
 use borrow.Author.Tests.{lt-leb}
 use Rattle.nodeset.specs.Sets.{has, without}
 use Rattle.nodeset.proofs.Tests.{chosen, otherwise}
-use Rattle.ring.specs.declared.Found.{Found}
-use Rattle.ring.specs.declared.Found.the-variants as found
 use Rattle.ring.specs.declared.Cable.{Cable}
-use Rattle.ring.specs.Ring.{sender}
+use Rattle.ring.specs.Ring.{memberIn, sender}
 use Rattle.message.specs.declared.Reading.{Reading}
 use Rattle.node_record.specs.declared.Node.{Node}
 use Rattle.node_record.specs.declared.Window.{Window}
@@ -21,8 +19,8 @@ use Rattle.node_record.specs.States.{isMember, isFollowing, isKnocking, isOut}
 use Rattle.node_record.specs.Soundness.{limit, sound}
 use Rattle.node_record.specs.Sponsoring.{decidedIn}
 use Rattle.node_changes.specs.Changes.{listeningAfter, followingWith, withWindow, outFor, fresh, leave, counted, withSet, withReturning}
-use Rattle.node_steps.specs.Steps.{isHeard, noted, tooFew, nothingHeard, joins, joined, join, settle}
-use Rattle.node_steps.specs.Inner.{readReturn, readMarked, judged, departs, departing, insideSlot, outsideSlot, slotByCases}
+use Rattle.node_steps.specs.Steps.{isHeard, noted, leaves, tooFew, nothingHeard, joins, joined, join, settle}
+use Rattle.node_steps.specs.Inner.{readReturn, readMarked, departing, insideSlot, outsideSlot, slotByCases}
 use Rattle.node_hearing.specs.Hearing.{overheard, clean, windowEnd, goesOn, listeningBy}
 use Rattle.node.specs.declared.Stepped.{Stepped}
 use Rattle.node_slot.specs.Slot.{afterSlot}
@@ -70,25 +68,23 @@ settle-same inside s v =
     (λ _. leave-same NothingHeard v)
     (λ _. choose (λ (w : Node). Same v w) (inside && joins s v) (join v) v (λ _. join-same v) (λ _. same v _ refl refl refl)))
 
-judged-same : (s m : ℕ) (v : Node) → Same v (judged s m v)
-unfolding judged
-judged-same s m v =
-    choose (λ (w : Node). Same v w) (has (v .present) m) (settle true s v) (cond (eqb m (v .own)) (leave Unconfirmed v) (settle true s (withSet (without (v .set) m) v)))
-    (λ _. settle-same true s v)
-    (λ _. choose (λ (w : Node). Same v w) (eqb m (v .own)) (leave Unconfirmed v) (settle true s (withSet (without (v .set) m) v))
+departing-same : (times s : ℕ) (v : Node) → Same v (departing times s v)
+unfolding departing
+departing-same zero s v = settle-same true s v
+departing-same (suc times) s v =
+    let m = memberIn (decidedIn s v) in
+    choose (λ (w : Node). Same v w) (leaves s v m) (cond (eqb m (v .own)) (leave Unconfirmed v) (departing times s (withSet (without (v .set) m) v))) (settle true s v)
+    (λ _. choose (λ (w : Node). Same v w) (eqb m (v .own)) (leave Unconfirmed v) (departing times s (withSet (without (v .set) m) v))
     (λ _. leave-same Unconfirmed v)
-    (λ _. settle-same true s (withSet (without (v .set) m) v)))
+    (λ _. departing-same times s (withSet (without (v .set) m) v)))
+    (λ _. settle-same true s v)
 
-departs-same : (s : ℕ) (f : Found) (v : Node) → Same v (departs s f v)
-departs-same s (found.Member m back) v = judged-same s m v
-departs-same s found.Nobody v = settle-same true s v
-
-inside-same : (s : ℕ) (r : Reading) (v : Node) → Same v (insideSlot s r v)
+inside-same : (times s : ℕ) (r : Reading) (v : Node) → Same v (insideSlot times s r v)
 unfolding insideSlot
-inside-same s r v =
-    choose (λ (w : Node). Same v w) (readReturn r v) (leave MissedReturn v) (departing s (readMarked s r v))
+inside-same times s r v =
+    choose (λ (w : Node). Same v w) (readReturn r v) (leave MissedReturn v) (departing times s (readMarked s r v))
     (λ _. leave-same MissedReturn v)
-    (λ _. departs-same s (decidedIn s v) (readMarked s r v))
+    (λ _. departing-same times s (readMarked s r v))
 
 noted-same : (s : ℕ) (r : Reading) (v : Node) → Same v (noted s r v)
 unfolding noted
@@ -103,9 +99,9 @@ outside-same : (s : ℕ) (r : Reading) (v : Node) → Same v (outsideSlot s r v)
 unfolding outsideSlot
 outside-same s r v = same-then v (noted s r v) (settle false s (noted s r v)) (noted-same s r v) (settle-same false s (noted s r v))
 
-by-cases-same : (s : ℕ) (r : Reading) (v : Node) → Same v (slotByCases s r v)
+by-cases-same : (times s : ℕ) (r : Reading) (v : Node) → Same v (slotByCases times s r v)
 unfolding slotByCases
-by-cases-same s r v = choose (λ (w : Node). Same v w) (has (v .set) s) (insideSlot s r v) (outsideSlot s r v) (λ _. inside-same s r v) (λ _. outside-same s r v)
+by-cases-same times s r v = choose (λ (w : Node). Same v w) (has (v .set) s) (insideSlot times s r v) (outsideSlot s r v) (λ _. inside-same times s r v) (λ _. outside-same s r v)
 
 -- ---- a slot of a listening node
 
@@ -125,15 +121,15 @@ listening-same s r v = go (overheard s r (v .listening))
 
 -- ---- the calls
 
+pub read-same : (times : ℕ) (st : State) (s : ℕ) (r : Reading) (v : Node) → Same v (readIn times st s r v)
+read-same times Member s r v = by-cases-same times s r v
+read-same times Listening s r v = listening-same s r v
+read-same times Following s r v = by-cases-same times s r v
+read-same times Knocking s r v = by-cases-same times s r v
+read-same times (Out cause) s r v = same v v refl refl refl
+
 pub after-slot-same : (s : ℕ) (r : Reading) (v : Node) → Same v (afterSlot s r v)
-after-slot-same s r v = subst (Same v) (sym (after-read s r v)) (go (v .state) (heardFrom s r v))
-  where
-    go : (st : State) (told : Reading) → Same v (readIn st s told v)
-    go Member told = by-cases-same s told v
-    go Listening told = listening-same s told v
-    go Following told = by-cases-same s told v
-    go Knocking told = by-cases-same s told v
-    go (Out cause) told = same v v refl refl refl
+after-slot-same s r v = subst (Same v) (sym (after-read s r v)) (read-same (v .cable .n) (v .state) s (heardFrom s r v) v)
 
 -- a slot that is not refused
 pub step-done : (r : Reading) (v : Node) → sound v ≡ true → v .slots < limit → stepOf r v ≡ done (afterSlot (sender (v .cable .n) (v .slots + 1)) r (counted v))

@@ -1,6 +1,6 @@
 -- A slot changes no state but in the ways that have a kind (specs/Pairs): after the node call `step` a record has the state that it had, or the change is
 -- of kind 1 to 6. So no pair of a slot has kind 0. It holds of every record; one that is not sound is left as it was. Assumes nothing.
-use Prim.Native.Nat.{ℕ, _+_, _≤_}
+use Prim.Native.Nat.{ℕ, zero, suc, _+_, _≤_}
 use mathlib.Core.Path.{_≡_, refl, sym, ap, ap₂, subst, _∙_}
 use mathlib.Core.Bool.{Bool, true, false, cond, not, _&&_, _||_, true≢false}
 use mathlib.Core.Logic.{_⊎_, inl, inr}
@@ -8,9 +8,7 @@ use native.Mathlib.Omega.{arith}
 use lib.Dec.{eqb, leb, ltb}
 use Rattle.nodeset.specs.Sets.{has, without, size}
 use Rattle.nodeset.proofs.Tests.{both}
-use Rattle.ring.specs.Ring.{sender}
-use Rattle.ring.specs.declared.Found.{Found}
-use Rattle.ring.specs.declared.Found.the-variants as found
+use Rattle.ring.specs.Ring.{sender, memberIn}
 use Rattle.message.specs.declared.Reading.{Reading}
 use Rattle.node_record.specs.declared.Node.{Node}
 use Rattle.node_record.specs.declared.Cause.{Cause}
@@ -21,8 +19,8 @@ use Rattle.node_record.specs.States.{isMember, isListening, isFollowing, isKnoc
 use Rattle.node_record.specs.Soundness.{sound, limit}
 use Rattle.node_record.specs.Sponsoring.{decidedIn}
 use Rattle.node_changes.specs.Changes.{outFor, fresh, leave, counted, withSet, withReturning}
-use Rattle.node_steps.specs.Steps.{isHeard, nothingHeard, joins, stateOnList, noted, join, settle}
-use Rattle.node_steps.specs.Inner.{readReturn, readMarked, judged, departs, insideSlot, outsideSlot, slotByCases}
+use Rattle.node_steps.specs.Steps.{isHeard, nothingHeard, joins, stateOnList, noted, leaves, join, settle}
+use Rattle.node_steps.specs.Inner.{readReturn, readMarked, departing, insideSlot, outsideSlot, slotByCases}
 use Rattle.node_hearing.specs.Hearing.{clean, windowEnd, overheard, goesOn, listeningBy}
 use Rattle.node.specs.declared.Stepped.{Stepped}
 use Rattle.node_slot.specs.Slot.{afterSlot}
@@ -123,20 +121,19 @@ settle-ok a inside s v t e =
 
 -- ---- a slot of a node that tracks the list
 
-judged-ok : (a : State) (s m : ℕ) (v : Node) → tracked a ≡ true → v .state ≡ a → Ok a (judged s m v)
-unfolding judged
-judged-ok a s m v t e =
-    ways (Ok a) (has (v .present) m) (settle-ok a true s v t e)
-    (ways (Ok a) (eqb m (v .own)) (leave-ok a Unconfirmed v t e) (settle-ok a true s (withSet (without (v .set) m) v) t e))
+departing-ok : (a : State) (times s : ℕ) (v : Node) → tracked a ≡ true → v .state ≡ a → Ok a (departing times s v)
+unfolding departing
+departing-ok a zero s v t e = settle-ok a true s v t e
+departing-ok a (suc times) s v t e =
+    let m = memberIn (decidedIn s v) in
+    ways (Ok a) (leaves s v m)
+    (ways (Ok a) (eqb m (v .own)) (leave-ok a Unconfirmed v t e) (departing-ok a times s (withSet (without (v .set) m) v) t e))
+    (settle-ok a true s v t e)
 
-departs-ok : (a : State) (s : ℕ) (f : Found) (v : Node) → tracked a ≡ true → v .state ≡ a → Ok a (departs s f v)
-departs-ok a s (found.Member m back) v t e = judged-ok a s m v t e
-departs-ok a s found.Nobody v t e = settle-ok a true s v t e
-
-inside-ok : (a : State) (s : ℕ) (heard : Reading) (v : Node) → tracked a ≡ true → v .state ≡ a → Ok a (insideSlot s heard v)
+inside-ok : (a : State) (times s : ℕ) (heard : Reading) (v : Node) → tracked a ≡ true → v .state ≡ a → Ok a (insideSlot times s heard v)
 unfolding insideSlot
-inside-ok a s heard v t e =
-    ways (Ok a) (readReturn heard v) (leave-ok a MissedReturn v t e) (departs-ok a s (decidedIn s v) (readMarked s heard v) t e)
+inside-ok a times s heard v t e =
+    ways (Ok a) (readReturn heard v) (leave-ok a MissedReturn v t e) (departing-ok a times s (readMarked s heard v) t e)
 
 -- a follower may knock first
 outside-ok : (a : State) (s : ℕ) (heard : Reading) (v : Node) → tracked a ≡ true → v .state ≡ a → Ok a (outsideSlot s heard v)
@@ -161,9 +158,9 @@ outside-ok a s heard v t e =
         ap₂ allowed is (settle-state false s w) ∙ knocked-ok (ltb (size (w .cable .n) (w .set)) 2) (nothingHeard w) (w .«return_heard»)
     knocks false h = settle-ok a false s v t e
 
-tracking-ok : (a : State) (s : ℕ) (heard : Reading) (v : Node) → tracked a ≡ true → v .state ≡ a → Ok a (slotByCases s heard v)
+tracking-ok : (a : State) (times s : ℕ) (heard : Reading) (v : Node) → tracked a ≡ true → v .state ≡ a → Ok a (slotByCases times s heard v)
 unfolding slotByCases
-tracking-ok a s heard v t e = ways (Ok a) (has (v .set) s) (inside-ok a s heard v t e) (outside-ok a s heard v t e)
+tracking-ok a times s heard v t e = ways (Ok a) (has (v .set) s) (inside-ok a times s heard v t e) (outside-ok a s heard v t e)
 
 -- ---- any slot
 
@@ -183,11 +180,11 @@ stays (Out cause) = refl
 slot-ok : (s : ℕ) (heard : Reading) (v : Node) → Ok (v .state) (afterSlot s heard v)
 slot-ok s heard v = subst (Ok (v .state)) (sym (after-read s heard v)) (go (v .state) refl)
   where
-    go : (a : State) → v .state ≡ a → Ok a (readIn a s (heardFrom s heard v) v)
-    go Member e = tracking-ok Member s (heardFrom s heard v) v refl e
+    go : (a : State) → v .state ≡ a → Ok a (readIn (v .cable .n) a s (heardFrom s heard v) v)
+    go Member e = tracking-ok Member (v .cable .n) s (heardFrom s heard v) v refl e
     go Listening e = listening-ok s (heardFrom s heard v) v e
-    go Following e = tracking-ok Following s (heardFrom s heard v) v refl e
-    go Knocking e = tracking-ok Knocking s (heardFrom s heard v) v refl e
+    go Following e = tracking-ok Following (v .cable .n) s (heardFrom s heard v) v refl e
+    go Knocking e = tracking-ok Knocking (v .cable .n) s (heardFrom s heard v) v refl e
     go (Out cause) e = ap (allowed (Out cause)) e
 
 step-ok : (heard : Reading) (v : Node) → Ok (v .state) (stepOf heard v .node)

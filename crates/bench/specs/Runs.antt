@@ -85,14 +85,15 @@ newEntry (restart a) t = noEntry
 
 -- ---- a sequence of calls
 
-module _ (start : Table) where
-  -- "The first gets the table that set-up leaves (the common start), each later one the table as the last call left it".
-  unfoldable pub tableAfter : List Call → Table
-  tableAfter [] = start
-  tableAfter (c ∷ cs) = callOf c (tableAfter cs) .table
+-- "The first gets the table that set-up leaves (the common start), each later one the table as the last call left it".
+unfoldable pub tableAfter : Table → List Call → Table
+tableAfter start [] = start
+tableAfter start (c ∷ cs) = callOf c (tableAfter start cs) .table
 
-  -- What slot u was.
-  unfoldable pub entry : List Call → ℕ → Entry
-  entry [] u = noEntry
-  entry (c ∷ cs) u =
-      cond (isSlot c (tableAfter cs) && eqb u (slotsOf (tableAfter cs) + 1)) (newEntry c (tableAfter cs)) (entry cs u)
+-- What slot u was among the calls, where `run` gives the table after any of them.
+unfoldable pub entryOn : (List Call → Table) → List Call → ℕ → Entry
+entryOn run [] u = noEntry
+entryOn run (c ∷ cs) u = cond (isSlot c (run cs) && eqb u (slotsOf (run cs) + 1)) (newEntry c (run cs)) (entryOn run cs u)
+
+abbrev pub entry : Table → List Call → ℕ → Entry
+entry start cs u = entryOn (tableAfter start) cs u

@@ -54,7 +54,7 @@ pub heard-told : (own : Bool) (heard told : Reading) → (isHeard told ≡ true 
 heard-told true heard told h e = absurd (true≢false (sym e))
 heard-told false heard told h e = h e
 
-by-state : (x : State) (s : ℕ) (r : Reading) (v t : Node) → t ≡ slotByCases s r v → cond (isOut x) v (cond (isListening x) (listeningBy s r v) t) ≡ readIn x s r v
+by-state : (x : State) (s : ℕ) (r : Reading) (v t : Node) → t ≡ slotByCases (v .cable .n) s r v → cond (isOut x) v (cond (isListening x) (listeningBy s r v) t) ≡ readIn (v .cable .n) x s r v
 by-state Member s r v t e = e
 by-state Listening s r v t e = refl
 by-state Following s r v t e = e

@@ -3,6 +3,7 @@ use Prim.Native.Nat.{ℕ}
 use mathlib.Core.Path.{_≡_, refl, sym, ap, _∙_}
 use mathlib.Core.Logic.{_≢_}
 use lib.Dec.{eqb}
+use Rattle.nodeset.specs.Sets.{has}
 use borrow.Author.Tests.{eqb-false}
 use Rattle.nodeset.proofs.Tests.{by-cases, otherwise}
 use Rattle.message.specs.declared.Reading.{Reading}
@@ -11,7 +12,7 @@ use Rattle.message.proofs.From.{FromOther}
 use Rattle.node_record.specs.declared.Node.{Node}
 use Rattle.node_record.specs.declared.State.{State}
 use Rattle.node_record.specs.declared.State.the-variants.{Member, Listening, Following, Knocking, Out}
-use Rattle.node_steps.specs.Steps.{trackingSlot}
+use Rattle.node_steps.specs.Steps.{settle, slotWith, trackingSlot}
 use Rattle.node_steps.specs.Inner.{slotByCases}
 use Rattle.node_steps.proofs.Cases.{slot-by-cases, slot-ignores}
 use Rattle.node_hearing.specs.Hearing.{listeningSlot, listeningBy}
@@ -27,25 +28,29 @@ from-other s heard v = by-cases (eqb s (v .own)) (λ e. rw e tt) (λ e. rw e (go
     go (reading.Refused r) d = tt
 
 -- a message handed over in the own slot is ignored
-tracking-read : (s : ℕ) (heard : Reading) (v : Node) → trackingSlot s heard v ≡ slotByCases s (heardFrom s heard v) v
-tracking-read s heard v =
+pub slot-read : (times s : ℕ) (heard : Reading) (v : Node) → slotWith times s heard v ≡ slotByCases times s (heardFrom s heard v) v
+slot-read times s heard v =
     by-cases (eqb s (v .own))
-    (λ e. slot-ignores s heard (heardFrom s heard v) v e)
-    (λ e. ap (λ (r : Reading). trackingSlot s r v) (sym (otherwise _ heard e)))
-    ∙ slot-by-cases s (heardFrom s heard v) v (from-other s heard v)
+    (λ e. slot-ignores (settle (has (v .set) s) s) times s heard (heardFrom s heard v) v e)
+    (λ e. ap (λ (r : Reading). slotWith times s r v) (sym (otherwise _ heard e)))
+    ∙ slot-by-cases times s (heardFrom s heard v) v (from-other s heard v)
 
-listening-read : (s : ℕ) (heard : Reading) (v : Node) → listeningSlot s heard v ≡ listeningBy s (heardFrom s heard v) v
+tracking-read : (s : ℕ) (heard : Reading) (v : Node) → trackingSlot s heard v ≡ slotByCases (v .cable .n) s (heardFrom s heard v) v
+unfolding trackingSlot
+tracking-read s heard v = slot-read (v .cable .n) s heard v
+
+pub listening-read : (s : ℕ) (heard : Reading) (v : Node) → listeningSlot s heard v ≡ listeningBy s (heardFrom s heard v) v
 listening-read s heard v =
     by-cases (eqb s (v .own))
     (λ e. listening-ignores s heard (heardFrom s heard v) v e)
     (λ e. ap (λ (r : Reading). listeningSlot s r v) (sym (otherwise _ heard e)))
     ∙ listening-is s (heardFrom s heard v) v (from-other s heard v)
 
-pub after-read : (s : ℕ) (heard : Reading) (v : Node) → afterSlot s heard v ≡ readIn (v .state) s (heardFrom s heard v) v
+pub after-read : (s : ℕ) (heard : Reading) (v : Node) → afterSlot s heard v ≡ readIn (v .cable .n) (v .state) s (heardFrom s heard v) v
 unfolding afterSlot
 after-read s heard v = go (v .state)
   where
-    go : (x : State) → slotIn x s heard v ≡ readIn x s (heardFrom s heard v) v
+    go : (x : State) → slotIn x s heard v ≡ readIn (v .cable .n) x s (heardFrom s heard v) v
     go Member = tracking-read s heard v
     go Listening = listening-read s heard v
     go Following = tracking-read s heard v

@@ -22,10 +22,10 @@ after-slot-sound s heard v a b e = ap sound (after-read s heard v) ∙ go (v .st
     told : Reading
     told = heardFrom s heard v
 
-    track : tracks (v .state) ≡ true → sound (slotByCases s told v) ≡ true
-    track t = slot-sound s told v b (sound-tracking v e t)
+    track : tracks (v .state) ≡ true → sound (slotByCases (v .cable .n) s told v) ≡ true
+    track t = slot-sound (v .cable .n) s told v b (sound-tracking v e t)
 
-    go : (t : State) → v .state ≡ t → sound (readIn t s told v) ≡ true
+    go : (t : State) → v .state ≡ t → sound (readIn (v .cable .n) t s told v) ≡ true
     go Member q = track (ap tracks q)
     go Listening q = listening-slot-sound s told v a b (from-other s heard v) e (ap isListening q)
     go Following q = track (ap tracks q)

@@ -18,13 +18,13 @@ use Rattle.node_hearing.specs.Hearing.{listeningBy}
 abbrev pub heardFrom : ℕ → Reading → Node → Reading
 heardFrom s heard v = cond (eqb s (v .own)) (Refused MessageLength) heard
 
--- The slot of a node in a state, by such a reading.
-abbrev pub readIn : State → ℕ → Reading → Node → Node
-readIn Member s heard v = slotByCases s heard v
-readIn Listening s heard v = listeningBy s heard v
-readIn Following s heard v = slotByCases s heard v
-readIn Knocking s heard v = slotByCases s heard v
-readIn (Out cause) s heard v = v
+-- The slot of a node in a state, by such a reading and with so many departure steps.
+abbrev pub readIn : ℕ → State → ℕ → Reading → Node → Node
+readIn times Member s heard v = slotByCases times s heard v
+readIn times Listening s heard v = listeningBy s heard v
+readIn times Following s heard v = slotByCases times s heard v
+readIn times Knocking s heard v = slotByCases times s heard v
+readIn times (Out cause) s heard v = v
 
 -- The slot by a digest.
 unfoldable pub afterBy : Digest → ℕ → Reading → Node → Node

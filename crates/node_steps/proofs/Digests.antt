@@ -3,33 +3,34 @@
 use Prim.Native.Nat.{ℕ, zero, suc, _^_, _≤_, _<_}
 use mathlib.Core.Path.{_≡_, refl, sym, ap, ap₂, _∙_}
 use mathlib.Core.Logic.{_≢_}
-use mathlib.Core.Bool.{Bool, true, false, cond, not, _&&_, _||_, and-false, or-true, or-false, or-assoc}
+use mathlib.Core.Bool.{Bool, true, false, cond, not, _&&_, _||_, and-false, or-true, or-false, or-assoc, true≢false}
 use native.Mathlib.Omega.{arith}
 use lib.Dec.{eqb}
 use lib.Bits.{or-zero-r}
-use borrow.Author.Tests.{eqb-true, eqb-false, ne-eqb}
+use borrow.Author.Tests.{eqb-true, eqb-false, eq-eqb, ne-eqb}
 use Rattle.nodeset.specs.Sets.{has, with, without, union}
-use Rattle.nodeset.proofs.Tests.{by-cases, chosen, otherwise, eqb-swap}
+use Rattle.nodeset.proofs.Tests.{by-cases, chosen, otherwise}
 use Rattle.nodeset.proofs.Bits.{has-none}
 use Rattle.nodeset.proofs.Laws.{has-with, has-with-other, with-lt-32, union-with}
 use Rattle.ring.specs.declared.Cable.{Cable}
 use Rattle.ring.specs.declared.Found.{Found}
 use Rattle.ring.specs.declared.Found.the-variants as found
-use Rattle.ring.specs.Ring.{sponsored, decided, memberIn, isFound}
+use Rattle.ring.specs.Ring.{sponsors, sponsored, decided, memberIn, isFound}
+use Rattle.ring.proofs.Members.{sponsored-member}
 use Rattle.message.specs.declared.Reading.{Reading}
 use Rattle.message.specs.declared.Reading.the-variants as reading
 use Rattle.message.proofs.From.{FromOther}
 use Rattle.node_record.specs.declared.Node.{Node}
-use Rattle.node_record.specs.declared.State.the-variants.{Knocking}
 use Rattle.node_record.specs.declared.Cause.the-variants.{Unconfirmed, MissedReturn}
-use Rattle.node_record.specs.States.{isFollowing}
+use Rattle.node_record.specs.States.{leavingCause}
 use Rattle.node_record.specs.Sponsoring.{sponsorsIn, sponsoredIn, decidedIn}
-use Rattle.node_changes.specs.Changes.{leave, withSet, withReturning}
+use Rattle.node_changes.specs.Changes.{leave, withSet}
 use Rattle.node_steps.specs.declared.Said.{Said}
 use Rattle.node_steps.specs.declared.Effect.{Effect}
-use Rattle.node_steps.specs.Steps.{isHeard, returnIn, confirmed, saysSo, says, hearsNo, hearsYes, heardMarks, marksAfter, yesAfter, noted, settle}
-use Rattle.node_steps.specs.Inner.{readMarked, judged, departs, insideSlot, outsideSlot, slotByCases}
-use Rattle.node_steps.specs.Digests.{bitsHeard, answered, saidOf, digestOf, saidBy, decidedBy, marksBy, heardEffect, effectOf, notedBy, departingBy, trackingWith, trackingBy}
+use Rattle.node_steps.specs.declared.Departure.{Departure}
+use Rattle.node_steps.specs.Steps.{isHeard, returnIn, confirmed, saysSo, says, hearsNo, hearsYes, heardMarks, marksAfter, yesAfter, noted, leaves, settle}
+use Rattle.node_steps.specs.Inner.{readMarked, departing, insideSlot, outsideSlot, slotByCases}
+use Rattle.node_steps.specs.Digests.{bitsHeard, answered, saidOf, digestOf, saidBy, decidedBy, marksBy, heardEffect, effectOf, notedBy, staysOn, departures, departingBy, trackingWith, trackingBy}
 
 -- ---- what a message says
 
@@ -131,26 +132,56 @@ module _ (s : ℕ) (heard : Reading) (v : Node) (set : ℕ) where
 -- ---- step 3
 
 -- nobody is decided
-nobody : (inside : Bool) (s : ℕ) (w : Node) → 1 ≤ w .own → departingBy inside 0 s w ≡ settle inside s w
-unfolding has without
-nobody inside s w h =
-    ap (λ (b : Bool). cond (b && not (has (w .present) 0)) (leave Unconfirmed w) (settle inside s w)) (ne-eqb (w .own) 0 (λ e. omega arith))
+none-leaves : (times s set : ℕ) (v : Node) → departures times 0 s set v ≡ record { set = set; left = false }
+unfolding departures
+none-leaves zero s set v = refl
+none-leaves (suc times) s set v = refl
 
--- the decided member, by whether its mark is on and whether it is this node
-somebody : (s m : ℕ) (w : Node) (b d : Bool)
-    → cond (d && not b) (leave Unconfirmed w) (settle true s (withSet (cond b (w .set) (without (w .set) m)) w))
-    ≡ cond b (settle true s w) (cond d (leave Unconfirmed w) (settle true s (withSet (without (w .set) m) w)))
-somebody s m w true true = refl
-somebody s m w true false = refl
-somebody s m w false true = refl
-somebody s m w false false = refl
+nobody : (inside : Bool) (s : ℕ) (w : Node) → departingBy inside 0 s w ≡ settle inside s w
+nobody inside s w =
+    ap (λ (d : Departure). cond (d .left) (leave Unconfirmed w) (settle inside s (withSet (d .set) w))) (none-leaves (w .cable .n) s (w .set) w)
 
-departs-by : (s : ℕ) (f : Found) (w : Node) → 1 ≤ w .own → departingBy true (memberIn f) s w ≡ departs s f w
-unfolding judged
-departs-by s (found.Member m back) w h =
-    ap (λ (d : Bool). cond (d && not (has (w .present) m)) (leave Unconfirmed w) (settle true s (withSet (cond (has (w .present) m) (w .set) (without (w .set) m)) w))) (eqb-swap (w .own) m)
-    ∙ somebody s m w (has (w .present) m) (eqb m (w .own))
-departs-by s found.Nobody w h = nobody true s w h
+-- a decided member is a node
+decided-node : (cable : Cable) (set s m back : ℕ) → decided cable set s ≡ found.Member m back → 1 ≤ m
+unfolding decided has
+decided-node cable set s zero back e = absurd (true≢false (sym (sponsored-member cable set s (sponsors cable set) 0 back e)))
+decided-node cable set s (suc m) back e = omega arith
+
+-- it leaves where the code does not see that nobody does
+leaves-by : (f : Found) (marks : ℕ) → ((m back : ℕ) → f ≡ found.Member m back → 1 ≤ m)
+    → (isFound (memberIn f) f && not (has marks (memberIn f))) ≡ not (eqb (memberIn f) 0 || has marks (memberIn f))
+leaves-by (found.Member m back) marks h =
+    let self : eqb m m ≡ true = eq-eqb m m refl in
+    let some : eqb m 0 ≡ false = ne-eqb m 0 (λ z. omega (arith, h m back refl)) in
+    rw (self, some) refl
+leaves-by found.Nobody marks h = refl
+
+-- who leaves does so whatever its set is
+leave-set : (set : ℕ) (v : Node) → leave (leavingCause 1) (withSet set v) ≡ leave Unconfirmed v
+unfolding leave
+leave-set set v = refl
+
+abbrev ended : ℕ → Node → Departure → Node
+ended s v d = cond (d .left) (leave Unconfirmed v) (settle true s (withSet (d .set) v))
+
+departures-are : (times s set : ℕ) (v : Node) → ended s v (departures times (memberIn (decided (v .cable) set s)) s set v) ≡ departing times s (withSet set v)
+unfolding departures departing
+departures-are zero s set v = refl
+departures-are (suc times) s set v =
+    by-cases (staysOn m v)
+    (λ e. ap (ended s v) (chosen _ _ e) ∙ sym (otherwise _ _ (goes ∙ ap not e)))
+    (λ e.
+    ap (ended s v) (otherwise _ _ e)
+    ∙ by-cases (eqb m (v .own))
+    (λ o. ap (ended s v) (chosen _ _ o) ∙ sym (leave-set set v) ∙ sym (chosen _ _ o))
+    (λ o. ap (ended s v) (otherwise _ _ o) ∙ departures-are times s (without set m) v ∙ sym (otherwise _ _ o))
+    ∙ sym (chosen _ _ (goes ∙ ap not e)))
+  where
+    m : ℕ
+    m = memberIn (decided (v .cable) set s)
+
+    goes : leaves s (withSet set v) (memberIn (decided (v .cable) set s)) ≡ not (staysOn (memberIn (decided (v .cable) set s)) v)
+    goes = leaves-by (decided (v .cable) set s) (v .present) (λ x back p. decided-node (v .cable) set s x back p)
 
 -- ---- the slot
 
@@ -158,27 +189,17 @@ noted-by : (s : ℕ) (told : Reading) (v : Node) → notedBy s (isHeard told) v 
 unfolding notedBy noted
 noted-by s told v = refl
 
-noted-own : (s : ℕ) (heard : Bool) (v : Node) → notedBy s heard v .own ≡ v .own
-unfolding notedBy
-noted-own s heard v = go (eqb s (v .own)) (isFollowing (v .state) && eqb (v .returning) 0) (heard && eqb (v .returning) 0)
-  where
-    go : (a b c : Bool) → cond a (cond b (withReturning Knocking (v .own) v) v) (cond c (withReturning (v .state) s v) v) .own ≡ v .own
-    go true true c = refl
-    go true false c = refl
-    go false b true = refl
-    go false b false = refl
-
-with-is : (s : ℕ) (told : Reading) (v : Node) → 1 ≤ v .own
-    → trackingWith (has (v .set) s) (record { heard = isHeard told; marks = marksAfter s told v; yes = yesAfter s told v; returned = returnIn told }) (memberIn (decidedIn s v)) s v ≡ slotByCases s told v
+with-is : (s : ℕ) (told : Reading) (v : Node)
+    → trackingWith (has (v .set) s) (record { heard = isHeard told; marks = marksAfter s told v; yes = yesAfter s told v; returned = returnIn told }) (memberIn (decidedIn s v)) s v ≡ slotByCases (v .cable .n) s told v
 unfolding slotByCases insideSlot outsideSlot
-with-is s told v o =
+with-is s told v =
     by-cases (has (v .set) s)
-    (λ e. rw e (ap (cond (returnIn told && eqb (v .returning) 0) (leave MissedReturn v)) (departs-by s (decidedIn s v) (readMarked s told v) o)))
-    (λ e. rw e (nobody false s (notedBy s (isHeard told) v) (omega (arith, noted-own s (isHeard told) v)) ∙ ap (settle false s) (noted-by s told v)))
+    (λ e. rw e (ap (cond (returnIn told && eqb (v .returning) 0) (leave MissedReturn v)) (departures-are (v .cable .n) s (v .set) (readMarked s told v))))
+    (λ e. rw e (nobody false s (notedBy s (isHeard told) v) ∙ ap (settle false s) (noted-by s told v)))
 
 pub tracking-digest : (s : ℕ) (heard told : Reading) (set : ℕ) (v : Node) → (isHeard told ≡ true → told ≡ heard) → FromOther s told (v .own) → 1 ≤ v .own → v .own ≤ 32 → v .present < 2 ^ 32
-    → trackingBy (digestOf s heard (v .cable) set) s told v ≡ slotByCases s told v
+    → trackingBy (digestOf s heard (v .cable) set) s told v ≡ slotByCases (v .cable .n) s told v
 unfolding trackingBy
 tracking-digest s heard told set v h d o m p =
     ap₂ (λ (e : Effect) (x : ℕ). trackingWith (has (v .set) s) e x s v) (effect-is s heard v set told h d o m p) (decided-is s heard v set)
-    ∙ with-is s told v o
+    ∙ with-is s told v

@@ -14,7 +14,7 @@ use Rattle.nodeset.proofs.Laws.{has-with, has-with-other, has-without, has-with
 use Rattle.nodeset.proofs.Counts.{size-with}
 use Rattle.ring.specs.declared.Found.{Found}
 use Rattle.ring.specs.declared.Found.the-variants as found
-use Rattle.ring.specs.Ring.{nodeNumber, memberIn}
+use Rattle.ring.specs.Ring.{nodeNumber, memberIn, isFound}
 use Rattle.ring.proofs.Ranges.{ring-size, node-number}
 use Rattle.ring.proofs.Members.{sponsored-member}
 use Rattle.message.specs.declared.Reading.{Reading}
@@ -29,9 +29,9 @@ use Rattle.node_record.specs.Sponsoring.{sponsorsIn, sponsoredIn, decidedIn}
 use Rattle.node_record.proofs.Tracking.{Tracking, tracks, tracking-sound}
 use Rattle.node_changes.specs.Changes.{withSet, withReturning}
 use Rattle.node_changes.proofs.Sound.{InRange, fresh-sound, leave-sound}
-use Rattle.node_steps.specs.Steps.{isHeard, returnIn, isOwn, confirmed, says, hearsNo, hearsYes, heardMarks, readMarks, marksAfter, readYes, noted, tooFew, nothingHeard, joins, stateOnList, joined, join, settle}
+use Rattle.node_steps.specs.Steps.{isHeard, returnIn, isOwn, confirmed, says, hearsNo, hearsYes, heardMarks, readMarks, marksAfter, readYes, noted, leaves, tooFew, nothingHeard, joins, stateOnList, joined, join, settle}
 use Rattle.node_steps.proofs.Answers.{told-by}
-use Rattle.node_steps.specs.Inner.{readReturn, readMarked, judged, departs, insideSlot, outsideSlot, slotByCases}
+use Rattle.node_steps.specs.Inner.{readReturn, readMarked, departing, insideSlot, outsideSlot, slotByCases}
 
 numbers : (v : Node) → Tracking v → InRange (v .cable) (v .own) (v .slots)
 numbers v k = record { ring = k .ring; sponsors = k .sponsors; own-in = k .own; slots-in = k .slots }
@@ -380,24 +380,25 @@ settle-sound inside s v k =
     (λ j. rw j (join-sound s v (both inside (joins s v) j .1) k (enough-left v t)))
     (λ j. rw j (tracking-sound v k (enough-left v t)))))))
 
-judged-sound : (s m : ℕ) (v : Node) → Tracking v → sound (judged s m v) ≡ true
-unfolding judged
-judged-sound s m v k =
-    by-cases (has (v .present) m)
-    (λ t. rw t (settle-sound true s v k))
+leaves-found : (s m : ℕ) (f : Found) (v : Node) → (isFound m f && not (has (v .present) m)) ≡ true → has (v .present) m ≡ false
+leaves-found s m f v e = not-true (has (v .present) m) (both (isFound m f) (not (has (v .present) m)) e .1)
+
+departing-sound : (times s : ℕ) (v : Node) → Tracking v → sound (departing times s v) ≡ true
+unfolding departing
+departing-sound zero s v k = settle-sound true s v k
+departing-sound (suc times) s v k =
+    let m = memberIn (decidedIn s v) in
+    by-cases (leaves s v m)
     (λ t. rw t (by-cases (eqb m (v .own))
     (λ o. rw o (leave-sound Unconfirmed v (numbers v k)))
-    (λ o. rw o (settle-sound true s (withSet (without (v .set) m) v) (departed-tracks m v t (eqb-false m (v .own) o) k)))))
+    (λ o. rw o (departing-sound times s (withSet (without (v .set) m) v) (departed-tracks m v (leaves-found s m (decidedIn s v) v t) (eqb-false m (v .own) o) k)))))
+    (λ t. rw t (settle-sound true s v k))
 
-departs-sound : (s : ℕ) (f : Found) (v : Node) → Tracking v → sound (departs s f v) ≡ true
-departs-sound s (found.Member m back) v k = judged-sound s m v k
-departs-sound s found.Nobody v k = settle-sound true s v k
-
-pub slot-sound : (s : ℕ) (heard : Reading) (v : Node) → s ≤ v .cable .n → Tracking v → sound (slotByCases s heard v) ≡ true
+pub slot-sound : (times s : ℕ) (heard : Reading) (v : Node) → s ≤ v .cable .n → Tracking v → sound (slotByCases times s heard v) ≡ true
 unfolding slotByCases insideSlot outsideSlot
-slot-sound s heard v l k =
+slot-sound times s heard v l k =
     by-cases (has (v .set) s)
     (λ t. rw t (by-cases (readReturn heard v)
     (λ m. rw m (leave-sound MissedReturn v (numbers v k)))
-    (λ m. rw m (departs-sound s (decidedIn s v) (readMarked s heard v) (marked-tracks s heard v t k)))))
+    (λ m. rw m (departing-sound times s (readMarked s heard v) (marked-tracks s heard v t k)))))
     (λ t. rw t (settle-sound false s (noted s heard v) (noted-tracks s heard v l t k)))

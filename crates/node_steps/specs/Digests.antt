@@ -16,6 +16,7 @@ use Rattle.node_changes.specs.Changes.{leave, withSet, withMarks, withReturning
 use Rattle.node_steps.specs.declared.Said.{Said}
 use Rattle.node_steps.specs.declared.Digest.{Digest}
 use Rattle.node_steps.specs.declared.Effect.{Effect}
+use Rattle.node_steps.specs.declared.Departure.{Departure}
 use Rattle.node_steps.specs.Steps.{saysSo, settle}
 
 -- ---- the digest
@@ -88,18 +89,26 @@ notedBy s heard v =
 abbrev pub takenBy : Bool → ℕ → Effect → Node → Node
 takenBy inside s e v = cond inside (markedBy e v) (notedBy s (e .heard) v)
 
--- Step 3: the decided member, 0 where the sender is outside the set, and what comes of it.
+-- Step 3: the member decided first, 0 where the sender is outside the set.
 abbrev pub decidedWhere : Bool → ℕ → ℕ
 decidedWhere inside m = cond inside m 0
 
-abbrev pub isStruck : ℕ → Node → Bool
-isStruck m v = eqb (v .own) m && not (has (v .present) m)
+-- Nobody leaves: nobody is decided, or the decided member is marked.
+abbrev pub staysOn : ℕ → Node → Bool
+staysOn m v = eqb m 0 || has (v .present) m
 
-abbrev pub setAfter : ℕ → Node → ℕ
-setAfter m v = cond (has (v .present) m) (v .set) (without (v .set) m)
+-- The set after at most so many departures from a set whose decided member is m, and whether the node itself left.
+unfoldable pub departures : ℕ → ℕ → ℕ → ℕ → Node → Departure
+departures zero m s set v = record { set = set; left = false }
+departures (suc times) m s set v =
+    cond (staysOn m v) (record { set = set; left = false })
+    (cond (eqb m (v .own)) (record { set = set; left = true })
+    (departures times (memberIn (decided (v .cable) (without set m) s)) s (without set m) v))
 
 abbrev pub departingBy : Bool → ℕ → ℕ → Node → Node
-departingBy inside m s v = cond (isStruck m v) (leave Unconfirmed v) (settle inside s (withSet (setAfter m v) v))
+departingBy inside m s v =
+    let d = departures (v .cable .n) m s (v .set) v in
+    cond (d .left) (leave Unconfirmed v) (settle inside s (withSet (d .set) v))
 
 -- Any slot of a member, following or knocking node.
 abbrev pub trackingWith : Bool → Effect → ℕ → ℕ → Node → Node

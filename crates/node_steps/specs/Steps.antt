@@ -122,6 +122,17 @@ withoutDecided s v =
 abbrev pub departed : ℕ → Node → Node
 departed s v = withSet (withoutDecided s v) v
 
+-- "So the departure step is repeated on the shortened set until the decided member is marked, nobody is decided, or the node itself has left" (document 02, f):
+-- the record after so many departure steps. Where the decided member is marked, or nobody is decided, a further one changes nothing.
+unfoldable pub departedIn : ℕ → ℕ → Node → Node
+departedIn zero s v = v
+departedIn (suc times) s v = departedIn times s (departed s v)
+
+-- Does the node itself leave in one of them?
+unfoldable pub leavesIn : ℕ → ℕ → Node → Bool
+leavesIn zero s v = false
+leavesIn (suc times) s v = leaves s v (v .own) || leavesIn times s (departed s v)
+
 -- ---- step 4, and what stands before it
 
 -- "Following and knocking need two members or more in the set; if fewer remain after step 3, the node goes to fresh listening."
@@ -171,11 +182,20 @@ settle inside s v =
     (cond (nothingHeard v) (leave (leavingCause 2) v)
     (cond (inside && joins s v) (join v) v))
 
--- One slot. Step 1: "leaving with cause 3, and nothing further happens". Step 3: "If that is this node, it leaves with cause 1 and the steps end."
-unfoldable pub trackingSlot : ℕ → Reading → Node → Node
-trackingSlot s heard v =
+-- One slot with so many departure steps, and with what is done then. Step 1: "leaving with cause 3, and nothing further happens". Step 3: "If that is this node,
+-- it leaves with cause 1 and the steps end."
+unfoldable pub slotThen : (Node → Node) → ℕ → ℕ → Reading → Node → Node
+slotThen rest times s heard v =
     let inside = has (v .set) s in
     let w = afterMessage inside s heard v in
     cond (inside && missedReturn s heard v) (leave (leavingCause 3) v)
-    (cond (inside && leaves s w (w .own)) (leave (leavingCause 1) w)
-    (settle inside s (cond inside (departed s w) w)))
+    (cond (inside && leavesIn times s w) (leave (leavingCause 1) w)
+    (rest (cond inside (departedIn times s w) w)))
+
+-- One slot with so many departure steps: 1 was the rule of document 01.
+abbrev pub slotWith : ℕ → ℕ → Reading → Node → Node
+slotWith times s heard v = slotThen (settle (has (v .set) s) s) times s heard v
+
+-- One slot. Each departure step that changes the set takes a member, so that after n of them nobody is left to leave.
+unfoldable pub trackingSlot : ℕ → Reading → Node → Node
+trackingSlot s heard v = slotWith (v .cable .n) s heard v

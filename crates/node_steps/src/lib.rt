@@ -15,7 +15,7 @@ ghost use lib.Dec.{eqb};
 ghost use Rattle.nodeset.specs.Sets.{has, with};
 ghost use Rattle.ring.specs.Ring.{memberIn, isFound};
 ghost use Rattle.node_steps.specs.Steps.{tooFew, nothingHeard, joins, stateOnList, joined, join, settle};
-ghost use Rattle.node_steps.specs.Digests.{bitsHeard, saidOf, digestOf, saidBy, marksBy, decidedBy, heardEffect, unheardMarks, unheardEffect, effectOf, markedBy, notedBy, takenBy, decidedWhere, isStruck, setAfter, trackingBy};
+ghost use Rattle.node_steps.specs.Digests.{bitsHeard, saidOf, digestOf, saidBy, marksBy, decidedBy, heardEffect, unheardMarks, unheardEffect, effectOf, markedBy, notedBy, takenBy, decidedWhere, staysOn, departures, trackingBy};
 
 // What a message says: a yes for its sender and for the members that it acknowledges, a no for the
 // other members that its sender sponsors.
@@ -39,6 +39,12 @@ struct Effect {
     marks: u32,
     yes: bool,
     returned: bool,
+}
+
+// What comes of step 3: the set after it, and whether this node is the one that leaves.
+struct Departure {
+    set: u32,
+    left: bool,
 }
 
 // ---- The digest
@@ -244,21 +250,36 @@ fn decided_where(inside: bool, m: u32) -> u32
     if inside { m } else { 0 }
 }
 
-// Whether this node is the decided member and its mark is off.
-fn is_struck(m: u32, v: Node) -> bool
-    ensures { λ r. ⌜ r ≡ isStruck m v ⌝ }
+// Whether nobody leaves: nobody is decided, or the decided member is marked.
+fn stays_on(m: u32, v: Node) -> bool
+    ensures { λ r. ⌜ r ≡ staysOn m v ⌝ }
 {
-    (v.own == m) & !nodeset::has(v.present, m)
+    (m == 0) | nodeset::has(v.present, m)
 }
 
-// The set without the decided member, if its mark is off.
-fn set_after(m: u32, v: Node) -> u32
-    ensures { λ r. ⌜ r ≡ setAfter m v ⌝ }
+// The departures, with the member that is decided first: on the shortened set the sender may decide
+// another. At most n members leave.
+fn departures(m: u32, s: u32, v: Node) -> Departure
+    ensures { λ r. ⌜ r ≡ departures (v .cable .n) m s (v .set) v ⌝ }
 {
-    if nodeset::has(v.present, m) {
-        return v.set;
+    let cable = v.cable;
+    let mut times = cable.n;
+    let mut set = v.set;
+    let mut m = m;
+    loop {
+        if times == 0 {
+            break Departure { set, left: false };
+        }
+        if stays_on(m, v) {
+            break Departure { set, left: false };
+        }
+        if m == v.own {
+            break Departure { set, left: true };
+        }
+        times -= 1;
+        set = nodeset::without(set, m);
+        m = member_in(ring::decided_member(cable, set, s));
     }
-    nodeset::without(v.set, m)
 }
 
 // ---- Steps 4 and 5
@@ -373,8 +394,9 @@ pub fn tracking_slot(s: u32, heard: Reading, digest: Digest, v: Node) -> Node
     }
     let w = taken(inside, s, effect, v);
     let m = decided_where(inside, decided_by(digest, s, v));
-    if is_struck(m, w) {
+    let departure = departures(m, s, w);
+    if departure.left {
         return node_changes::leave(Cause::Unconfirmed, w);
     }
-    settle(inside, s, node_changes::with_set(set_after(m, w), w))
+    settle(inside, s, node_changes::with_set(departure.set, w))
 }

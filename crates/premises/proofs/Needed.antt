@@ -1,6 +1,6 @@
 -- Each premise of demand 3 is needed: a run that breaks it alone, and a claim with it. Whatever records were lent to set-up. Assumes nothing.
 use Prim.Native.Nat.{ℕ, suc, _+_, _-_, _≤_}
-use mathlib.Core.Path.{_≡_, refl, sym, _∙_}
+use mathlib.Core.Path.{_≡_, refl, sym, ap, _∙_}
 use mathlib.Core.Bool.{Bool, true, false, _&&_, true≢false}
 use mathlib.Core.List.{List, [], _∷_, reverse}
 use native.Mathlib.Omega.{arith}
@@ -12,19 +12,21 @@ use Rattle.ring.proofs.Ranges.{ring-size}
 use Rattle.node_record.specs.declared.Node.{Node}
 use Rattle.nodeset.proofs.Tests.{both}
 use Rattle.node.specs.Calls.{noNode}
-use Rattle.bench.specs.Table.{Table, slotsOf}
+use Rattle.node_record.specs.States.{isMember}
+use Rattle.bench.specs.Table.{Table, recordOf, slotsOf}
 use Rattle.bench.specs.Calls.{setUpOf, greatest}
 use Rattle.bench.specs.Runs.{Call, tableAfter}
 use Rattle.agreement.specs.Demand.{next, onwards, isDeciding, decidingRan, LostOrSilent, Premises, Agree, InTime, EverySequence}
+use Rattle.agreement.specs.Repeated.{callBefore, runBefore}
 use Rattle.bench.proofs.Computed.{computed}
 use Rattle.bench.proofs.Places.{Placed}
 use Rattle.bench.proofs.Runs.{start-placed, run-length}
 use Rattle.agreement.proofs.Beginnings.{at-end}
 use Rattle.agreement.proofs.Throughout.{nothing-apart}
-use Rattle.premises.specs.Plans.{twoMiss, twoKnocks, threeLeft, noThird, missesTwice}
-use Rattle.premises.specs.Needed.{Premise, few-failures, one-outside, list-kept, all-heard, Holds, Others, Bites, Without, EachNeeded}
-use Rattle.premises.proofs.Scan.{noted, scan}
-use Rattle.premises.proofs.Tested.{every, test, by-test, by-failed-test}
+use Rattle.premises.specs.Plans.{twoMiss, twoKnocks, threeLeft, noThird, missesTwice, twoAtOnce}
+use Rattle.premises.specs.Needed.{Premise, few-failures, one-outside, list-kept, all-heard, HoldsOn, Holds, Others, Bites, Without, EachNeeded, BetweenNeeded}
+use Rattle.premises.proofs.Scan.{noted, scan, calls-before}
+use Rattle.premises.proofs.Tested.{every, testBy, test, by-test-on, by-test, by-failed-test}
 
 -- the four are the premises of demand 3, and no others
 pub the-four : (cable : Cable) (start : Table) (cs : List Call) → ((p : Premise) → Holds p cable start cs) → Premises cable start cs
@@ -136,3 +138,34 @@ needed few-failures = refuted few-failures _ _ _ (failures-bite noNode noNode no
 needed one-outside = refuted one-outside _ _ _ (outside-bites noNode noNode noNode noNode noNode)
 needed list-kept = refuted list-kept _ _ _ (list-bites noNode noNode noNode noNode)
 needed all-heard = refuted all-heard _ _ _ (hearing-bites noNode noNode noNode noNode)
+
+-- ---- nothing differs only with k + 1 members between a departure and a joining, too
+
+module _ (a b c d e : Node) where
+  meets-before : (p : Premise) → HoldsOn p (cableOf 5 3) (runBefore (setUpOf (cableOf 5 3) (a ∷ b ∷ c ∷ d ∷ e ∷ []) .table)) (reverse twoAtOnce)
+  unfolding computed every noted scan
+  meets-before p = by-test-on (cableOf 5 3) (calls-before (setUpOf (cableOf 5 3) (a ∷ b ∷ c ∷ d ∷ e ∷ []) .table)) (reverse twoAtOnce) p (each p)
+    where
+      each : (p : Premise) → testBy callBefore p (cableOf 5 3) (setUpOf (cableOf 5 3) (a ∷ b ∷ c ∷ d ∷ e ∷ []) .table) (reverse twoAtOnce) ≡ true
+      each few-failures = refl
+      each one-outside = refl
+      each list-kept = refl
+      each all-heard = refl
+
+  -- node 2 is a member by the rule before, and has left now
+  was-member : isMember (recordOf (runBefore (setUpOf (cableOf 5 3) (a ∷ b ∷ c ∷ d ∷ e ∷ []) .table) (reverse twoAtOnce)) 2 .state) ≡ true
+  unfolding computed runBefore
+  was-member = refl
+
+  has-left : isMember (recordOf (tableAfter (setUpOf (cableOf 5 3) (a ∷ b ∷ c ∷ d ∷ e ∷ []) .table) (reverse twoAtOnce)) 2 .state) ≡ false
+  unfolding computed
+  has-left = refl
+
+pub between-needed : BetweenNeeded
+unfolding EverySequence
+between-needed w =
+    let o = noNode in
+    let start = setUpOf (cableOf 5 3) (o ∷ o ∷ o ∷ o ∷ o ∷ []) .table in
+    let m = meets-before o o o o o in
+    let same = at-end (λ cs. tableAfter start cs ≡ runBefore start cs) (reverse twoAtOnce) (w (cableOf 5 3) refl refl (o ∷ o ∷ o ∷ o ∷ o ∷ []) refl (reverse twoAtOnce) (record { few-failures = m few-failures; one-outside = m one-outside; list-kept = m list-kept; all-heard = m all-heard })) in
+    true≢false (sym (ap (λ (t : Table). isMember (recordOf t 2 .state)) same ∙ was-member o o o o o) ∙ has-left o o o o o)

@@ -15,12 +15,12 @@ use Rattle.ring.specs.declared.Cable.{Cable}
 use Rattle.node_record.specs.States.{isMember, isOut}
 use Rattle.bench.specs.Table.{Table, recordOf, slotsOf, speaker}
 use Rattle.bench.specs.Calls.{transmits}
-use Rattle.bench.specs.Runs.{Call, slot, off, restart, tableAfter, isSlot, listOf, Entry, noEntry, entry}
-use Rattle.agreement.specs.Demand.{AtEach, KeepsList, AllHear, HearEverything}
+use Rattle.bench.specs.Runs.{Call, slot, off, restart, isSlot, listOf, Entry, noEntry, entryOn}
+use Rattle.agreement.specs.Demand.{AtEach, AllHear, KeepsListOn, HearEverythingOn}
 use Rattle.bench.proofs.Places.{Placed}
-use Rattle.agreement.proofs.Entries.{entry-later}
-use Rattle.premises.specs.Needed.{Premise, few-failures, one-outside, list-kept, all-heard, Holds}
-use Rattle.premises.proofs.Scan.{Notes, noted, Scan, SlotTest, scan, atSlots, Right, scan-right}
+use Rattle.agreement.proofs.Beginnings.{on-later}
+use Rattle.premises.specs.Needed.{Premise, few-failures, one-outside, list-kept, all-heard, HoldsOn, Holds}
+use Rattle.premises.proofs.Scan.{Notes, noted, Scan, SlotTest, scan, Run, atSlots, Right, scan-right, called, calls}
 
 -- ---- a test of each of the numbers 1 to m
 
@@ -71,8 +71,11 @@ testOf one-outside cable s = fewIn (noted (s .outside)) (cable .n) 1 (slotsOf (s
 testOf list-kept cable s = s .kept
 testOf all-heard cable s = s .heard
 
+abbrev pub testBy : (Call → Table → Table) → Premise → Cable → Table → List Call → Bool
+testBy step p cable start cs = testOf p cable (scan step (keepsIn cable) (hearIn (cable .n)) start cs)
+
 abbrev pub test : Premise → Cable → Table → List Call → Bool
-test p cable start cs = testOf p cable (scan (keepsIn cable) (hearIn (cable .n)) start cs)
+test p cable start cs = testBy called p cable start cs
 
 -- ---- n in a row
 
@@ -99,23 +102,23 @@ implying : (a b : Bool) → (a ≡ true → b ≡ true) → (not a || b) ≡ tru
 implying true b h = h refl
 implying false b h = refl
 
-module _ (P : Call → List Call → Type 0) (f : SlotTest) (start : Table) where
+module _ (P : Call → List Call → Type 0) (f : SlotTest) (run : List Call → Table) where
   -- what the test says of a slot
   abbrev At : Call → List Call → Type 0
-  At c cs = isSlot c (tableAfter start cs) ≡ true → f c (tableAfter start cs) (tableAfter start (c ∷ cs)) ≡ true
+  At c cs = isSlot c (run cs) ≡ true → f c (run cs) (run (c ∷ cs)) ≡ true
 
-  each-sound : ((c : Call) (cs : List Call) → At c cs → P c cs) → (cs : List Call) → atSlots f start cs ≡ true → AtEach P cs
+  each-sound : ((c : Call) (cs : List Call) → At c cs → P c cs) → (cs : List Call) → atSlots f run cs ≡ true → AtEach P cs
   unfolding AtEach atSlots
   each-sound h [] e = tt
   each-sound h (c ∷ cs) e =
-      let x = both (atSlots f start cs) (not (isSlot c (tableAfter start cs)) || f c (tableAfter start cs) (tableAfter start (c ∷ cs))) e in
-      (each-sound h cs (x .0), h c cs (implied (isSlot c (tableAfter start cs)) (f c (tableAfter start cs) (tableAfter start (c ∷ cs))) (x .1)))
+      let x = both (atSlots f run cs) (not (isSlot c (run cs)) || f c (run cs) (run (c ∷ cs))) e in
+      (each-sound h cs (x .0), h c cs (implied (isSlot c (run cs)) (f c (run cs) (run (c ∷ cs))) (x .1)))
 
-  each-complete : ((c : Call) (cs : List Call) → P c cs → At c cs) → (cs : List Call) → AtEach P cs → atSlots f start cs ≡ true
+  each-complete : ((c : Call) (cs : List Call) → P c cs → At c cs) → (cs : List Call) → AtEach P cs → atSlots f run cs ≡ true
   unfolding AtEach atSlots
   each-complete h [] p = refl
   each-complete h (c ∷ cs) p =
-      all (each-complete h cs (p .0)) (implying (isSlot c (tableAfter start cs)) (f c (tableAfter start cs) (tableAfter start (c ∷ cs))) (h c cs (p .1)))
+      all (each-complete h cs (p .0)) (implying (isSlot c (run cs)) (f c (run cs) (run (c ∷ cs))) (h c cs (p .1)))
 
 keeps-sound : (cable : Cable) (t u : Table) (c : Call) → keepsIn cable c t u ≡ true → (cable .k + 1 ≤ size (cable .n) (listOf t)) × (cable .k + 1 ≤ size (cable .n) (listOf u))
 keeps-sound cable t u c e =
@@ -161,42 +164,48 @@ hear-complete n (restart a) t u h = refl
 
 -- ---- each premise
 
-module _ (cable : Cable) (pos : 1 ≤ cable .n) (start : Table) (begins : Placed cable 0 start) (cs : List Call) where
+module _ (cable : Cable) (R : Run) (cs : List Call) where
   open Cable cable using (n, k)
+  open Run R using (run)
 
   abbrev S : Scan
-  S = scan (keepsIn cable) (hearIn n) start cs
+  S = scan (R .step) (keepsIn cable) (hearIn n) (R .start) cs
 
-  right : Right (keepsIn cable) (hearIn n) start cs S
-  right = scan-right (keepsIn cable) (hearIn n) start cs
+  right : Right (keepsIn cable) (hearIn n) run cs S
+  right = scan-right (keepsIn cable) (hearIn n) R cs
 
   -- a number of each slot's entry, as it is noted
-  module _ (f : Entry → ℕ) (none : f noEntry ≡ 0) (notes : Notes) (are : (u : ℕ) → noted notes u ≡ f (entry start cs u)) (c : ℕ) where
-    same-sum : (a : ℕ) → sum (noted notes) a n ≡ sum (λ u. f (entry start cs u)) a n
-    same-sum a = sum-same (noted notes) (λ u. f (entry start cs u)) a n (λ u _ _. are u)
+  module _ (f : Entry → ℕ) (none : f noEntry ≡ 0) (notes : Notes) (are : (u : ℕ) → noted notes u ≡ f (entryOn run cs u)) (c : ℕ) where
+    same-sum : (a : ℕ) → sum (noted notes) a n ≡ sum (λ u. f (entryOn run cs u)) a n
+    same-sum a = sum-same (noted notes) (λ u. f (entryOn run cs u)) a n (λ u _ _. are u)
 
-    few-by : fewIn (noted notes) n c (slotsOf (S .table)) ≡ true → (a : ℕ) → sum (λ u. f (entry start cs u)) (suc a) n ≤ c
+    few-by : fewIn (noted notes) n c (slotsOf (S .table)) ≡ true → (a : ℕ) → sum (λ u. f (entryOn run cs u)) (suc a) n ≤ c
     few-by e a = omega (arith, same-sum (suc a), few-sound (noted notes) n c (slotsOf (S .table)) later e a)
       where
         later : (u : ℕ) → slotsOf (S .table) < u → noted notes u ≡ 0
-        later u h = are u ∙ ap f (entry-later cable pos start begins cs u (omega (arith, h, ap slotsOf (right .table-is)))) ∙ none
+        later u h = are u ∙ ap f (on-later run (R .next) cs u (omega (arith, h, ap slotsOf (right .table-is)))) ∙ none
 
-    few-tested : ((a : ℕ) → sum (λ u. f (entry start cs u)) (suc a) n ≤ c) → fewIn (noted notes) n c (slotsOf (S .table)) ≡ true
+    few-tested : ((a : ℕ) → sum (λ u. f (entryOn run cs u)) (suc a) n ≤ c) → fewIn (noted notes) n c (slotsOf (S .table)) ≡ true
     few-tested h = few-complete (noted notes) n c (slotsOf (S .table)) (λ a. omega (arith, same-sum (suc a), h a))
 
-  pub by-test : (p : Premise) → test p cable start cs ≡ true → Holds p cable start cs
-  unfolding KeepsList HearEverything
-  by-test few-failures e = few-by (λ x. x .failures) refl (S .failures) (right .failures-are) (k - 1) e
-  by-test one-outside e = few-by (λ x. num (x .outside)) refl (S .outside) (right .outside-are) 1 e
-  by-test list-kept e = each-sound (KeepsList cable start) (keepsIn cable) start (λ c ds h s. keeps-sound cable (tableAfter start ds) (tableAfter start (c ∷ ds)) c (h s)) cs (sym (right .kept-is) ∙ e)
-  by-test all-heard e = each-sound (HearEverything cable start) (hearIn n) start (λ c ds h s. hear-sound n c (tableAfter start ds) (tableAfter start (c ∷ ds)) (h s)) cs (sym (right .heard-is) ∙ e)
+  pub by-test-on : (p : Premise) → testBy (R .step) p cable (R .start) cs ≡ true → HoldsOn p cable run cs
+  unfolding KeepsListOn HearEverythingOn
+  by-test-on few-failures e = few-by (λ x. x .failures) refl (S .failures) (right .failures-are) (k - 1) e
+  by-test-on one-outside e = few-by (λ x. num (x .outside)) refl (S .outside) (right .outside-are) 1 e
+  by-test-on list-kept e = each-sound (KeepsListOn cable run) (keepsIn cable) run (λ c ds h s. keeps-sound cable (run ds) (run (c ∷ ds)) c (h s)) cs (sym (right .kept-is) ∙ e)
+  by-test-on all-heard e = each-sound (HearEverythingOn cable run) (hearIn n) run (λ c ds h s. hear-sound n c (run ds) (run (c ∷ ds)) (h s)) cs (sym (right .heard-is) ∙ e)
 
-  tested : (p : Premise) → Holds p cable start cs → test p cable start cs ≡ true
-  unfolding KeepsList HearEverything
+  tested : (p : Premise) → HoldsOn p cable run cs → testBy (R .step) p cable (R .start) cs ≡ true
+  unfolding KeepsListOn HearEverythingOn
   tested few-failures h = few-tested (λ x. x .failures) refl (S .failures) (right .failures-are) (k - 1) h
   tested one-outside h = few-tested (λ x. num (x .outside)) refl (S .outside) (right .outside-are) 1 h
-  tested list-kept h = right .kept-is ∙ each-complete (KeepsList cable start) (keepsIn cable) start (λ c ds x s. keeps-complete cable (tableAfter start ds) (tableAfter start (c ∷ ds)) c (x s)) cs h
-  tested all-heard h = right .heard-is ∙ each-complete (HearEverything cable start) (hearIn n) start (λ c ds x s. hear-complete n c (tableAfter start ds) (tableAfter start (c ∷ ds)) (x s)) cs h
+  tested list-kept h = right .kept-is ∙ each-complete (KeepsListOn cable run) (keepsIn cable) run (λ c ds x s. keeps-complete cable (run ds) (run (c ∷ ds)) c (x s)) cs h
+  tested all-heard h = right .heard-is ∙ each-complete (HearEverythingOn cable run) (hearIn n) run (λ c ds x s. hear-complete n c (run ds) (run (c ∷ ds)) (x s)) cs h
+
+-- of the calls as they are
+module _ (cable : Cable) (pos : 1 ≤ cable .n) (start : Table) (begins : Placed cable 0 start) (cs : List Call) where
+  pub by-test : (p : Premise) → test p cable start cs ≡ true → Holds p cable start cs
+  by-test p e = by-test-on cable (calls cable pos start begins) cs p e
 
   pub by-failed-test : (p : Premise) → test p cable start cs ≡ false → Holds p cable start cs → ⊥
-  by-failed-test p e h = true≢false (sym (tested p h) ∙ e)
+  by-failed-test p e h = true≢false (sym (tested cable (calls cable pos start begins) cs p h) ∙ e)

@@ -1,4 +1,5 @@
--- What it means that each premise of demand 3 is needed: a run that breaks it alone, and a claim with it.
+-- What it means that each premise of demand 3 is needed: a run that breaks it alone, and a claim with it; and that one clause more is needed where nothing is to differ from the rule before
+-- request f.
 use Prim.Native.Nat.{ℕ, suc, _-_, _≤_}
 use mathlib.Core.Path.{_≡_}
 use mathlib.Core.Bool.{true}
@@ -9,8 +10,9 @@ use Rattle.ring.specs.declared.Cable.{Cable}
 use Rattle.ring.specs.Ring.{ringSize, sponsorCount}
 use Rattle.bench.specs.Table.{Table}
 use Rattle.bench.specs.Calls.{setUpOf}
-use Rattle.bench.specs.Runs.{Call, entry}
-use Rattle.agreement.specs.Demand.{AtEach, KeepsList, HearEverything, Claims, EverySequence}
+use Rattle.bench.specs.Runs.{Call, tableAfter, entryOn}
+use Rattle.agreement.specs.Demand.{AtEach, AfterEach, KeepsListOn, HearEverythingOn, PremisesOn, Claims, EverySequence}
+use Rattle.agreement.specs.Repeated.{runBefore}
 
 -- ---- the premises, one by one (the fields of Premises, agreement's specs/Demand)
 
@@ -20,11 +22,14 @@ pub data Premise : Type 0 where
   list-kept : Premise
   all-heard : Premise
 
+abbrev pub HoldsOn : Premise → Cable → (List Call → Table) → List Call → Type 0
+HoldsOn few-failures cable run cs = (a : ℕ) → sum (λ u. entryOn run cs u .failures) (suc a) (cable .n) ≤ cable .k - 1
+HoldsOn one-outside cable run cs = (a : ℕ) → sum (λ u. num (entryOn run cs u .outside)) (suc a) (cable .n) ≤ 1
+HoldsOn list-kept cable run cs = AtEach (KeepsListOn cable run) cs
+HoldsOn all-heard cable run cs = AtEach (HearEverythingOn cable run) cs
+
 abbrev pub Holds : Premise → Cable → Table → List Call → Type 0
-Holds few-failures cable start cs = (a : ℕ) → sum (λ u. entry start cs u .failures) (suc a) (cable .n) ≤ cable .k - 1
-Holds one-outside cable start cs = (a : ℕ) → sum (λ u. num (entry start cs u .outside)) (suc a) (cable .n) ≤ 1
-Holds list-kept cable start cs = AtEach (KeepsList cable start) cs
-Holds all-heard cable start cs = AtEach (HearEverything cable start) cs
+Holds p cable start cs = HoldsOn p cable (tableAfter start) cs
 
 abbrev pub Others : Premise → Cable → Table → List Call → Type 0
 Others few-failures cable start cs = Holds one-outside cable start cs × Holds list-kept cable start cs × Holds all-heard cable start cs
@@ -49,3 +54,11 @@ Without p = EverySequence (Others p) Claims
 -- Each is needed: without it the demand is false.
 abbrev pub EachNeeded : Type 0
 EachNeeded = (p : Premise) → Without p → ⊥
+
+-- And so is the clause of `NothingDiffers` (agreement's specs/Repeated) on the members between a departure and a joining: without it something differs.
+abbrev pub BetweenNeeded : Type 0
+BetweenNeeded =
+    EverySequence
+    (λ cable start cs. PremisesOn cable (runBefore start) cs)
+    (λ cable start cs. AfterEach (λ before. tableAfter start before ≡ runBefore start before) cs)
+    → ⊥

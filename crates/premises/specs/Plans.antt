@@ -36,6 +36,11 @@ threeLeft = lost ∷ ok ∷ ok ∷ ok ∷ restart 1 ∷ (replicate 9 ok ++ (slot
 abbrev pub noThird : List Call
 noThird = lost ∷ lost ∷ ok ∷ ok ∷ ok ∷ []
 
+-- `5 3`: node 1 leaves in slot 4, follows after slot 14 and knocks in slot 16. In slot 19 node 4 decides node 5, whose message of slot 15 was lost: three are left until node 1 joins, and node 4
+-- decides node 2 as well, whose message of slot 17 was lost. By the rule before request f node 2 stays until slot 21.
+abbrev pub twoAtOnce : List Call
+twoAtOnce = lost ∷ ok ∷ ok ∷ ok ∷ restart 1 ∷ (replicate 10 ok ++ (lost ∷ ok ∷ lost ∷ ok ∷ ok ∷ []))
+
 -- `4 2`: node 1 misses node 2 in both windows, follows {3,4}, knocks in slot 9 and joins in slot 12 with {1,3,4}.
 abbrev pub missesTwice : List Call
 missesTwice =

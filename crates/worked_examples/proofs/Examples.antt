@@ -25,7 +25,7 @@ worked-examples a b c d =
     and refl and refl  -- the listing
     and refl  -- node 3 misses slot 2
     and refl and refl and refl and refl and refl  -- and slot 4 is lost
-    and refl and refl and refl and refl  -- nodes 1 and 2 off
+    and refl and refl and refl  -- nodes 1 and 2 off
     and tt
 
 pub request-examples : (a b c d e f : Node)

@@ -81,9 +81,9 @@ examples lent =
     ∷ (told (after 4 2 lent slotFourLost) 1 gives holds allFour)
     ∷ (told (after 4 2 lent slotFourLost) 2 gives out 1)
     ∷ (apart (after 4 2 lent slotFourLost) gives 1)
-    -- "n = 4, k = 3, nodes 1 and 2 off from the start: 1 leaves at slot 4, 2 at slot 8."
+    -- "n = 4, k = 3, nodes 1 and 2 off from the start: 1 leaves at slot 4, 2 at slot 8." With request f 2 leaves at slot 4, too: "The last example of document 01
+    -- then has 2 leaving at slot 4" (document 02).
     ∷ (tellings (after 4 3 lent (twoOff 3)) gives out 4 ∷ out 4 ∷ replicate 2 (holds allFour))
-    ∷ (tellings (after 4 3 lent (twoOff 4)) gives out 4 ∷ out 4 ∷ replicate 2 (holds (these (2 ∷ 3 ∷ 4 ∷ []))))
-    ∷ (tellings (after 4 3 lent (twoOff 7)) gives out 4 ∷ out 4 ∷ replicate 2 (holds (these (2 ∷ 3 ∷ 4 ∷ []))))
+    ∷ (tellings (after 4 3 lent (twoOff 4)) gives out 4 ∷ out 4 ∷ replicate 2 (holds (these (3 ∷ 4 ∷ []))))
     ∷ (tellings (after 4 3 lent (twoOff 8)) gives out 4 ∷ out 4 ∷ replicate 2 (holds (these (3 ∷ 4 ∷ []))))
     ∷ []

@@ -1,6 +1,6 @@
 //! Document 01, "The node record", "One slot, for a member, following or knocking node" and
-//! "Listening", with the own mark of document 02, request e. Every call takes a record and gives the next
-//! one, or the number of the refusal: a refused record stays as it was.
+//! "Listening", with the own mark of document 02, request e, and the repeated departure of request f. Every call
+//! takes a record and gives the next one, or the number of the refusal: a refused record stays as it was.
 
 use super::ring::{self, Set};
 use super::{message, refusal};
@@ -320,17 +320,27 @@ impl Node {
         }
     }
 
-    /// "the decided member leaves if its mark is off. If that is this node, it leaves with cause 1"
+    /// Request f: "the departure step is repeated on the shortened set until the decided member is marked, nobody
+    /// is decided, or the node itself has left."
     pub fn step_3(&mut self, sender: u32) -> Result<(), Leaving> {
-        match ring::decided(self.n, self.k, self.set, sender) {
-            Some(met) if !self.marks.has(met.member) => {
-                if met.member == self.own {
-                    return Err(Leaving::With(Cause::Unconfirmed));
-                }
-                self.set = self.set.without(met.member);
-            }
-            _ => {}
+        while let Some(member) = self.departing(sender) {
+            self.depart(member)?;
         }
+        Ok(())
+    }
+
+    /// "the decided member leaves if its mark is off": that member, if it does.
+    pub fn departing(&self, sender: u32) -> Option<u32> {
+        let decided = ring::decided(self.n, self.k, self.set, sender)?.member;
+        (!self.marks.has(decided)).then_some(decided)
+    }
+
+    /// "If that is this node, it leaves with cause 1"
+    pub fn depart(&mut self, member: u32) -> Result<(), Leaving> {
+        if member == self.own {
+            return Err(Leaving::With(Cause::Unconfirmed));
+        }
+        self.set = self.set.without(member);
         Ok(())
     }
 

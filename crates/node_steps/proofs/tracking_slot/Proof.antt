@@ -1,17 +1,19 @@
 -- `node_steps::tracking_slot` meets its contract: its tests are those of the definition, in their order. Assumes nothing.
 use Prim.Native.Nat.{ℕ}
 use mathlib.Core.Path.{_≡_, refl, sym, ap, ap₂, _∙_}
-use mathlib.Core.Bool.{Bool}
+use mathlib.Core.Bool.{Bool, cond}
 use borrow.Author.Needs.{needs}
 use Rattle.nodeset.specs.Sets.{has}
-use Rattle.nodeset.proofs.Tests.{told, chosen, otherwise}
+use Rattle.nodeset.proofs.Tests.{chosen, otherwise}
 use Rattle.message.specs.declared.Reading.{Reading}
 use Rattle.node_record.specs.declared.Node.{Node}
-use Rattle.node_changes.specs.Changes.{withSet}
+use Rattle.node_record.specs.declared.Cause.the-variants.{Unconfirmed}
+use Rattle.node_changes.specs.Changes.{leave, withSet}
 use Rattle.node_steps.specs.declared.Digest.{Digest}
 use Rattle.node_steps.specs.declared.Effect.{Effect}
+use Rattle.node_steps.specs.declared.Departure.{Departure}
 use Rattle.node_steps.specs.Steps.{settle}
-use Rattle.node_steps.specs.Digests.{decidedBy, effectOf, takenBy, decidedWhere, departingBy, trackingWith, trackingBy}
+use Rattle.node_steps.specs.Digests.{decidedBy, effectOf, takenBy, decidedWhere, departures, departingBy, trackingWith, trackingBy}
 use Rattle.node_steps.proofs.tracking_slot.Statement.{statement}
 use Rattle.node_steps.proofs.tracking_slot.Tie as tie
 
@@ -22,9 +24,14 @@ unfolding trackingBy
 with-found d s heard v i e m p q r =
     ap (λ (b : Bool). trackingWith b e m s v) p ∙ ap₂ (λ (x : Effect) (y : ℕ). trackingWith (has (v .set) s) x y s v) q r
 
--- step 3 of the record w after the first two, with the decided member x
-departs : (i : Bool) (e : Effect) (m s x : ℕ) (v w : Node) → w ≡ takenBy i s e v → x ≡ decidedWhere i m → departingBy i x s w ≡ departingBy i (decidedWhere i m) s (takenBy i s e v)
-departs i e m s x v w f g = ap₂ (λ (y : ℕ) (u : Node). departingBy i y s u) g f
+-- what comes of step 3 of the record w
+abbrev ended : Bool → ℕ → Node → Departure → Node
+ended i s w d = cond (d .left) (leave Unconfirmed w) (settle i s (withSet (d .set) w))
+
+-- step 3 of the record w after the first two, with the member x that is decided first
+departs : (i : Bool) (e : Effect) (m s x : ℕ) (v w : Node) (d : Departure) → w ≡ takenBy i s e v → x ≡ decidedWhere i m → d ≡ departures (w .cable .n) x s (w .set) w
+    → ended i s w d ≡ departingBy i (decidedWhere i m) s (takenBy i s e v)
+departs i e m s x v w d f g h = ap (ended i s w) h ∙ ap₂ (λ (y : ℕ) (u : Node). departingBy i y s u) g f
 
 has-requires : tie.Need-has-requires
 has-requires c κs = search needs
@@ -52,27 +59,26 @@ decided-by-requires c κs = search needs
 decided-where-requires : tie.Need-decided-where-requires
 decided-where-requires c κs = search needs
 
-is-struck-requires : tie.Need-is-struck-requires
-is-struck-requires c κs = search needs
+departures-requires : tie.Need-departures-requires
+departures-requires c κs = search needs
 
 leave-requires-2 : tie.Need-leave-requires-2
 leave-requires-2 c κs = search needs
 
 returns-2 : tie.Need-returns-2
 returns-2 c =
-    let d = c .before .before .before .before in
+    let p = c .before .before in
+    let x = p .before in
+    let d = x .before in
     let t = d .before in
     let f = t .before .before .before .before in
     let a = f .before .before .args in
     let i = f .before .has .result in
     c .leave2 .ensures
-    ∙ sym (chosen _ _ (told (c .before .before .is-struck .ensures) (c .before .if2 .taken)))
-    ∙ departs i (f .effect-of .result) (d .decided-by .result) (a .s) (c .before .before .before .decided-where .result) (a .v) (t .taken .result) (t .taken .ensures) (c .before .before .before .decided-where .ensures)
+    ∙ sym (chosen _ _ (c .before .if2 .taken))
+    ∙ departs i (f .effect-of .result) (d .decided-by .result) (a .s) (x .decided-where .result) (a .v) (t .taken .result) (p .departures .result) (t .taken .ensures) (x .decided-where .ensures) (p .departures .ensures)
     ∙ sym (otherwise _ _ (t .before .if1 .left))
     ∙ with-found (a .digest) (a .s) (a .heard) (a .v) i (f .effect-of .result) (d .decided-by .result) (f .before .has .ensures) (f .effect-of .ensures) (d .decided-by .ensures)
-
-set-after-requires : tie.Need-set-after-requires
-set-after-requires c κs = search needs
 
 with-set-requires : tie.Need-with-set-requires
 with-set-requires c κs = search needs
@@ -82,17 +88,17 @@ settle-requires c κs = search needs
 
 returns-3 : tie.Need-returns-3
 returns-3 c =
-    let x = c .before .before .before .before .before in
+    let p = c .before .before .before in
+    let x = p .before in
     let d = x .before in
     let t = d .before in
     let f = t .before .before .before .before in
     let a = f .before .before .args in
     let i = f .before .has .result in
-    let w = t .taken .result in
     c .settle .ensures
-    ∙ ap (settle i (a .s)) (c .before .with-set .ensures ∙ ap (λ (y : ℕ). withSet y w) (c .before .before .set-after .ensures))
-    ∙ sym (otherwise _ _ (told (c .before .before .before .before .is-struck .ensures) (c .before .before .before .if2 .left)))
-    ∙ departs i (f .effect-of .result) (d .decided-by .result) (a .s) (x .decided-where .result) (a .v) w (t .taken .ensures) (x .decided-where .ensures)
+    ∙ ap (settle i (a .s)) (c .before .with-set .ensures)
+    ∙ sym (otherwise _ _ (c .before .before .if2 .left))
+    ∙ departs i (f .effect-of .result) (d .decided-by .result) (a .s) (x .decided-where .result) (a .v) (t .taken .result) (p .departures .result) (t .taken .ensures) (x .decided-where .ensures) (p .departures .ensures)
     ∙ sym (otherwise _ _ (t .before .if1 .left))
     ∙ with-found (a .digest) (a .s) (a .heard) (a .v) i (f .effect-of .result) (d .decided-by .result) (f .before .has .ensures) (f .effect-of .ensures) (d .decided-by .ensures)
 
@@ -107,10 +113,9 @@ tracking-slot-spec =
     taken-requires
     decided-by-requires
     decided-where-requires
-    is-struck-requires
+    departures-requires
     leave-requires-2
     returns-2
-    set-after-requires
     with-set-requires
     settle-requires
     returns-3)

@@ -3,7 +3,7 @@
 use super::protocol::{entries_of, rows_of, Call, Command, Held, Told, FIGURES, HEAD, ROWS, TAIL};
 use super::tally::History;
 use comparison::child;
-use comparison::events::KINDS;
+use comparison::events::{several, KINDS};
 use comparison::messages::hex;
 use comparison::model::node::{Node, State};
 use comparison::record_bytes::{shown_record, RECORD};
@@ -51,7 +51,7 @@ fn answers(count: &mut Count, commands: &[Command], output: &mut dyn Read) -> Re
     let mut got = Vec::new();
     let mut history = History::default();
     for (i, command) in commands.iter().enumerate() {
-        let off = off_of(command, held.table());
+        let (off, before) = (off_of(command, held.table()), held.table().to_vec());
         let Some(told) = held.run(command, &mut expected) else {
             history.follow(count, command, (held.size, held.lent), &[])?;
             continue;
@@ -60,6 +60,8 @@ fn answers(count: &mut Count, commands: &[Command], output: &mut dyn Read) -> Re
         note(count, command, &told, &expected);
         if let (Command::Call(Call::Slot { .. }, _), 0) = (command, told.number) {
             note_own_marks(count, held.table());
+            let departures = before.iter().zip(held.table()).filter_map(|(row, after)| several(row, after));
+            departures.for_each(|name| count.event(name));
         }
         off.filter(|_| told.number == 0).into_iter().for_each(|name| count.event(name));
         child::read_answer(output, expected.len(), &mut got)

@@ -27,9 +27,14 @@ const CASES: &[Case] = &[
         run: vectors::groups,
     },
     Case {
-        name: "vectors: lists of request e's example, model and program",
+        name: "vectors: pairs and figures of a slot in which several leave, by request f, model and program",
         meets: &[0],
-        run: vectors::feeder_cut,
+        run: vectors::several_leave,
+    },
+    Case {
+        name: "vectors: lists of the examples of requests e and f, model and program",
+        meets: &[0],
+        run: vectors::lists,
     },
     Case {
         name: "vectors: figures of leavings, joinings and offs by request a, model and program",

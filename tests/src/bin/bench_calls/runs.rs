@@ -5,7 +5,7 @@ use super::compare::{compare, BOTH, LOWER, OFFS, OWN_MARKS};
 use super::protocol::{Call, Command, ROWS};
 use super::script::{any_record, no_node, one_not_out, Script, SHORT};
 use comparison::adversary::Adversary;
-use comparison::events::KINDS;
+use comparison::events::{KINDS, SEVERAL};
 use comparison::lasting::Lasting;
 use comparison::model::bench;
 use comparison::model::ledger::Figures;
@@ -113,6 +113,7 @@ fn compare_met(count: &mut Count, script: &Script) -> Result<(), String> {
     count.needs(&OFFS)?;
     count.needs(&OWN_MARKS)?;
     count.needs(&[BOTH, LOWER[2], LOWER[4]])?;
+    count.needs(&SEVERAL)?;
     count.needs(&KINDS)
 }
 

@@ -4,7 +4,7 @@ use super::compare::{compare, LOWER, OFFS, OWN_MARKS};
 use super::figures;
 use super::protocol::{Call, Command};
 use super::script::{Script, ENOUGH};
-use comparison::events::KINDS;
+use comparison::events::{KINDS, SEVERAL};
 use comparison::model::bench::check_table;
 use comparison::model::node::{Node, State, CLAUSES};
 use comparison::model::refusal;
@@ -53,6 +53,7 @@ pub fn sound(count: &mut Count) -> Result<(), String> {
     count.needs(&LOWER)?;
     count.needs(&OFFS)?;
     count.needs(&OWN_MARKS)?;
+    count.needs(&SEVERAL)?;
     count.needs(&["told: no list", "told: a list", "told: sets that differ"])
 }
 

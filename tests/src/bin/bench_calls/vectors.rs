@@ -1,10 +1,10 @@
-//! Runs whose pairs are typed from document 01 and request c, whose figures are typed from request a and whose
-//! lists are typed from request e; neither side makes an expected answer.
+//! Runs whose pairs are typed from document 01 and requests c and f, whose figures are typed from requests a and f and
+//! whose lists are typed from requests e and f; neither side makes an expected answer.
 
 use super::compare::{compare, BOTH, LOWER, OFFS};
 use super::protocol::{buffer_of, Call, Command, Held, FILL};
 use super::script::Script;
-use comparison::events::KINDS;
+use comparison::events::{KINDS, SEVERAL};
 use comparison::model::ledger::Figures;
 use comparison::random::Random;
 use comparison::report::Count;
@@ -49,7 +49,8 @@ const KNOCKS: Run = &[
     (OK, &[(2, 4)]),
 ];
 
-/// It hears nothing more: in slot 16 node 4 decides node 1, whose mark is off, and no mark is left.
+/// It hears nothing more: in slot 16 node 4 decides node 1 and then node 3, whose marks are off, and one member is
+/// left.
 const DEAF: Run = &[(MISS, &[]), (OK, &[(2, 3)]), (MISS, &[]), (MISS, &[(2, 6)])];
 
 /// No message is heard. In slot 15 node 3 decides node 4, whose own mark is on since slot 12, as it has heard no no;
@@ -107,9 +108,9 @@ const FOLLOWS_AS_ONE_LEAVES: Run = &[
     (OK, &[(3, 1), (2, 2)]),
 ];
 
-/// The model against the pairs, k = 2; the commands are for the program.
-fn follow(count: &mut Count, n: u8, runs: &[Run]) -> Result<Vec<Command>, String> {
-    let set_up = Call::SetUp { n: u32::from(n), k: 2 };
+/// The model against the pairs; the commands are for the program.
+fn follow(count: &mut Count, (n, k): (u8, u32), runs: &[Run]) -> Result<(Vec<Command>, Held), String> {
+    let set_up = Call::SetUp { n: u32::from(n), k };
     let mut commands = vec![Command::Size(n), Command::Lend(n), Command::Call(set_up, 0)];
     let mut held = Held::first();
     let mut answer = Vec::new();
@@ -125,12 +126,12 @@ fn follow(count: &mut Count, n: u8, runs: &[Run]) -> Result<Vec<Command>, String
         count.check(same, || format!("call {}: pairs {pairs:?}, and by the model {told:?}", i + 1))?;
         commands.push(command);
     }
-    Ok(commands)
+    Ok((commands, held))
 }
 
 pub fn pairs(count: &mut Count) -> Result<(), String> {
     for runs in [[RETURN, KNOCKS], [RETURN, DEAF]] {
-        let commands = follow(count, 4, &runs)?;
+        let (commands, _) = follow(count, (4, 2), &runs)?;
         compare(count, &commands)?;
     }
     count.needs(&KINDS)
@@ -145,37 +146,107 @@ pub fn groups(count: &mut Count) -> Result<(), String> {
         (5, &[FOLLOWS_AS_ONE_LEAVES]),
     ];
     for (n, runs) in runs {
-        let commands = follow(count, n, runs)?;
+        let (commands, _) = follow(count, (n, 2), runs)?;
         compare(count, &commands)?;
     }
     count.needs(&[BOTH, LOWER[0], LOWER[2], LOWER[3], LOWER[4]])
 }
 
-/// n = 6, k = 2; 2, 3, 5 and 6 are off before slot 1. The list after each slot: 2 leaves at slot 4, 3 at 5, 5 at 7
-/// and 6 at 10.
-#[rustfmt::skip]
-const FEEDER_CUT: [u32; 18] = [
-    0x3f, 0x3f, 0x3f, 0x3d, 0x39, 0x39,
-    0x29, 0x29, 0x29, 0x09, 0x09, 0x09,
-    0x09, 0x09, 0x09, 0x09, 0x09, 0x09,
+/// n = 4, k = 3: the messages of 1 and 2 are lost. In slot 4 node 4 decides 1 of four and 2 of three.
+const TWO_LEAVE: Run = &[(LOST, &[]), (LOST, &[]), (OK, &[]), (OK, &[(1, 1), (2, 1)])];
+
+/// n = 5, k = 4: in slot 5 node 5 decides 1 of five, 2 of four and 3 of three.
+const THREE_LEAVE: Run = &[(LOST, &[]), (LOST, &[]), (LOST, &[]), (OK, &[]), (OK, &[(1, 1), (2, 1), (3, 1)])];
+
+/// n = 5, k = 3: node 1 leaves in slot 4, and follows after two windows of five slots. The messages of 5 and 2 in
+/// slots 15 and 17 are lost, and in slot 16 it knocks. In slot 19 node 4 decides 5 of four and 2 of three, and is
+/// then the nearest before 1.
+const TWO_LEAVE_ONE_JOINS: Run = &[
+    (LOST, &[]),
+    (OK, &[]),
+    (OK, &[]),
+    (OK, &[(1, 1)]),
+    (Call::Restart(1), &[]),
+    (OK, &[]),
+    (OK, &[]),
+    (OK, &[]),
+    (OK, &[]),
+    (OK, &[]),
+    (OK, &[]),
+    (OK, &[]),
+    (OK, &[]),
+    (OK, &[]),
+    (OK, &[(1, 2)]),
+    (LOST, &[]),
+    (OK, &[(1, 3)]),
+    (LOST, &[]),
+    (OK, &[]),
+    (OK, &[(2, 1), (5, 1), (1, 4)]),
 ];
 
-/// Request e's example: nodes 1 and 4 stay, and no node's state changes in a slot.
-pub fn feeder_cut(count: &mut Count) -> Result<(), String> {
+/// Document 01's last example: who is switched off before slot 1 leaves no more in slot 4, and no state changes.
+const TWO_OFF: Run =
+    &[(Call::Off(1), &[]), (Call::Off(2), &[]), (OK, &[]), (OK, &[]), (OK, &[]), (OK, &[]), (OK, &[])];
+
+/// n and k, a run, and the figures of nodes 1 to n after it: left, joined, slot of the last leaving.
+type Several = ((u8, u32), Run, &'static [[u64; 3]]);
+
+const SEVERAL_LEAVE: &[Several] = &[
+    ((4, 3), TWO_LEAVE, &[[1, 0, 4], [1, 0, 4], [0, 0, 0], [0, 0, 0]]),
+    ((5, 4), THREE_LEAVE, &[[1, 0, 5], [1, 0, 5], [1, 0, 5], [0, 0, 0], [0, 0, 0]]),
+    ((5, 3), TWO_LEAVE_ONE_JOINS, &[[1, 1, 4], [1, 0, 19], [0, 0, 0], [0, 0, 0], [1, 0, 19]]),
+    ((4, 3), TWO_OFF, &[[1, 0, 0], [1, 0, 0], [0, 0, 0], [0, 0, 0]]),
+];
+
+/// Request f: several leave in one slot, in one of them before a node joins.
+pub fn several_leave(count: &mut Count) -> Result<(), String> {
+    for &(ring, run, figures) in SEVERAL_LEAVE {
+        let (commands, held) = follow(count, ring, &[run])?;
+        let expected: Vec<Figures> =
+            figures.iter().map(|&[left, joined, last]| Figures { left, joined, last }).collect();
+        let ledger = &held.entries[..held.lent];
+        count.check(ledger == expected, || format!("{ledger:?}, not {expected:?}"))?;
+        compare(count, &commands)?;
+    }
+    count.needs(&[BOTH, LOWER[2]])?;
+    count.needs(&SEVERAL)
+}
+
+/// n and k, the nodes that are off before slot 1, and the list after each slot.
+type Lists = ((u32, u32), &'static [u32], &'static [u32]);
+
+/// Request e's example: 2 leaves at slot 4, 3 at 5, 5 at 7 and 6 at 10; nodes 1 and 4 stay. And document 01's last
+/// example by request f: 1 and 2 leave at slot 4.
+#[rustfmt::skip]
+const LISTS: &[Lists] = &[
+    ((6, 2), &[2, 3, 5, 6], &[
+        0x3f, 0x3f, 0x3f, 0x3d, 0x39, 0x39,
+        0x29, 0x29, 0x29, 0x09, 0x09, 0x09,
+        0x09, 0x09, 0x09, 0x09, 0x09, 0x09,
+    ]),
+    ((4, 3), &[1, 2], &[0x0f, 0x0f, 0x0f, 0x0c, 0x0c, 0x0c, 0x0c, 0x0c]),
+];
+
+/// No node's state changes in a slot, and the lists agree.
+pub fn lists(count: &mut Count) -> Result<(), String> {
     let mut random = Random::new(100);
-    let mut script = Script::new();
-    script.push(Command::Size(6));
-    script.lend(&mut random, &[Figures::default(); 6]);
-    script.call(&mut random, Call::SetUp { n: 6, k: 2 });
-    for x in [2, 3, 5, 6] {
-        script.call(&mut random, Call::Off(x));
+    for &((n, k), off, lists) in LISTS {
+        let mut script = Script::new();
+        script.push(Command::Size(n as u8));
+        script.lend(&mut random, &vec![Figures::default(); n as usize]);
+        script.call(&mut random, Call::SetUp { n, k });
+        for &x in off {
+            script.call(&mut random, Call::Off(x));
+        }
+        for &list in lists {
+            let told = script.push(Command::Call(OK, 64)).expect("a call is answered");
+            let same = (told.number, told.pairs) == (0, 0) && (told.list, told.distance) == (Some(list), 0);
+            count
+                .check(same, || format!("slot {}: list {list:08x}, and by the model {told:?}", told.slot))?;
+        }
+        compare(count, &script.commands)?;
     }
-    for list in FEEDER_CUT {
-        let told = script.push(Command::Call(OK, 64)).expect("a call is answered");
-        let same = (told.number, told.pairs) == (0, 0) && (told.list, told.distance) == (Some(list), 0);
-        count.check(same, || format!("slot {}: list {list:08x}, and by the model {told:?}", told.slot))?;
-    }
-    compare(count, &script.commands)
+    Ok(())
 }
 
 /// A call that is made so many times, and node 2's figures after each: left, joined, slot of the last leaving.

@@ -1,9 +1,14 @@
-//! The model's bench by document 01, and demand 3 on it: it holds for the rules and not for changed ones.
+//! The model's bench by document 01, and demand 3 on it: it holds for the rules and not for changed ones. And what
+//! request f claims of the rules without it.
 
 mod calls;
+mod differs;
 mod mutants;
 mod premises;
 mod runs;
+mod steps;
+mod typed;
+mod without;
 
 use comparison::report::{self, Case};
 use std::process::ExitCode;
@@ -28,6 +33,16 @@ const CASES: &[Case] = &[
         run: runs::true_rules,
     },
     Case { name: "changed rules: a claim fails for each, in such runs", meets: &[], run: runs::mutants },
+    Case {
+        name: "request f: nothing differs in runs that keep k + 1 also between departure and joining",
+        meets: &[],
+        run: differs::generated,
+    },
+    Case {
+        name: "request f: with k in between the tables differ, all other premises kept",
+        meets: &[],
+        run: differs::typed,
+    },
 ];
 
 fn main() -> ExitCode {

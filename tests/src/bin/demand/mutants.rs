@@ -1,8 +1,12 @@
-//! Rules with one change each. Under the premises each of them must break demand 3. A no that erases an earlier
-//! yes is none of them: the demand holds with it, and the vectors of single nodes rule it out.
+//! Rules with one change each. Under the premises each of them must break demand 3. Some changes are none of them,
+//! since the demand holds with them; the vectors of single nodes rule them out. A no that erases an earlier yes is
+//! one. With request f one clean window, or two with unequal nodes, are others: a node that follows then lacks only
+//! members that were lost at the window's end, and where its shorter set decides another, the repeat takes the
+//! members to that set too.
 
+use super::steps::{self, next_sender, Steps};
 use comparison::model::bench::Rules;
-use comparison::model::node::{Cause, Leaving, Node, Said, State};
+use comparison::model::node::{Leaving, Node, Said, State};
 use comparison::model::ring::{self, Set};
 
 #[derive(Clone, Copy, PartialEq, Eq, Debug)]
@@ -25,10 +29,11 @@ pub enum Mutant {
     SponsorsByNumber,
     /// The decision falls out where the sender is not heard.
     NoDecisionUnheard,
-    /// One clean window is enough.
-    OneWindow,
-    /// Two clean windows in a row are enough, whatever nodes were heard in them.
-    UnequalWindows,
+    /// A departure goes on to the nearer members, past a marked one too: each sponsored one whose mark is off
+    /// leaves.
+    AllSponsored,
+    /// After a departure the next nearer member is decided, however many are left.
+    NextNearer,
 }
 
 use Mutant::*;
@@ -44,8 +49,8 @@ pub const ALL: [(Mutant, &str); 11] = [
     (JoinsUnheard, "claim fails: a knocking node joins unheard"),
     (SponsorsByNumber, "claim fails: sponsors counted by number across gaps"),
     (NoDecisionUnheard, "claim fails: no decision where the sender is not heard"),
-    (OneWindow, "claim fails: one clean window is enough"),
-    (UnequalWindows, "claim fails: two unequal clean windows are enough"),
+    (AllSponsored, "claim fails: each sponsored member whose mark is off leaves"),
+    (NextNearer, "claim fails: after a departure the next nearer member is decided"),
 ];
 
 impl Rules for Mutant {
@@ -77,24 +82,16 @@ impl Rules for Mutant {
                 node.return_heard = true;
                 node.step(heard)
             }
-            (OneWindow | UnequalWindows, State::Listening) => {
-                self.other_windows(&mut node, heard.is_some());
-                node.step(heard)
-            }
             (NoCause3, State::Member | State::Following) => {
                 let returning = node.returning != 0;
                 node.step(heard.map(|(acks, return_bit)| (acks, return_bit && returning)))
             }
-            (SponsorsByNumber | NoDecisionUnheard, State::Member | State::Following | State::Knocking) => {
-                self.stepped(node, heard)
+            (SponsorsByNumber | NoDecisionUnheard | AllSponsored | NextNearer, _) => {
+                steps::slot(&node, heard, |node, sender, heard| self.steps(node, sender, heard))
             }
             _ => node.step(heard),
         }
     }
-}
-
-fn next_sender(node: &Node) -> u32 {
-    ring::sender(node.n, node.slots + 1)
 }
 
 fn yes_stays(node: &Node, heard: Option<Said>) -> Node {
@@ -139,48 +136,12 @@ impl Mutant {
                 Some((acks, _)) => self == AnyYes && acks != 0,
             }
     }
+}
 
-    /// At the end of a window: the last one counts as clean and as equal.
-    fn other_windows(self, node: &mut Node, heard: bool) {
-        let data = &mut node.listening;
-        let sender = ring::sender(node.n, node.slots + 1);
-        let last_slot = data.done + 1 == node.n;
-        if last_slot && (self == OneWindow || data.last != Set::EMPTY) {
-            data.last = if heard { data.heard.with(sender) } else { data.heard };
-        }
-    }
-
-    /// One slot with the steps as they stand, but for the changed ones.
-    fn stepped(self, mut node: Node, heard: Option<Said>) -> Node {
-        let sender = next_sender(&node);
-        node.slots += 1;
-        if let Err(why) = self.steps(&mut node, sender, heard) {
-            node.leave(why);
-        }
-        node
-    }
-
-    fn steps(self, node: &mut Node, sender: u32, heard: Option<Said>) -> Result<(), Leaving> {
-        let in_set = node.set.has(sender);
-        if in_set {
-            self.step_1(node, sender, heard)?;
-        } else {
-            node.step_2(sender, heard);
-        }
-        if in_set {
-            self.step_3(node, sender, heard)?;
-        }
-        node.enough_members()?;
-        node.step_4()?;
-        if in_set {
-            node.step_5(sender);
-        }
-        Ok(())
-    }
-
-    fn step_1(self, node: &mut Node, sender: u32, heard: Option<Said>) -> Result<(), Leaving> {
+impl Steps for Mutant {
+    fn step_1(&self, node: &mut Node, sender: u32, heard: Option<Said>) -> Result<(), Leaving> {
         match heard {
-            Some((acks, return_bit)) if self == SponsorsByNumber => {
+            Some((acks, return_bit)) if *self == SponsorsByNumber => {
                 let before = *node;
                 let heard = Some((acks_by_member(node, sender, acks), return_bit));
                 node.step_1(sender, heard)?;
@@ -193,18 +154,40 @@ impl Mutant {
         }
     }
 
-    fn step_3(self, node: &mut Node, sender: u32, heard: Option<Said>) -> Result<(), Leaving> {
-        if self == NoDecisionUnheard {
-            let decides = heard.is_some() || sender == node.own;
-            return if decides { node.step_3(sender) } else { Ok(()) };
-        }
-        match by_number(node, sender).last() {
-            Some(x) if x == node.own && !node.marks.has(x) => Err(Leaving::With(Cause::Unconfirmed)),
-            Some(x) if !node.marks.has(x) => {
-                node.set = node.set.without(x);
-                Ok(())
-            }
-            _ => Ok(()),
+    fn step_3(&self, node: &mut Node, sender: u32, heard: Option<Said>) -> Result<(), Leaving> {
+        let unheard = heard.is_none() && sender != node.own;
+        match self {
+            SponsorsByNumber => depart_by_number(node, sender),
+            NoDecisionUnheard if unheard => Ok(()),
+            AllSponsored => depart_sponsored(node, sender, |_| true),
+            NextNearer => depart_sponsored(node, sender, |marked| !marked),
+            _ => node.step_3(sender),
         }
     }
+}
+
+/// The repeat of request f; it ends, too, where the decided number is no member's.
+fn depart_by_number(node: &mut Node, sender: u32) -> Result<(), Leaving> {
+    let decided = |node: &Node| by_number(node, sender).last();
+    while let Some(x) = decided(node).filter(|&x| node.set.has(x) && !node.marks.has(x)) {
+        node.depart(x)?;
+    }
+    Ok(())
+}
+
+/// The sponsored members one after the other, the furthest first, as long as `goes_on` says so of one that is marked
+/// or not; those whose mark is off leave.
+fn depart_sponsored(node: &mut Node, sender: u32, goes_on: fn(bool) -> bool) -> Result<(), Leaving> {
+    let sponsored: Vec<u32> =
+        ring::sponsored(node.n, node.k, node.set, sender).map(|met| met.member).collect();
+    for &x in sponsored.iter().rev() {
+        let marked = node.marks.has(x);
+        if !marked {
+            node.depart(x)?;
+        }
+        if !goes_on(marked) {
+            break;
+        }
+    }
+    Ok(())
 }

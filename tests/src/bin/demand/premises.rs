@@ -1,13 +1,10 @@
 //! Plans that break one premise and keep the others: it is found, and without it a claim fails. And plans
 //! that keep all of them.
 
+use super::typed::{calls, Plan};
 use comparison::model::bench::{self, Document01};
 use comparison::model::demand::{Broken, Claim, Demand, Premise};
-use comparison::model::program;
 use comparison::report::Count;
-
-/// Lines with the times that each is run; the first holds n and k.
-type Plan = &'static [(u32, &'static str)];
 
 #[rustfmt::skip]
 const BROKEN: &[(Plan, Premise, Claim)] = &[
@@ -20,8 +17,10 @@ const BROKEN: &[(Plan, Premise, Claim)] = &[
      Premise::Outside, Claim::Distance),
     // The list is {2,3,4}; in slot 16 node 4 decides 2 with ks = 2, but 1, which heard it, joins with all.
     (&[(1, "4 3"), (1, "lost"), (3, "ok"), (1, "on 1"), (9, "ok"), (1, "miss 3 4"), (2, "ok")], Premise::List, Claim::Distance),
-    // After slot 4 the list is {2,3,4}, and the third member after 2 is 2 itself.
-    (&[(1, "4 3"), (2, "lost"), (3, "ok")], Premise::List, Claim::NoDecidingSlot),
+    // In slot 4 node 4 decides 1 and then, with three members left, 2: as the slot began, the third member after 2 was 1.
+    (&[(1, "4 3"), (2, "lost"), (2, "ok")], Premise::List, Claim::LeavesEarly),
+    // Nobody is left who decides 1.
+    (&[(1, "4 2"), (1, "lost"), (1, "off 1"), (1, "off 2"), (1, "off 3"), (1, "off 4"), (3, "ok")], Premise::List, Claim::NoDecidingSlot),
     // 1 misses node 2 in both windows, follows {3,4} and joins with {1,3,4}.
     (&[(1, "4 2"), (1, "off 1"), (1, "on 1"), (1, "ok"), (1, "miss 1"), (3, "ok"), (1, "miss 1"), (6, "ok")], Premise::Hearing, Claim::Distance),
 ];
@@ -45,17 +44,14 @@ const KEPT: &[Plan] = &[
 
 /// The line that breaks something, counted from 1, and what; none if the plan ends before.
 fn follow(plan: Plan, demand: fn(u32, u32) -> Demand) -> Option<(usize, Broken)> {
-    let lines: Vec<&str> = plan.iter().flat_map(|&(times, line)| vec![line; times as usize]).collect();
-    let (n, k) = lines[0].split_once(' ').expect("n and k");
-    let (n, k) = (n.parse().expect("n"), k.parse().expect("k"));
+    let (n, k, calls) = calls(plan);
     let mut nodes = bench::set_up(n, k, n as usize).expect("n and k are in range");
     let mut demand = demand(n, k);
-    for (i, line) in lines.iter().enumerate().skip(1) {
+    for (line, call) in (2..).zip(calls) {
         let before = nodes.clone();
-        let call = program::call(n, line.as_bytes()).expect("a line");
         let slot = bench::run(&Document01, &mut nodes, call).expect("no line is refused");
         if let Err(broken) = demand.judge(&before, call, slot.as_ref(), &nodes) {
-            return Some((i + 1, broken));
+            return Some((line, broken));
         }
     }
     None

@@ -13,7 +13,7 @@ const RUNS: u64 = 40_000;
 const MUTANT_RUNS: u64 = 15_000;
 
 /// n and k of a run. Most rings are small, since more happens in them.
-fn ring(random: &mut Random) -> (u32, u32) {
+pub fn ring(random: &mut Random) -> (u32, u32) {
     let largest = match random.below(20) {
         0 => 32,
         1 => 16,

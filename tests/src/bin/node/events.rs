@@ -1,9 +1,10 @@
 //! What happens to a node in a call, told from the records before and after it and from the bytes
 //! heard. It only counts, so that no case passes without meeting what it is for.
 
+use comparison::events::several;
 use comparison::model::message;
-use comparison::model::node::{Cause, Node, State};
-use comparison::model::ring;
+use comparison::model::node::{Cause, Node, Said, State};
+use comparison::model::ring::{self, Set};
 use comparison::report::Count;
 
 /// What whole cables must meet.
@@ -35,13 +36,11 @@ pub const OF_CABLES: &[&str] = &[
     "following: drops a member",
     "following: to listening, return bit",
     "following: to listening, too few members",
-    "following: to listening, no mark",
     "knocking: joins",
     "knocking: joins by the joining slot's return bit alone",
     "knocking: hears another knock",
     "knocking: to following",
     "knocking: to listening, too few members",
-    "knocking: to listening, no mark",
     "off: of a member",
     "off: of a listening node",
     "off: of a following node",
@@ -51,6 +50,15 @@ pub const OF_CABLES: &[&str] = &[
     "restart: after cause 2",
     "restart: after cause 3",
     "restart: after cause 4",
+    "departures: two in one slot at one node",
+    "departures: three or more in one slot at one node",
+    "repeat: fewer are sponsored",
+    "repeat: the node itself leaves",
+    "repeat: sender not heard",
+    "repeat: and a node joins",
+    "repeat: following to listening",
+    "repeat: knocking to listening",
+    "member: decided at a later look, neither yes nor no heard",
 ];
 
 pub fn off(count: &mut Count, before: &Node) {
@@ -78,13 +86,31 @@ struct Slot<'a> {
     before: &'a Node,
     after: &'a Node,
     sender: u32,
-    heard: Option<(u32, bool)>,
+    heard: Option<Said>,
+    /// Those who leave the set in step 3, in their order; the node itself can be the last.
+    left: Vec<u32>,
+}
+
+/// Who leaves the set of a member, following or knocking node.
+fn leaving(mut node: Node, sender: u32, heard: Option<Said>) -> Vec<u32> {
+    let mut left = Vec::new();
+    if !node.set.has(sender) || node.step_1(sender, heard).is_err() {
+        return left;
+    }
+    while let Some(x) = node.departing(sender) {
+        left.push(x);
+        if node.depart(x).is_err() {
+            break;
+        }
+    }
+    left
 }
 
 pub fn slot(count: &mut Count, before: &Node, after: &Node, bytes: &[u8]) {
     let sender = ring::sender(before.n, after.slots);
     let heard = if sender == before.own { None } else { message::read(before.k, bytes).ok() };
-    let slot = Slot { before, after, sender, heard };
+    let slot = Slot { before, after, sender, heard, left: leaving(*before, sender, heard) };
+    slot.repeat(count);
     match before.state {
         State::Member => slot.of_member(count),
         State::Listening => slot.of_listening(count),
@@ -95,6 +121,33 @@ pub fn slot(count: &mut Count, before: &Node, after: &Node, bytes: &[u8]) {
 }
 
 impl Slot<'_> {
+    /// Departures after the first one of the slot.
+    fn repeat(&self, count: &mut Count) {
+        if self.left.len() < 2 {
+            return;
+        }
+        let Node { k, own, set, .. } = *self.before;
+        let fewer = ring::ks(k, set.count() - 1) < ring::ks(k, set.count());
+        count.event(if fewer { "repeat: fewer are sponsored" } else { "repeat: as many are sponsored" });
+        several(self.before, self.after).into_iter().for_each(|name| count.event(name));
+        if self.left.last() == Some(&own) {
+            count.event("repeat: the node itself leaves");
+        }
+        if self.heard.is_none() && self.sender != own {
+            count.event("repeat: sender not heard");
+        }
+        if self.joins() {
+            count.event("repeat: and a node joins");
+        }
+        match (self.before.state, self.after.state) {
+            (State::Following, State::Following) => count.event("repeat: following"),
+            (State::Following, State::Listening) => count.event("repeat: following to listening"),
+            (State::Knocking, State::Knocking) => count.event("repeat: knocking"),
+            (State::Knocking, State::Listening) => count.event("repeat: knocking to listening"),
+            _ => {}
+        }
+    }
+
     fn of_member(&self, count: &mut Count) {
         self.answer(count);
         match self.after.state {
@@ -124,6 +177,9 @@ impl Slot<'_> {
                 if self.decides_unanswered() {
                     count.event("member: decided, neither yes nor no heard");
                 }
+                if self.decides_unanswered() && !self.left.is_empty() {
+                    count.event("member: decided at a later look, neither yes nor no heard");
+                }
             }
         }
     }
@@ -145,10 +201,15 @@ impl Slot<'_> {
         });
     }
 
+    /// The set after step 3.
+    fn shortened(&self) -> Set {
+        self.left.iter().fold(self.before.set, |set, &x| set.without(x))
+    }
+
     /// The sender decides this member, which stays only because its mark is on from its own slot.
     fn decides_unanswered(&self) -> bool {
         let Node { n, k, own, set, .. } = *self.before;
-        let decided = ring::decided(n, k, set, self.sender);
+        let decided = ring::decided(n, k, self.shortened(), self.sender);
         set.has(self.sender) && decided.is_some_and(|met| met.member == own) && !self.after.yes_heard
     }
 
@@ -232,11 +293,8 @@ impl Slot<'_> {
         listed && self.before.returning == 0 && self.heard.is_some_and(|(_, return_bit)| return_bit)
     }
 
-    /// Two members, and the decided one goes because neither its mark nor the sender's bit says yes.
+    /// Fewer than two members are left after step 3.
     fn leaves_too_few(&self) -> bool {
-        let Node { n, k, set, marks, .. } = *self.before;
-        let yes = self.heard.is_some_and(|(acks, _)| acks & 1 == 1);
-        let decided = ring::decided(n, k, set, self.sender);
-        set.has(self.sender) && set.count() == 2 && decided.is_some_and(|met| !marks.has(met.member) && !yes)
+        self.shortened().count() < 2
     }
 }

@@ -17,7 +17,7 @@ use std::process::ExitCode;
 
 const CASES: &[Case] = &[
     Case {
-        name: "vectors: runs of single nodes by document 01 and request e, model and program",
+        name: "vectors: runs of single nodes by document 01 and requests e and f, model and program",
         meets: &[0, 10, 11],
         run: vectors::single_nodes,
     },

@@ -1,5 +1,5 @@
-//! Whole cables with literal tables after them: the examples of document 01 that concern a cable, request e's
-//! example, and runs that break a premise of the agreement each.
+//! Whole cables with literal tables after them: the examples of document 01 that concern a cable, those of requests e
+//! and f, and runs that break a premise of the agreement each.
 
 use super::cable::{Cable, Fate};
 use super::compare::compare;
@@ -52,14 +52,16 @@ const PLANS: &[Plan] = &[
     Plan { what: "two off, slot 3", ring: (4, 3), lines: &[(1, Off(1)), (1, Off(2)), (3, Ok)], after: &[
         (1, OFF, &[]), (2, OFF, &[]), (3, MEMBER, &[1, 2, 3, 4]), (4, MEMBER, &[1, 2, 3, 4]),
     ] },
+    // Request f: "The last example of document 01 then has 2 leaving at slot 4."
     Plan { what: "two off, slot 4", ring: (4, 3), lines: &[(1, Off(1)), (1, Off(2)), (4, Ok)], after: &[
-        (3, MEMBER, &[2, 3, 4]), (4, MEMBER, &[2, 3, 4]),
-    ] },
-    Plan { what: "two off, slot 7", ring: (4, 3), lines: &[(1, Off(1)), (1, Off(2)), (7, Ok)], after: &[
-        (3, MEMBER, &[2, 3, 4]), (4, MEMBER, &[2, 3, 4]),
+        (1, OFF, &[]), (2, OFF, &[]), (3, MEMBER, &[3, 4]), (4, MEMBER, &[3, 4]),
     ] },
     Plan { what: "two off, slot 8", ring: (4, 3), lines: &[(1, Off(1)), (1, Off(2)), (8, Ok)], after: &[
         (1, OFF, &[]), (2, OFF, &[]), (3, MEMBER, &[3, 4]), (4, MEMBER, &[3, 4]),
+    ] },
+    // Node 5 decides 1 of five, 2 of four and 3 of three.
+    Plan { what: "three lost", ring: (5, 4), lines: &[(3, Lost), (2, Ok)], after: &[
+        (1, UNCONFIRMED, &[]), (2, UNCONFIRMED, &[]), (3, UNCONFIRMED, &[]), (4, MEMBER, &[4, 5]), (5, MEMBER, &[4, 5]),
     ] },
     // Nodes 1 and 4 hold the same set throughout: 2 leaves at slot 4, 3 at 5, 5 at 7, 6 at 10.
     Plan { what: "feeder cut, slot 3", ring: (6, 2), lines: &feeder_cut(3), after: &[
@@ -94,9 +96,14 @@ const PLANS: &[Plan] = &[
            lines: &[(1, Lost), (3, Ok), (1, On(1)), (9, Ok), (1, Miss(&[3, 4])), (2, Ok)], after: &[
         (1, MEMBER, &[1, 2, 3, 4]), (3, MEMBER, &[1, 3, 4]), (4, MEMBER, &[1, 3, 4]),
     ] },
-    // The third member after node 2 is node 2 itself.
-    Plan { what: "no deciding slot", ring: (4, 3), lines: &[(2, Lost), (2, Ok)], after: &[
-        (1, UNCONFIRMED, &[]), (3, MEMBER, &[2, 3, 4]), (4, MEMBER, &[2, 3, 4]),
+    // Node 4 decides 1 of four, and 2 of three before the third member after it has its slot.
+    Plan { what: "two lost", ring: (4, 3), lines: &[(2, Lost), (2, Ok)], after: &[
+        (1, UNCONFIRMED, &[]), (2, UNCONFIRMED, &[]), (3, MEMBER, &[3, 4]), (4, MEMBER, &[3, 4]),
+    ] },
+    // In slot 19 node 4 decides 5 of four and 2 of three; then node 1 joins.
+    Plan { what: "k members between a departure and a joining", ring: (5, 3),
+           lines: &[(1, Lost), (3, Ok), (1, On(1)), (10, Ok), (1, Lost), (1, Ok), (1, Lost), (2, Ok)], after: &[
+        (1, MEMBER, &[1, 3, 4]), (2, UNCONFIRMED, &[]), (3, MEMBER, &[1, 3, 4]), (4, MEMBER, &[1, 3, 4]), (5, UNCONFIRMED, &[]),
     ] },
     // Node 1 misses node 2 in both windows, follows the other two and joins.
     Plan { what: "a returning node that misses", ring: (4, 2),

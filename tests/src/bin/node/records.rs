@@ -10,9 +10,18 @@ use comparison::record_bytes::shown_record;
 use comparison::records::{broken, disturb, sound, BREAKS, STATES};
 use comparison::report::Count;
 
-/// What slots on any sound record must meet, beyond what cables meet.
-const BEYOND_CABLES: &[&str] =
-    &["knocking: silent in the own slot", "out: counts a slot", "listening: goes on"];
+/// What slots on any sound record must meet, beyond what cables meet. A following or knocking node that has lost its
+/// last mark on a cable has too few members by then, since the repeat takes all but the sender.
+const BEYOND_CABLES: &[&str] = &[
+    "following: to listening, no mark",
+    "knocking: to listening, no mark",
+    "knocking: silent in the own slot",
+    "repeat: as many are sponsored",
+    "repeat: following",
+    "repeat: knocking",
+    "out: counts a slot",
+    "listening: goes on",
+];
 
 /// Loads the record; then one to three slots, and sometimes another call.
 fn slots_on(count: &mut Count, random: &mut Random, script: &mut Script, mut node: Node) {

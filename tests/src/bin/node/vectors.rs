@@ -1,4 +1,4 @@
-//! Runs of single nodes with literal answers, typed from document 01 and request e; neither side makes an
+//! Runs of single nodes with literal answers, typed from document 01 and requests e and f; neither side makes an
 //! expected answer. The examples of whole cables are followed on each of their nodes.
 
 use super::compare::compare;
@@ -50,7 +50,7 @@ struct Run {
     steps: &'static [Step],
 }
 
-/// The messages of k = 2 and of k = 3, named by their acknowledgement bits, bit 1 first.
+/// The messages of k = 2, 3 and 4, named by their acknowledgement bits, bit 1 first.
 const YY: Bytes = &[0x02, 0x03, 0x01, 0x00];
 const NY: Bytes = &[0x02, 0x02, 0x01, 0x00];
 const YN: Bytes = &[0x02, 0x01, 0x01, 0x00];
@@ -63,6 +63,9 @@ const NNY: Bytes = &[0x03, 0x04, 0x01, 0x00];
 const NYY: Bytes = &[0x03, 0x06, 0x01, 0x00];
 const YYN: Bytes = &[0x03, 0x03, 0x01, 0x00];
 const YYY: Bytes = &[0x03, 0x07, 0x01, 0x00];
+const YNN_RETURN: Bytes = &[0x03, 0x01, 0x01, 0x01];
+const NNNY: Bytes = &[0x04, 0x08, 0x01, 0x00];
+const YNNN: Bytes = &[0x04, 0x01, 0x01, 0x00];
 const NOTHING: Bytes = &[];
 
 const ALL: Nodes = &[1, 2, 3, 4];
@@ -155,7 +158,9 @@ const RUNS: &[Run] = &[
         Slot(NOTHING, Member(ALL, &[1, 3, 4], 0)),
         Slot(NOTHING, Member(&[1, 3, 4], &[1, 3], 0)),
     ] },
-    // "P: n = 4, k = 3, nodes 1 and 2 off from the start: 1 leaves at slot 4, 2 at slot 8."
+    // "P: n = 4, k = 3, nodes 1 and 2 off from the start", by request f: "then has 2 leaving at slot 4". In it node 4
+    // sponsors 3, 2 and 1 and decides 1; of {2,3,4} it sponsors 3 and 2 and decides 2; of {3,4} it decides 3. With ks as
+    // the slot began, 3, nobody would be the third before it of {2,3,4}.
     Run { what: "nodes 1 and 2 off, node 1", ring: (4, 3, 1), from: None, steps: &[
         Off,
         SendRefused(10),
@@ -168,11 +173,11 @@ const RUNS: &[Run] = &[
         Slot(NOTHING, Member(ALL, &[3, 4], 0)),
         Sends(NNY),
         Slot(NOTHING, Member(ALL, &[3, 4], 0)),
-        Slot(YNN, Confirmed(&[2, 3, 4], &[3, 4], 0)),
-        Slot(NOTHING, Confirmed(&[2, 3, 4], &[3, 4], 0)),
-        Slot(NOTHING, Confirmed(&[2, 3, 4], &[3, 4], 0)),
-        Sends(NYN),
-        Slot(NOTHING, Member(&[2, 3, 4], &[3, 4], 0)),
+        Slot(YNN, Confirmed(&[3, 4], &[3, 4], 0)),
+        Slot(NOTHING, Confirmed(&[3, 4], &[3, 4], 0)),
+        Slot(NOTHING, Confirmed(&[3, 4], &[3, 4], 0)),
+        Sends(YNN),
+        Slot(NOTHING, Member(&[3, 4], &[3, 4], 0)),
         Slot(YNN, Confirmed(&[3, 4], &[3, 4], 0)),
     ] },
     Run { what: "nodes 1 and 2 off, node 4", ring: (4, 3, 4), from: None, steps: &[
@@ -180,21 +185,116 @@ const RUNS: &[Run] = &[
         Slot(NOTHING, Member(ALL, &[3, 4], 0)),
         Slot(NNY, Confirmed(ALL, &[3, 4], 0)),
         Sends(YNN),
-        Slot(NOTHING, Member(&[2, 3, 4], &[3, 4], 0)),
-        Slot(NOTHING, Member(&[2, 3, 4], &[3, 4], 0)),
-        Slot(NOTHING, Member(&[2, 3, 4], &[3, 4], 0)),
-        Slot(NYN, Confirmed(&[2, 3, 4], &[3, 4], 0)),
+        Slot(NOTHING, Member(&[3, 4], &[3, 4], 0)),
+        Slot(NOTHING, Member(&[3, 4], &[3, 4], 0)),
+        Slot(NOTHING, Member(&[3, 4], &[3, 4], 0)),
+        Slot(YNN, Confirmed(&[3, 4], &[3, 4], 0)),
         Sends(YNN),
         Slot(NOTHING, Member(&[3, 4], &[3, 4], 0)),
+    ] },
+    // Slots 1 and 2 lost: node 3 says no to node 2, and in slot 4 it is the second that node 4 decides. "or the node
+    // itself has left", heard or not.
+    Run { what: "slots 1 and 2 lost, node 2", ring: (4, 3, 2), from: None, steps: &[
+        Slot(NOTHING, Member(ALL, &[2, 3, 4], 0)),
+        Sends(NYY),
+        Slot(NOTHING, Member(ALL, &[2, 3, 4], 0)),
+        Slot(NNY, Member(ALL, &[3, 4], 0)),
+        Slot(YNN, Out(Cause::Unconfirmed)),
+    ] },
+    Run { what: "slots 1, 2 and 4 lost, node 2", ring: (4, 3, 2), from: Some((3, Member(ALL, &[3, 4], 0))), steps: &[
+        Slot(NOTHING, Out(Cause::Unconfirmed)),
+    ] },
+    // It leaves with cause 1 before step 4 finds no other marked.
+    Run { what: "nothing heard, node 2", ring: (4, 3, 2), from: Some((3, Member(ALL, &[], 0))), steps: &[
+        Slot(NOTHING, Out(Cause::Unconfirmed)),
+    ] },
+    // n = 5, k = 4; 1, 2 and 3 are off and leave in slot 5: node 5 decides 1 of five, 2 of four, 3 of three, and stops
+    // at 4.
+    Run { what: "three off, node 4", ring: (5, 4, 4), from: None, steps: &[
+        Slot(NOTHING, Member(FIVE, &[2, 3, 4, 5], 0)),
+        Slot(NOTHING, Member(FIVE, &[3, 4, 5], 0)),
+        Slot(NOTHING, Member(FIVE, &[4, 5], 0)),
+        Sends(NNNY),
+        Slot(NOTHING, Member(FIVE, &[4, 5], 0)),
+        Slot(YNNN, Confirmed(&[4, 5], &[4, 5], 0)),
+    ] },
+    Run { what: "three off, node 5", ring: (5, 4, 5), from: None, steps: &[
+        Slot(NOTHING, Member(FIVE, &[2, 3, 4, 5], 0)),
+        Slot(NOTHING, Member(FIVE, &[3, 4, 5], 0)),
+        Slot(NOTHING, Member(FIVE, &[4, 5], 0)),
+        Slot(NNNY, Confirmed(FIVE, &[4, 5], 0)),
+        Sends(YNNN),
+        Slot(NOTHING, Member(&[4, 5], &[4, 5], 0)),
+    ] },
+    // As long as k + 1 are left the next one stands further back: node 4 sponsors 3 and 2, then 3 and 1, then 3 and 6,
+    // which is marked. Then the same with its message lost.
+    Run { what: "two leave of six", ring: (6, 2, 5), from: Some((3, Member(SIX, &[3, 4, 5, 6], 0))), steps: &[
+        Slot(YN, Member(&[3, 4, 5, 6], &[3, 4, 5, 6], 0)),
+    ] },
+    Run { what: "two leave of six, sender not heard", ring: (6, 2, 3), from: Some((3, Member(SIX, &[3, 4, 5, 6], 0))), steps: &[
+        Slot(NOTHING, Member(&[3, 4, 5, 6], &[3, 5, 6], 0)),
+    ] },
+    // "until the decided member is marked": node 4 sponsors 3, 2 and 1 and decides 1, then 3, 2 and 6 and decides 6. A
+    // nearer one stays, its mark on or off, be it the next or not.
+    Run { what: "the next nearer is not decided", ring: (6, 3, 5), from: Some((3, Member(SIX, &[3, 4, 5, 6], 0))), steps: &[
+        Slot(YNN, Member(&[2, 3, 4, 5, 6], &[3, 4, 5, 6], 0)),
+    ] },
+    Run { what: "the nearest is not decided", ring: (6, 3, 5), from: Some((3, Member(SIX, &[2, 4, 5, 6], 0))), steps: &[
+        Slot(NYN, Member(&[2, 3, 4, 5, 6], &[2, 4, 5, 6], 0)),
+    ] },
+    // The bits are read on the set as the slot begins: the second is a no for node 2, which leaves, and none for node
+    // 1, which then stands in its place and has heard no yes. Its mark decides.
+    Run { what: "bits are not read again", ring: (5, 2, 1), from: Some((3, Member(FIVE, &[1, 3, 4, 5], 0))), steps: &[
+        Slot(YN, Member(&[1, 3, 4, 5], &[1, 3, 4, 5], 0)),
+    ] },
+    Run { what: "the node itself, further back", ring: (5, 2, 1), from: Some((3, Member(FIVE, &[3, 4, 5], 0))), steps: &[
+        Slot(YN, Out(Cause::Unconfirmed)),
+    ] },
+    // "nobody is decided": the sender, here the node itself, is left alone. Step 4 follows.
+    Run { what: "all others leave", ring: (4, 2, 1), from: Some((0, Member(&[1, 2, 3], &[], 0))), steps: &[
+        Sends(NN),
+        Slot(NOTHING, Out(Cause::NothingHeard)),
+    ] },
+    // Following and knocking nodes: node 5 decides 2 of four, then 3 of three. Of {3,4,5} it takes 3 and 4: one member
+    // is too few, also for a knocking node that would join in this slot.
+    Run { what: "two leave, following", ring: (6, 3, 1), from: Some((4, Following(&[2, 3, 4, 5], &[4, 5], 0))), steps: &[
+        Slot(YNN, Following(&[4, 5], &[4, 5], 0)),
+    ] },
+    Run { what: "two leave, knocking", ring: (6, 3, 1), from: Some((4, Knocking(&[2, 3, 4, 5], &[4, 5], false))), steps: &[
+        Slot(YNN_RETURN, Member(&[1, 4, 5], &[1, 4, 5], 0)),
+    ] },
+    Run { what: "two leave of three, following", ring: (6, 3, 1), from: Some((4, Following(&[3, 4, 5], &[5], 0))), steps: &[
+        Slot(NNN, Listening(0, &[], 3, false, &[])),
+    ] },
+    Run { what: "two leave of three, knocking", ring: (6, 3, 1), from: Some((4, Knocking(&[3, 4, 5], &[5], true))), steps: &[
+        Slot(&[0x03, 0x00, 0x01, 0x01], Listening(0, &[], 3, false, &[])),
+    ] },
+    // Joining comes after the last departure. n = 6, k = 4: 5 leaves, then 6, and only then is node 4 the nearest
+    // member before 1.
+    Run { what: "two leave and one joins", ring: (6, 4, 3), from: Some((3, Member(&[2, 3, 4, 5, 6], &[2, 3, 4], 1))), steps: &[
+        Slot(&[0x04, 0x03, 0x01, 0x01], Confirmed(&[1, 2, 3, 4], &[1, 2, 3, 4], 0)),
+    ] },
+    // n = 5, k = 3: 5 leaves, and of the k members left 2 does, too; 1 joins. Nodes 3, 2 and 1.
+    Run { what: "k between departure and joining, node 3", ring: (5, 3, 3), from: Some((18, Member(&[2, 3, 4, 5], &[3, 4], 1))), steps: &[
+        Slot(YNN_RETURN, Confirmed(&[1, 3, 4], &[1, 3, 4], 0)),
+    ] },
+    Run { what: "k between departure and joining, node 2", ring: (5, 3, 2), from: Some((18, Member(&[2, 3, 4, 5], &[3, 4], 1))), steps: &[
+        Slot(YNN_RETURN, Out(Cause::Unconfirmed)),
+    ] },
+    Run { what: "k between departure and joining, node 1", ring: (5, 3, 1), from: Some((18, Knocking(&[2, 3, 4, 5], &[3, 4], true))), steps: &[
+        Slot(YNN_RETURN, Member(&[1, 3, 4], &[1, 3, 4], 0)),
     ] },
     // "P: n = 4, slot 4 has sender 4; slot 5 has 1."
     Run { what: "sender of slot 4", ring: (4, 2, 4), from: Some((3, Member(ALL, ALL, 0))), steps: &[Sends(YY)] },
     Run { what: "sender of slot 5", ring: (4, 2, 1), from: Some((4, Member(ALL, ALL, 0))), steps: &[Sends(YY)] },
     // "P: set {1,3,4}, k = 2: node 1 sponsors 4, 3 and decides 3."
     Run { what: "sponsored by 1", ring: (4, 2, 1), from: Some((0, Member(&[1, 3, 4], &[1, 3], 0))), steps: &[Sends(NY)] },
-    // Bit 1 is a no for node 4 itself: its own mark goes off, but node 1 does not decide it.
     Run { what: "decided by 1: no", ring: (4, 2, 4), from: Some((0, Member(&[1, 3, 4], &[4], 0))), steps: &[
-        Slot(NN, Member(&[1, 4], &[1], 0)),
+        Slot(YN, Confirmed(&[1, 4], &[1, 4], 0)),
+    ] },
+    // Bit 1 is a no for node 4 itself: its own mark goes off, and of {1,4} node 1 decides it.
+    Run { what: "decided by 1: no, then node 4", ring: (4, 2, 4), from: Some((0, Member(&[1, 3, 4], &[4], 0))), steps: &[
+        Slot(NN, Out(Cause::Unconfirmed)),
     ] },
     Run { what: "decided by 1: yes", ring: (4, 2, 4), from: Some((0, Member(&[1, 3, 4], &[4], 0))), steps: &[
         Slot(NY, Member(&[1, 3, 4], &[1, 3], 0)),

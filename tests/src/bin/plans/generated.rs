@@ -2,18 +2,21 @@
 
 use super::compare::{compare, SLOTS};
 use comparison::adversary::{those, Adversary};
-use comparison::events::KINDS;
+use comparison::events::{several, KINDS, SEVERAL};
 use comparison::lasting::Lasting;
-use comparison::model::bench::Slot;
+use comparison::model::bench::Call;
 use comparison::model::node::State;
 use comparison::plan::Plan;
 use comparison::random::Random;
 use comparison::report::Count;
 
-fn note_changes(count: &mut Count, slot: &Slot) {
-    for &(_, kind) in &slot.changes {
-        count.event(KINDS[kind as usize - 1]);
-    }
+/// Writes the line of a call and notes what changes in it.
+fn push(count: &mut Count, plan: &mut Plan, call: Call) {
+    let before = plan.nodes.clone();
+    let Some(slot) = plan.push(call) else { return };
+    slot.changes.iter().for_each(|&(_, kind)| count.event(KINDS[kind as usize - 1]));
+    let departures = before.iter().zip(&plan.nodes).filter_map(|(node, after)| several(node, after));
+    departures.for_each(|name| count.event(name));
 }
 
 /// A plan of so many lines after the first; no line of it is refused.
@@ -22,9 +25,7 @@ pub fn plan(count: &mut Count, adversary: &mut Adversary, n: u32, k: u32, lines:
     adversary.calm_down(n);
     for _ in 0..lines {
         let call = adversary.next(&plan.nodes);
-        if let Some(slot) = plan.push(call) {
-            note_changes(count, &slot);
-        }
+        push(count, &mut plan, call);
     }
     plan
 }
@@ -79,6 +80,7 @@ pub fn every_n_and_k(count: &mut Count) -> Result<(), String> {
         }
     }
     count.needs(SLOTS)?;
+    count.needs(&SEVERAL)?;
     count.needs(&KINDS)
 }
 
@@ -91,6 +93,7 @@ pub fn small_rings(count: &mut Count) -> Result<(), String> {
         compare_drawn(count, &mut adversary, n, k)?;
     }
     count.needs(SLOTS)?;
+    count.needs(&SEVERAL)?;
     count.needs(&KINDS)
 }
 
@@ -102,9 +105,7 @@ pub fn long(count: &mut Count) -> Result<(), String> {
         let mut plan = Plan::new(n, k);
         for _ in 0..50_000 {
             let call = lasting.next(&plan.nodes);
-            if let Some(slot) = plan.push(call) {
-                note_changes(count, &slot);
-            }
+            push(count, &mut plan, call);
         }
         plan.text.extend(b"off 99\n");
         compare(count, &plan.text)?;

@@ -11,7 +11,7 @@ use std::process::ExitCode;
 
 const CASES: &[Case] = &[
     Case {
-        name: "vectors: the examples of document 01 and of request e, model and program",
+        name: "vectors: the examples of document 01 and of requests e and f, model and program",
         meets: &[0],
         run: vectors::examples,
     },

@@ -1,4 +1,5 @@
-//! Plans with what they print, typed from document 01 and request e or worked out by hand; and the sample plans.
+//! Plans with what they print, typed from document 01 and requests e and f or worked out by hand; and the sample
+//! plans.
 
 use super::compare::{compare_with, repository};
 use comparison::report::Count;
@@ -15,10 +16,24 @@ const EXAMPLES: &[Vector] = &[
     ("4 2; ok; miss 3; ok; ok", &["1 1 sent 0000000f 0", "2 2 sent 0000000f 0", "3 3 sent 0000000f 0", "4 4 sent 0000000f 0"]),
     // "the same with slot 4 lost: .. node 3 holds {1,3,4}, node 1 all four, node 2 is out, distance 1"
     ("4 2; ok; miss 3; ok; lost", &["1 1 sent 0000000f 0", "2 2 sent 0000000f 0", "3 3 sent 0000000f 0", "4 4 lost 0000000f 1"]),
-    // "n = 4, k = 3, nodes 1 and 2 off from the start: 1 leaves at slot 4, 2 at slot 8"
+    // "n = 4, k = 3, nodes 1 and 2 off from the start", by request f: "then has 2 leaving at slot 4"
     ("4 3; off 1; off 2; ok; ok; ok; ok; ok; ok; ok; ok", &[
-        "1 1 silent 0000000f 0", "2 2 silent 0000000f 0", "3 3 sent 0000000f 0", "4 4 sent 0000000e 0",
-        "5 1 silent 0000000e 0", "6 2 silent 0000000e 0", "7 3 sent 0000000e 0", "8 4 sent 0000000c 0",
+        "1 1 silent 0000000f 0", "2 2 silent 0000000f 0", "3 3 sent 0000000f 0", "4 4 sent 0000000c 0",
+        "5 1 silent 0000000c 0", "6 2 silent 0000000c 0", "7 3 sent 0000000c 0", "8 4 sent 0000000c 0",
+    ]),
+    // The same with the messages of 1 and 2 lost: both leave by themselves in slot 4.
+    ("4 3; lost; lost; ok; ok; ok; ok; ok; ok", &[
+        "1 1 lost 0000000f 0", "2 2 lost 0000000f 0", "3 3 sent 0000000f 0", "4 4 sent 0000000c 0",
+        "5 1 silent 0000000c 0", "6 2 silent 0000000c 0", "7 3 sent 0000000c 0", "8 4 sent 0000000c 0",
+    ]),
+    // n = 5, k = 3: node 1 leaves in slot 4, follows after slot 14 and knocks in slot 16. In slot 19 node 4 decides 5 of
+    // four and 2 of three; then 1 joins.
+    ("5 3; lost; ok; ok; ok; on 1; ok; ok; ok; ok; ok; ok; ok; ok; ok; ok; lost; ok; lost; ok; ok; ok; ok; ok; ok; ok", &[
+        "1 1 lost 0000001f 0", "2 2 sent 0000001f 0", "3 3 sent 0000001f 0", "4 4 sent 0000001e 0", "5 5 sent 0000001e 0",
+        "6 1 silent 0000001e 0", "7 2 sent 0000001e 0", "8 3 sent 0000001e 0", "9 4 sent 0000001e 0", "10 5 sent 0000001e 0",
+        "11 1 silent 0000001e 0", "12 2 sent 0000001e 0", "13 3 sent 0000001e 0", "14 4 sent 0000001e 0", "15 5 lost 0000001e 0",
+        "16 1 knock 0000001e 0", "17 2 lost 0000001e 0", "18 3 sent 0000001e 0", "19 4 sent 0000000d 0", "20 5 silent 0000000d 0",
+        "21 1 sent 0000000d 0", "22 2 silent 0000000d 0", "23 3 sent 0000000d 0", "24 4 sent 0000000d 0",
     ]),
     // Both sponsors of node 1 miss it: 2 and 3 hold {2,3,4}, 4 holds all four.
     ("4 2; miss 2 3; ok; ok", &["1 1 sent 0000000f 0", "2 2 sent 0000000f 0", "3 3 sent 0000000e 1"]),
@@ -128,7 +143,7 @@ const REFUSED: &[Refused] = &[
     ("4 2\n4 2\n", "line 2 refusal 12\n"),
 ];
 
-/// The examples of document 01 and of request e, and some more.
+/// The examples of document 01 and of requests e and f, and some more.
 pub fn examples(count: &mut Count) -> Result<(), String> {
     for &(plan, printed) in EXAMPLES {
         let plan = plan.replace("; ", "\n") + "\n";
