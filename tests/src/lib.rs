@@ -11,6 +11,7 @@ pub mod messages;
 pub mod model;
 pub mod numbers;
 pub mod plan;
+pub mod power_cut;
 pub mod random;
 pub mod record_bytes;
 pub mod records;

@@ -5,13 +5,12 @@ use mathlib.Core.Path.{_≡_, sym, ap, ap₂, _∙_, subst}
 use mathlib.Core.Logic.{_≢_, _⊎_, inl, inr}
 use mathlib.Core.Bool.{Bool, true, false, cond, not}
 use native.Mathlib.Omega.{arith}
-use native.Mathlib.Decide.{ℕ-discrete, decLe, decLt}
+use native.Mathlib.Decide.{decLe, decLt}
 use lib.Dec.{eqb}
-use Rattle.nodeset.specs.Sums.{sum, num}
+use Rattle.nodeset.specs.Sums.{sum}
 use Rattle.nodeset.specs.Sets.{has, without, size}
 use Rattle.nodeset.proofs.Tests.{by-cases, chosen, otherwise}
-use Rattle.nodeset.proofs.Sums.{sum-le, sum-first, sum-next, sum-rest, sum-split}
-use Rattle.nodeset.proofs.Laws.{has-without, has-without-other}
+use Rattle.nodeset.proofs.Sums.{sum-first, sum-next, sum-rest, sum-split}
 use Rattle.nodeset.proofs.Counts.{size-with, size-without}
 use Rattle.ring.specs.declared.Cable.{Cable}
 use Rattle.ring.specs.declared.Found.the-variants as found
@@ -26,7 +25,8 @@ use Rattle.node_record.proofs.Tracking.{tracks}
 use Rattle.node_changes.specs.Changes.{leave, withSet}
 use Rattle.node_steps.specs.Steps.{marksAfter, leaves, settle}
 use Rattle.node_steps.specs.Inner.{readMarked, departing}
-use Rattle.agreement.proofs.History.{World, Untold, K, lst, failed, few-from, told-failures, told-in-time, span, sponsors-are, Before, before, num-is, num-isnt}
+use Rattle.agreement.proofs.History.{World, Untold, K, lst, failed, few-from, told-failures, told-in-time, span, sponsors-are, Before, before, num-is}
+use Rattle.agreement.proofs.Parts.{without-part, size-part}
 use Rattle.agreement.proofs.Invariant.{Knock}
 use Rattle.agreement.proofs.Marks.{no-both, not-true, not-false}
 use Rattle.agreement.proofs.Listed.{ListedSlot, Hearer, off-after, on-after}
@@ -42,18 +42,6 @@ module _ (n : ℕ) (most : n ≤ 32) (s : ℕ) where
   -- the returning node is not in the set
   abbrev Away : Node → Type 0
   Away v = v .returning ≢ 0 → (1 ≤ v .returning) × (v .returning ≤ n) × (has (v .set) (v .returning) ≡ false)
-
-  less : (set x y : ℕ) → has (without set x) y ≡ true → has set y ≡ true
-  less set x y e = go (ℕ-discrete x y)
-    where
-      go : Dec (x ≡ y) → has set y ≡ true
-      go (yes p) = absurd (no-both e (rw p (has-without set y)))
-      go (no p) = sym (has-without-other set x y p) ∙ e
-
-  size-less : (set x : ℕ) → size n (without set x) ≤ size n set
-  unfolding size
-  size-less set x = sum-le (λ y. num (has (without set x) y)) (λ y. num (has set y)) 1 n
-      (λ y _ _. by-cases (has (without set x) y) (λ e. omega (arith, num-is e, num-is (less set x y e))) (λ e. omega (arith, num-isnt e)))
 
   -- one member more at the most
   settled-size : (inside : Bool) (v w : Node) → Away v → Settled inside s v w → tracks (w .state) ≡ true → size n (w .set) ≤ suc (size n (v .set))
@@ -72,7 +60,7 @@ module _ (n : ℕ) (most : n ≤ 32) (s : ℕ) where
       choose Small (leaves s v m) (cond (eqb m (v .own)) (leave Unconfirmed v) (departing times s w)) (settle true s v)
       (λ _. choose Small (eqb m (v .own)) (leave Unconfirmed v) (departing times s w)
       (λ _ t. absurd (no-both t (gone-not v _ (leave-law Unconfirmed v))))
-      (λ _ t. omega (arith, departing-size times w still t, size-less (v .set) m)))
+      (λ _ t. omega (arith, departing-size times w still t, size-part n (without (v .set) m) (v .set) (λ y. without-part (v .set) m y))))
       (λ _ t. settled-size true v (settle true s v) away (settle-law true s v) t)
     where
       m : ℕ
@@ -85,7 +73,7 @@ module _ (n : ℕ) (most : n ≤ 32) (s : ℕ) where
       Small x = tracks (x .state) ≡ true → size n (x .set) ≤ suc (size n (v .set))
 
       still : Away (withSet (without (v .set) (memberIn (decidedIn s v))) v)
-      still nz = let a = away nz in (a .0, a .1, not-true _ (λ y. no-both (less (v .set) (memberIn (decidedIn s v)) (v .returning) y) (a .2)))
+      still nz = let a = away nz in (a .0, a .1, not-true _ (λ y. no-both (without-part (v .set) (memberIn (decidedIn s v)) (v .returning) y) (a .2)))
 
 -- ---- the second member decided
 

@@ -4,7 +4,7 @@ use mathlib.Core.Path.{_≡_, refl, sym, ap, _∙_}
 use mathlib.Core.Logic.{_≢_}
 use mathlib.Core.Bool.{Bool, true, false, cond}
 use native.Mathlib.Omega.{arith}
-use native.Mathlib.Decide.{ℕ-discrete, decLe}
+use native.Mathlib.Decide.{decLe}
 use Rattle.nodeset.specs.Sums.{sum, num}
 use Rattle.nodeset.specs.Sets.{has, without, size}
 use Rattle.nodeset.proofs.Tests.{by-cases}
@@ -19,6 +19,7 @@ use Rattle.ring.proofs.Walks as walks
 use Rattle.ring.proofs.Walks.{Met, walk-meets, before-is, others}
 use Rattle.node_steps.proofs.Answers.{At}
 use Rattle.agreement.proofs.History.{World, K, KFact, lst, one-knock, size-from, num-is, num-isnt}
+use Rattle.agreement.proofs.Parts.{without-part}
 use Rattle.agreement.proofs.Marks.{no-both, not-true, same-member}
 use Rattle.agreement.proofs.Listed.{ListedSlot, other-sender, same-window}
 
@@ -32,11 +33,7 @@ module _ (W : World) where
 
   pub drop-sub : (b : Bool) (L x y : ℕ) → has (dropping b L x) y ≡ true → has L y ≡ true
   drop-sub true L x y e = e
-  drop-sub false L x y e = go (ℕ-discrete x y)
-    where
-      go : Dec (x ≡ y) → has L y ≡ true
-      go (yes p) = absurd (no-both e (rw p (has-without L y)))
-      go (no p) = sym (has-without-other L x y p) ∙ e
+  drop-sub false L x y e = without-part L x y e
 
   pub drop-keeps : (b : Bool) (L x y : ℕ) → has L y ≡ true → (b ≡ false → x ≢ y) → has (dropping b L x) y ≡ true
   drop-keeps true L x y e h = e

@@ -10,12 +10,12 @@ use Rattle.nodeset.proofs.Tests.{by-cases}
 use Rattle.nodeset.proofs.Sums.{sum-le, sum-first, sum-add, sum-split, sum-at, one-place, num-le}
 use Rattle.ring.specs.declared.Cable.{Cable}
 use Rattle.ring.specs.declared.Found.the-variants.{Member}
-use Rattle.ring.specs.Ring.{sender, walk, memberBefore, sponsors, sponsored, decided}
-use Rattle.ring.proofs.Senders.{sender-range, round, size-round}
+use Rattle.ring.specs.Ring.{sender, memberBefore, sponsors, sponsored, decided}
+use Rattle.ring.proofs.Senders.{sender-range, round}
 use Rattle.ring.proofs.Walks as walks
-use Rattle.ring.proofs.Walks.{Met, walk-meets, before-is, others}
 use Rattle.ring.proofs.Members.{sponsored-before, decided-before}
 use Rattle.agreement.proofs.Past.{Past, noPast}
+use Rattle.agreement.proofs.Backwards as backwards
 
 -- a longer window has no smaller sum
 pub sum-more : (f : ℕ → ℕ) (a m d : ℕ) → sum f a m ≤ sum f a (m + d)
@@ -146,7 +146,7 @@ module _ (W : World) where
       omega (arith, sum-first lst (suc u) e, sum-first m (suc u) e, r, ap num (near N L κ (suc u) e y (omega arith) l′))
 
   pub size-from : (L a : ℕ) → 1 ≤ a → sum (walks.member n n-pos L) a n ≡ size n L
-  size-from L a h = let z : suc (a - 1) ≡ a = omega arith in rw z at (size-round n n-pos L (a - 1))
+  size-from = backwards.size-from n n-pos
 
   -- after n - 1 slots k listed ones have been
   pub full-round : (N L : ℕ) → K N L → k < size n L → (w e : ℕ) → 1 ≤ w → w + e ≡ N → suc e ≡ n → k ≤ sum lst (suc w) e
@@ -166,38 +166,11 @@ module _ (W : World) where
   unfolding sponsors
   sponsors-are L h = omega arith
 
-  -- The j-th member before the sender of slot N + 1: it spoke in slot u, and with it j members have spoken since.
-  pub record Before (N L j : ℕ) : Type 0 where
-    pub u : ℕ
-    pub e : ℕ
-    pub ago : u + e ≡ N
-    pub recent : suc e < n
-    pub listed : has L (sender n u) ≡ true
-    pub count : sum (walks.member n n-pos L) u (suc e) ≡ j
-    pub it : memberBefore n L (sender n (suc N)) j ≡ Member (sender n u) (suc e)
+  abbrev pub Before : ℕ → ℕ → ℕ → Type 0
+  Before N L j = backwards.Before n n-pos N L j
 
   pub before : (N L j : ℕ) → n ≤ N → 1 ≤ j → j < size n L → Before N L j
-  before N L j hn hj hs = go (walk-meets n n-pos L (n - 1) a j (omega arith) hj (omega (arith, others n n-pos L a (omega arith), num-le (has L (sender n (a + (n - 1)))))))
-    where
-      a : ℕ
-      a = suc (suc N - n)
-
-      z : a + (n - 1) ≡ suc N
-      z = omega (arith, n-pos)
-
-      go : Met n n-pos L (n - 1) a j → Before N L j
-      go m =
-          let y : suc (m .e - 1) ≡ m .e = omega (arith, m .back) in
-          let back : n - suc (m .u - a) ≡ suc (m .e - 1) = omega (arith, m .from, m .upto, m .back, n-pos) in
-          record {
-            u = m .u;
-            e = m .e - 1;
-            ago = omega (arith, m .upto, m .back, z);
-            recent = omega (arith, m .from, m .upto, m .back, z);
-            listed = m .listed;
-            count = ap (sum (walks.member n n-pos L) (m .u)) y ∙ m .count;
-            it = before-is n n-pos L (sender n (suc N)) j ∙ ap (λ (x : ℕ). walk (n - 1) n L (sender n x) j) (sym z) ∙ m .found ∙ ap (Member (sender n (m .u))) back;
-          }
+  before = backwards.before n n-pos
 
   -- the member that the sender of the next slot decides
   pub record Decision (N L : ℕ) : Type 0 where

@@ -1,5 +1,7 @@
 -- The proof of demand 3: `Demanded` has `demand3 : Demand3`. It is mathematics about the rules, over laws of the sender, the sets, the walk, the step and the table.
 pub mod Past
+pub mod Backwards
+pub mod Parts
 pub mod History
 pub mod Invariant
 pub mod Marks
@@ -16,6 +18,7 @@ pub mod Again
 pub mod Nodes
 pub mod Tables
 pub mod Reached
+pub mod Records
 pub mod Slots
 pub mod Entries
 pub mod Onwards

@@ -1,6 +1,6 @@
 -- A slot keeps the invariant of a table. Assumes nothing.
 use Prim.Native.Nat.{ℕ, suc, _+_, _^_, _≤_, _<_}
-use mathlib.Core.Path.{_≡_, refl, sym, ap, ap₂, _∙_, subst}
+use mathlib.Core.Path.{_≡_, refl, sym, ap, _∙_, subst}
 use mathlib.Core.Logic.{_≢_, inl, inr}
 use mathlib.Core.Bool.{Bool, true, false, cond, not, _&&_, _||_, false≢true}
 use native.Mathlib.Omega.{arith}
@@ -9,31 +9,25 @@ use lib.Dec.{eqb}
 use lib.ListN.{length}
 use borrow.Author.Tests.{eq-eqb, ne-eqb}
 use Rattle.nodeset.specs.Sets.{has, size}
-use Rattle.nodeset.proofs.Tests.{by-cases, chosen, otherwise}
+use Rattle.nodeset.proofs.Tests.{by-cases, otherwise}
 use Rattle.ring.specs.declared.Cable.{Cable}
-use Rattle.ring.specs.declared.Found.{Found}
 use Rattle.ring.specs.declared.Found.the-variants as found
-use Rattle.ring.specs.Ring.{sender, memberIn, sponsors, sponsored}
+use Rattle.ring.specs.Ring.{sender, sponsored}
 use Rattle.ring.proofs.Senders.{sender-range, sender-period}
 use Rattle.message.specs.declared.Reading.{Reading}
 use Rattle.message.specs.declared.Reading.the-variants as reading
 use Rattle.node_record.specs.declared.Node.{Node}
 use Rattle.node_record.specs.States.{isMember, isListening, isOut}
 use Rattle.node_record.specs.Soundness.{sound, limit}
-use Rattle.node_record.specs.Sponsoring.{sponsoredIn}
 use Rattle.node_record.proofs.Tracking.{tracks}
 use Rattle.node_changes.specs.Changes.{counted}
 use Rattle.node_steps.specs.Steps.{isHeard}
 use Rattle.node_steps.specs.Digests.{bitsHeard}
 use Rattle.node_steps.proofs.Cases.{slot-outside}
-use Rattle.node_sending.specs.Sending.{sends, markBits, bitsSent, returnSent}
-use Rattle.node_sending.proofs.Laws.{has-markBits}
-use Rattle.node_slot.specs.Slot.{afterSlot}
+use Rattle.node_sending.specs.Sending.{sends, bitsSent, returnSent}
 use Rattle.node_slot.specs.Inner.{readIn}
-use Rattle.node_slot.proofs.Read.{after-read}
-use Rattle.node.specs.declared.Stepped.{Stepped}
 use Rattle.bench.specs.Table.{Table, recordOf, slotsOf, speaker}
-use Rattle.bench.specs.Calls.{transmits, unheard, spoken, heardBy, tableAfterSlot}
+use Rattle.bench.specs.Calls.{transmits, unheard, heardBy, tableAfterSlot}
 use Rattle.bench.specs.Runs.{slot, listOf, isListed, misses}
 use Rattle.node_steps.proofs.Answers.{At}
 use Rattle.agreement.specs.Demand.{AllHear}
@@ -48,8 +42,8 @@ use Rattle.agreement.proofs.Rounds.{K′, k-next, next-lt, k′-listed,
 use Rattle.agreement.proofs.Alike.{listening-only, as-many}
 use Rattle.agreement.proofs.Again.{second, Once}
 use Rattle.agreement.proofs.Nodes.{NodeInv, HearsAny, read-once, read-shrunk, listed-after, next-list, outside-after}
-use Rattle.bench.proofs.Counted.{step-done}
-use Rattle.bench.proofs.Runs.{heard-unless, after-slot-length, after-slot-record}
+use Rattle.bench.proofs.Runs.{after-slot-length}
+use Rattle.agreement.proofs.Records.{readOf, read-is, record-after, sent-bits}
 use Rattle.agreement.proofs.Tables.{TableInv, Witness, witness, list-is, slots-at}
 use Rattle.agreement.proofs.Reached.{hear, hear-message, unheard-bits, unreached, and-no, reached, sent-parts, not-out, listening-neither, sends-tracks}
 
@@ -106,13 +100,9 @@ module _ (W : World) where
     abbrev pub message : Reading
     message = reading.Heard (bitsSent (recordOf t s)) (returnSent (recordOf t s))
 
-    spoken-is : spoken t ≡ cond (transmits t) message unheard
-    unfolding spoken
-    spoken-is = ap (λ (x : ℕ). cond (transmits t) (reading.Heard (bitsSent (recordOf t x)) (returnSent (recordOf t x))) unheard) speaker-is
-
     -- what node i hears
     abbrev pub hd : ℕ → Reading
-    hd i = cond (eqb s (recordOf t i .own)) unheard (cond (lost || has missed i) unheard (cond (transmits t) message unheard))
+    hd i = readOf s lost missed t i
 
     heard-is : (i : ℕ) → isHeard (hd i) ≡ ((transmits t && (not lost && not (has missed i))) && not (eqb s (recordOf t i .own)))
     heard-is i = hear (eqb s (recordOf t i .own)) lost (has missed i) (transmits t) message refl
@@ -121,7 +111,6 @@ module _ (W : World) where
     heard-message i e = hear-message (eqb s (recordOf t i .own)) lost (has missed i) (transmits t) message e
 
     message-says : has L s ≡ true → sends (recordOf t s) ≡ true → Says W N L message
-    unfolding bitsSent
     message-says onL p = record {
       z = recordOf t s;
       inv = iv;
@@ -142,19 +131,10 @@ module _ (W : World) where
         mem : isMember (recordOf t s .state) ≡ true
         mem = not-false (isMember (recordOf t s .state)) (λ f. no-both onL (iv .own-out f))
 
-        sent-bits : bitsSent (recordOf t s) ≡ markBits k (recordOf t s)
-        sent-bits = chosen _ _ mem ∙ ap (λ (x : ℕ). markBits x (recordOf t s)) (ap₂ sponsors (nv .cable-is) (iv .set-is) ∙ sponsors-are W L (begins .enough))
-
-        here : (j : ℕ) → sponsoredIn (recordOf t s .own) j (recordOf t s) ≡ sponsored cable L s j
-        here j =
-            ap₂ (λ (c : Cable) (set : ℕ). sponsored c set (recordOf t s .own) j) (nv .cable-is) (iv .set-is)
-            ∙ ap (λ (x : ℕ). sponsored cable L x j) (nv .own-is)
-
         bits : (j x : ℕ) → j < k → At x (sponsored cable L s (suc j)) → has (bitsSent (recordOf t s)) (suc j) ≡ has (recordOf t s .present) x
         bits j x h e =
-            ap (λ (b : ℕ). has b (suc j)) sent-bits
-            ∙ has-markBits (recordOf t s) k (suc j) (omega arith) (omega arith) (omega (arith, k-lt, n-most))
-            ∙ ap (λ (f : Found). has (recordOf t s .present) (memberIn f)) (here (suc j) ∙ e .it)
+            let q = sponsors-are W L (begins .enough) in
+            sent-bits cable L s (recordOf t s) mem (nv .cable-is) (iv .set-is) (nv .own-is) (omega (arith, q, k-lt, n-most)) j x (omega (arith, q)) e
 
     pub says : has L s ≡ true → (i : ℕ) → isHeard (hd i) ≡ true → Says W N L (hd i)
     says onL i e = subst (λ (r : Reading). Says W N L r) (sym (heard-message i e)) (message-says onL (sym transmits-is ∙ sent))
@@ -227,28 +207,16 @@ module _ (W : World) where
 
     -- what it is told is that
     pub told-is : (i : ℕ) → cond (eqb s (recordOf t i .own)) unheard (heardBy lost missed t i) ≡ hd i
-    told-is i = ap (cond (eqb s (recordOf t i .own)) unheard) (heard-unless lost missed t i ∙ ap (cond (lost || has missed i) unheard) spoken-is)
+    told-is i = read-is s lost missed t i speaker-is
 
     -- the node after the slot
     node-after : (i : ℕ) → 1 ≤ i → i ≤ n → recordOf (tableAfterSlot lost missed t) i ≡ readIn n (recordOf t i .state) s (hd i) (counted (recordOf t i))
     node-after i h l =
-        after-slot-record lost missed t i h (omega (arith, inv .len))
-        ∙ ap (λ (x : Stepped). x .node) (step-done (heardBy lost missed t i) (recordOf t i) (good i h l) few)
-        ∙ ap (λ (x : ℕ). afterSlot x (heardBy lost missed t i) (counted (recordOf t i))) its
-        ∙ after-read s (heardBy lost missed t i) (counted (recordOf t i))
-        ∙ ap (λ (c : Cable). readIn (c .n) (recordOf t i .state) s (cond (eqb s (recordOf t i .own)) unheard (heardBy lost missed t i)) (counted (recordOf t i))) (nv .cable-is)
-        ∙ ap (λ (x : Reading). readIn n (recordOf t i .state) s x (counted (recordOf t i))) (told-is i)
-      where
-        nv : NodeInv W N L i (recordOf t i)
-        nv = inv .nodes i h l
-
-        few : recordOf t i .slots < limit
-        few = omega (arith, nv .slots-is, slots-at W N L t inv, below)
-
-        its : sender (recordOf t i .cable .n) (recordOf t i .slots + 1) ≡ s
-        its =
-            let z : recordOf t i .slots + 1 + n ≡ suc N = omega (arith, nv .slots-is) in
-            ap (λ (c : Cable). sender (c .n) (recordOf t i .slots + 1)) (nv .cable-is) ∙ sym (sender-period n n-pos (recordOf t i .slots + 1) (omega arith)) ∙ ap (sender n) z
+        let nv = inv .nodes i h l in
+        let z : recordOf t i .slots + 1 + n ≡ suc N = omega (arith, nv .slots-is) in
+        record-after s lost missed t i h (omega (arith, inv .len)) (good i h l) (omega (arith, nv .slots-is, slots-at W N L t inv, below))
+        (ap (λ (c : Cable). sender (c .n) (recordOf t i .slots + 1)) (nv .cable-is) ∙ sym (sender-period n n-pos (recordOf t i .slots + 1) (omega arith)) ∙ ap (sender n) z) speaker-is
+        ∙ ap (λ (c : Cable). readIn (c .n) (recordOf t i .state) s (hd i) (counted (recordOf t i))) (nv .cable-is)
 
     pub len-after : length (tableAfterSlot lost missed t) ≡ n
     len-after = after-slot-length lost missed t ∙ inv .len

@@ -3,6 +3,7 @@
 pub mod bench;
 pub mod demand;
 pub mod ledger;
+pub mod many_dead;
 pub mod message;
 pub mod node;
 pub mod pieces;

@@ -6,7 +6,7 @@ use super::ring::{self, Set};
 use super::{message, refusal};
 
 /// "The out state carries its cause"
-#[derive(Clone, Copy, PartialEq, Eq, Debug)]
+#[derive(Clone, Copy, PartialEq, Eq, Hash, Debug)]
 pub enum Cause {
     Unconfirmed = 1,
     NothingHeard = 2,
@@ -15,7 +15,7 @@ pub enum Cause {
 }
 
 /// "States: member, listening, following, knocking, out."
-#[derive(Clone, Copy, PartialEq, Eq, Debug)]
+#[derive(Clone, Copy, PartialEq, Eq, Hash, Debug)]
 pub enum State {
     Member,
     Listening,
@@ -26,7 +26,7 @@ pub enum State {
 
 /// "Listening data: slots done in this window, nodes heard in it, the shortest run of ones in it,
 /// whether a return bit of 1 was heard in it, and the nodes of the last clean window"
-#[derive(Clone, Copy, PartialEq, Eq, Default)]
+#[derive(Clone, Copy, PartialEq, Eq, Hash, Default)]
 pub struct ListeningData {
     pub done: u32,
     pub heard: Set,
@@ -35,7 +35,7 @@ pub struct ListeningData {
     pub last: Set,
 }
 
-#[derive(Clone, Copy, PartialEq, Eq)]
+#[derive(Clone, Copy, PartialEq, Eq, Hash)]
 pub struct Node {
     pub n: u32,
     pub k: u32,

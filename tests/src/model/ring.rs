@@ -40,7 +40,7 @@ pub fn sender(n: u32, slot: u64) -> u32 {
 }
 
 /// Nodes of 1 to 32; node 1 is the lowest bit.
-#[derive(Clone, Copy, PartialEq, Eq, Default)]
+#[derive(Clone, Copy, PartialEq, Eq, Hash, Default)]
 pub struct Set(pub u32);
 
 impl Set {

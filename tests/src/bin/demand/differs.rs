@@ -4,7 +4,7 @@
 
 use super::runs::ring;
 use super::typed::{calls, Plan};
-use super::without::{Between, WithoutF};
+use super::without::{Between, Other};
 use comparison::careful::Run;
 use comparison::model::bench::{self, Call, Document01, Kind, Slot};
 use comparison::model::demand::{Broken, Demand};
@@ -36,7 +36,7 @@ fn note(count: &mut Count, slot: &Slot) {
 fn run(count: &mut Count, random: &mut Random) -> Result<(), String> {
     let (n, k) = ring(random);
     let seldom = random.within(2, 8);
-    let mut run = Run::new(&WithoutF, n, k, random.number(), seldom);
+    let mut run = Run::new(&Other::WithoutF, n, k, random.number(), seldom);
     for _ in 0..25 * n {
         let mut now = run.nodes.clone();
         let call = match run.advance() {
@@ -124,7 +124,7 @@ pub fn typed(count: &mut Count) -> Result<(), String> {
     let last = calls.len() - 1;
     for (i, call) in calls.into_iter().enumerate() {
         let table = before.clone();
-        let slot = bench::run(&WithoutF, &mut before, call).expect("no line is refused");
+        let slot = bench::run(&Other::WithoutF, &mut before, call).expect("no line is refused");
         bench::run(&Document01, &mut now, call).expect("no line is refused");
         let broken = demand.judge(&table, call, slot.as_ref(), &before);
         count.check(broken.is_ok(), || format!("line {}: {broken:?}", i + 2))?;

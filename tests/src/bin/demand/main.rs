@@ -1,8 +1,9 @@
 //! The model's bench by document 01, and demand 3 on it: it holds for the rules and not for changed ones. And what
-//! request f claims of the rules without it.
+//! requests f and g claim.
 
 mod calls;
 mod differs;
+mod many;
 mod mutants;
 mod premises;
 mod runs;
@@ -43,6 +44,19 @@ const CASES: &[Case] = &[
         meets: &[],
         run: differs::typed,
     },
+    Case { name: "request g: the judge finds claims and premises broken", meets: &[], run: many::judge },
+    Case {
+        name: "request g: plans that keep it, and break it without request e or f",
+        meets: &[],
+        run: many::typed,
+    },
+    Case { name: "request g: every table of n from 3 to 7, every k", meets: &[], run: many::few_nodes },
+    Case {
+        name: "request g: runs of every n and k in which nodes fall silent",
+        meets: &[],
+        run: many::any_number,
+    },
+    Case { name: "request g: other rules, a claim fails for each", meets: &[], run: many::others },
 ];
 
 fn main() -> ExitCode {

@@ -1,19 +1,46 @@
-//! The rules as they were without request f.
+//! The rules without one of requests e and f, or with another reading of it.
 
 use super::steps::{self, Steps};
 use comparison::model::bench::Rules;
 use comparison::model::node::{Leaving, Node, Said};
+use comparison::model::ring;
 
-/// "the decided member leaves if its mark is off", once in a slot.
-pub struct WithoutF;
+#[derive(Clone, Copy, PartialEq, Eq, Debug)]
+pub enum Other {
+    /// Without request e: "its own mark goes off" in the own slot; a no does nothing.
+    WithoutE,
+    /// A sponsor that is not heard counts as a no.
+    SilenceIsNo,
+    /// Without request f: "the decided member leaves if its mark is off", once in a slot.
+    WithoutF,
+    /// ks stays that of the set as the slot begins.
+    KsKept,
+    /// The message's bits are read again on each shortened set.
+    BitsAgain,
+}
 
-impl Steps for WithoutF {
-    fn step_3(&self, node: &mut Node, sender: u32, _: Option<Said>) -> Result<(), Leaving> {
-        node.departing(sender).map_or(Ok(()), |member| node.depart(member))
+use Other::*;
+
+impl Steps for Other {
+    fn step_1(&self, node: &mut Node, sender: u32, heard: Option<Said>) -> Result<(), Leaving> {
+        match self {
+            WithoutE => own_mark_off(node, sender, heard),
+            SilenceIsNo => silence_is_no(node, sender, heard),
+            _ => node.step_1(sender, heard),
+        }
+    }
+
+    fn step_3(&self, node: &mut Node, sender: u32, heard: Option<Said>) -> Result<(), Leaving> {
+        match self {
+            WithoutF => node.departing(sender).map_or(Ok(()), |member| node.depart(member)),
+            KsKept => ks_kept(node, sender),
+            BitsAgain => bits_again(node, sender, heard),
+            _ => node.step_3(sender),
+        }
     }
 }
 
-impl Rules for WithoutF {
+impl Rules for Other {
     fn says(&self, node: &Node) -> Option<Said> {
         node.says()
     }
@@ -23,8 +50,46 @@ impl Rules for WithoutF {
     }
 }
 
-/// The same, but a slot ends with step 3: what it leaves is the table "between a departure and a joining in the
-/// same slot".
+/// With yes heard a no does nothing; without request e there is no such mark.
+fn own_mark_off(node: &mut Node, sender: u32, heard: Option<Said>) -> Result<(), Leaving> {
+    if sender == node.own {
+        node.marks = node.marks.without(sender);
+        return Ok(());
+    }
+    node.yes_heard = true;
+    let stays = node.step_1(sender, heard);
+    node.yes_heard = false;
+    stays
+}
+
+fn silence_is_no(node: &mut Node, sender: u32, heard: Option<Said>) -> Result<(), Leaving> {
+    let sponsors = ring::sponsored(node.n, node.k, node.set, sender).any(|met| met.member == node.own);
+    if heard.is_none() && sponsors && !node.yes_heard {
+        node.marks = node.marks.without(node.own);
+    }
+    node.step_1(sender, heard)
+}
+
+/// Where fewer are left, nobody stands so far back.
+fn ks_kept(node: &mut Node, sender: u32) -> Result<(), Leaving> {
+    let Some(nearer) = ring::ks(node.k, node.set.count()).checked_sub(1) else { return Ok(()) };
+    let decided = |node: &Node| ring::members_before(node.n, node.set, sender).nth(nearer as usize);
+    while let Some(met) = decided(node).filter(|met| !node.marks.has(met.member)) {
+        node.depart(met.member)?;
+    }
+    Ok(())
+}
+
+fn bits_again(node: &mut Node, sender: u32, heard: Option<Said>) -> Result<(), Leaving> {
+    while let Some(member) = node.departing(sender) {
+        node.depart(member)?;
+        node.step_1(sender, heard)?;
+    }
+    Ok(())
+}
+
+/// The rules without request f, but a slot ends with step 3: what it leaves is the table "between a departure and a
+/// joining in the same slot".
 pub struct Between;
 
 impl Rules for Between {

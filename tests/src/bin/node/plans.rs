@@ -1,5 +1,5 @@
 //! Whole cables with literal tables after them: the examples of document 01 that concern a cable, those of requests e
-//! and f, and runs that break a premise of the agreement each.
+//! and f, a power cut of request g, and runs that break a premise of the agreement each.
 
 use super::cable::{Cable, Fate};
 use super::compare::compare;
@@ -36,6 +36,11 @@ const OFF: State = State::Out(Cause::SwitchedOff);
 /// Request e's example: "A cut feeder silenced 2, 3, 5 and 6 of six controllers, k = 2." So many slots follow.
 const fn feeder_cut(slots: u32) -> [(u32, Line); 5] {
     [(1, Off(2)), (1, Off(3)), (1, Off(5)), (1, Off(6)), (slots, Ok)]
+}
+
+/// Request g: 5, 6, 1 and 2 of six die one after the other, k = 3. So many slots follow the last off.
+const fn power_cut(slots: u32) -> [(u32, Line); 9] {
+    [(4, Ok), (1, Off(5)), (1, Ok), (1, Off(6)), (1, Ok), (1, Off(1)), (1, Ok), (1, Off(2)), (slots, Ok)]
 }
 
 #[rustfmt::skip]
@@ -81,6 +86,20 @@ const PLANS: &[Plan] = &[
     ] },
     Plan { what: "feeder cut, slot 30", ring: (6, 2), lines: &feeder_cut(30), after: &[
         (1, MEMBER, &[1, 4]), (4, MEMBER, &[1, 4]),
+    ] },
+    // Slot 7 decides node 4, whose three sponsors are dead: it stays. Slot 8 is 2's and takes 5, slot 9 takes 6, and in
+    // slot 10 node 4 decides 1 of four and 2 of three.
+    Plan { what: "power cut, slot 7", ring: (6, 3), lines: &power_cut(0), after: &[
+        (1, OFF, &[]), (2, OFF, &[]), (3, MEMBER, &[1, 2, 3, 4, 5, 6]), (4, MEMBER, &[1, 2, 3, 4, 5, 6]), (5, OFF, &[]), (6, OFF, &[]),
+    ] },
+    Plan { what: "power cut, slot 8", ring: (6, 3), lines: &power_cut(1), after: &[
+        (3, MEMBER, &[1, 2, 3, 4, 6]), (4, MEMBER, &[1, 2, 3, 4, 6]),
+    ] },
+    Plan { what: "power cut, slot 9", ring: (6, 3), lines: &power_cut(2), after: &[
+        (3, MEMBER, &[1, 2, 3, 4]), (4, MEMBER, &[1, 2, 3, 4]),
+    ] },
+    Plan { what: "power cut, slot 10", ring: (6, 3), lines: &power_cut(3), after: &[
+        (3, MEMBER, &[3, 4]), (4, MEMBER, &[3, 4]),
     ] },
     // Both sponsors of node 1 miss it.
     Plan { what: "k failures", ring: (4, 2), lines: &[(1, Miss(&[2, 3])), (2, Ok)], after: &[

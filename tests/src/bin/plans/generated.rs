@@ -7,6 +7,7 @@ use comparison::lasting::Lasting;
 use comparison::model::bench::Call;
 use comparison::model::node::State;
 use comparison::plan::Plan;
+use comparison::power_cut::PowerCut;
 use comparison::random::Random;
 use comparison::report::Count;
 
@@ -95,6 +96,24 @@ pub fn small_rings(count: &mut Count) -> Result<(), String> {
     count.needs(SLOTS)?;
     count.needs(&SEVERAL)?;
     count.needs(&KINDS)
+}
+
+/// Two plans for each n and k in which nodes are switched off and nothing else happens.
+pub fn power_cuts(count: &mut Count) -> Result<(), String> {
+    let mut random = Random::new(43);
+    for n in 3..=32 {
+        for k in (2..n).flat_map(|k| [k; 2]) {
+            let mut cut = PowerCut::new(random.number(), n);
+            let mut plan = Plan::new(n, k);
+            for _ in 0..4 * n {
+                let call = cut.next(&plan.nodes);
+                push(count, &mut plan, call);
+            }
+            compare(count, &plan.text)?;
+        }
+    }
+    count.needs(&["slot: silent", "slot: sent"])?;
+    count.needs(&SEVERAL)
 }
 
 /// A few plans of 50,000 lines in which the nodes go and come back all the time, each with a refused line

@@ -11,7 +11,7 @@ use std::process::ExitCode;
 
 const CASES: &[Case] = &[
     Case {
-        name: "vectors: the examples of document 01 and of requests e and f, model and program",
+        name: "vectors: the examples of document 01 and of requests e, f and g, model and program",
         meets: &[0],
         run: vectors::examples,
     },
@@ -39,6 +39,11 @@ const CASES: &[Case] = &[
         name: "plans: 50,000 lines, nodes going and coming back all the time",
         meets: &[3],
         run: generated::long,
+    },
+    Case {
+        name: "plans: every n and k, nodes that fall silent for good and nothing else",
+        meets: &[0],
+        run: generated::power_cuts,
     },
     Case { name: "damaged plans", meets: &[0, 1, 2, 3, 11, 12], run: damaged::damaged },
     Case { name: "lines of every length", meets: &[1, 2, 3, 12], run: edges::lengths },

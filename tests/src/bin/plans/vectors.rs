@@ -1,4 +1,4 @@
-//! Plans with what they print, typed from document 01 and requests e and f or worked out by hand; and the sample
+//! Plans with what they print, typed from document 01 and requests e, f and g or worked out by hand; and the sample
 //! plans.
 
 use super::compare::{compare_with, repository};
@@ -49,6 +49,17 @@ const EXAMPLES: &[Vector] = &[
         "5 5 silent 00000039 0", "6 6 silent 00000039 0", "7 1 sent 00000029 0", "8 2 silent 00000029 0",
         "9 3 silent 00000029 0", "10 4 sent 00000009 0", "11 5 silent 00000009 0", "12 6 silent 00000009 0",
         "13 1 sent 00000009 0",
+    ]),
+    // Request g. 1 and 2 die one after the other; in slot 4 node 4 decides 1 of four and 2 of three.
+    ("4 3; off 1; ok; off 2; ok; ok; ok; ok; ok", &[
+        "1 1 silent 0000000f 0", "2 2 silent 0000000f 0", "3 3 sent 0000000f 0", "4 4 sent 0000000c 0",
+        "5 1 silent 0000000c 0", "6 2 silent 0000000c 0",
+    ]),
+    // Both sponsors of 1 die after it has sent: slot 3 decides it, and it stays. 4 decides 2 in slot 4, 1 decides 3 in
+    // slot 5.
+    ("4 2; ok; off 2; ok; off 3; ok; ok; ok; ok; ok; ok", &[
+        "1 1 sent 0000000f 0", "2 2 silent 0000000f 0", "3 3 silent 0000000f 0", "4 4 sent 0000000d 0",
+        "5 1 sent 00000009 0", "6 2 silent 00000009 0", "7 3 silent 00000009 0", "8 4 sent 00000009 0",
     ]),
     // Node 2 says yes to node 1. Node 3 heard neither of them: in slot 3 it says no to both, and it alone drops 1. Node
     // 1 keeps its mark and sends in slot 5.
@@ -143,7 +154,7 @@ const REFUSED: &[Refused] = &[
     ("4 2\n4 2\n", "line 2 refusal 12\n"),
 ];
 
-/// The examples of document 01 and of requests e and f, and some more.
+/// The examples of document 01 and of requests e, f and g, and some more.
 pub fn examples(count: &mut Count) -> Result<(), String> {
     for &(plan, printed) in EXAMPLES {
         let plan = plan.replace("; ", "\n") + "\n";

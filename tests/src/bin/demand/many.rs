@@ -1,0 +1,262 @@
+//! Request g: many dead at once. It holds for the rules in every run of few nodes and in runs of any number, and not
+//! for rules without one of requests e and f, or with another reading of it.
+
+use super::typed::{calls, Plan};
+use super::without::Other;
+use comparison::events::{several, SEVERAL};
+use comparison::model::bench::{self, Call, Document01, Fate, Rules, Slot};
+use comparison::model::many_dead::{Broken, Claim, ManyDead};
+use comparison::model::node::{Cause, Node, State};
+use comparison::model::ring::Set;
+use comparison::power_cut::PowerCut;
+use comparison::random::Random;
+use comparison::report::Count;
+use std::collections::HashSet;
+
+/// A table and what was judged up to it.
+#[derive(Clone, PartialEq, Eq, Hash)]
+struct Moment {
+    nodes: Vec<Node>,
+    judge: ManyDead,
+}
+
+impl Moment {
+    fn first(n: u32, k: u32) -> Moment {
+        let nodes = bench::set_up(n, k, n as usize).expect("n and k are in range");
+        Moment { nodes, judge: ManyDead::new(n) }
+    }
+
+    /// The moment after a call, or what is then broken.
+    fn after(&self, rules: &impl Rules, call: Call) -> Result<Moment, Broken> {
+        let mut next = self.clone();
+        let slot = bench::run(rules, &mut next.nodes, call).expect("no call here is refused");
+        next.judge.judge(&self.nodes, call, slot.as_ref(), &next.nodes)?;
+        Ok(next)
+    }
+}
+
+const FINE: Call = Call::Slot { lost: false, missed: Set::EMPTY };
+
+/// The line that breaks something, counted from 1, and what; none if the plan ends before.
+fn follow(plan: Plan, rules: &impl Rules) -> Option<(u32, Broken)> {
+    let (n, k, calls) = calls(plan);
+    let mut moment = Moment::first(n, k);
+    for (line, call) in (2..).zip(calls) {
+        match moment.after(rules, call) {
+            Ok(next) => moment = next,
+            Err(broken) => return Some((line, broken)),
+        }
+    }
+    None
+}
+
+/// Nodes 1 and 2 of four die, one after the other. In slot 4 node 4 strikes 1 off, and of the three that are left 2.
+const SECOND_LINGERS: Plan = &[(1, "4 3"), (1, "off 1"), (1, "ok"), (1, "off 2"), (5, "ok")];
+
+/// Both sponsors of node 1 die after it has sent: in slot 3 it is decided and has heard neither yes nor no.
+const SPONSORS_DEAD: Plan = &[(1, "4 2"), (1, "ok"), (1, "off 2"), (1, "ok"), (1, "off 3"), (1, "ok")];
+
+/// The examples of request e and of document 01.
+const FEEDER_CUT: Plan = &[(1, "6 2"), (1, "off 2"), (1, "off 3"), (1, "off 5"), (1, "off 6"), (18, "ok")];
+const TWO_OFF: Plan = &[(1, "4 3"), (1, "off 1"), (1, "off 2"), (8, "ok")];
+
+/// plans/power-cut.plan: 5, 6, 1 and 2 of six die one after the other.
+const POWER_CUT: Plan = &[
+    (1, "6 3"),
+    (4, "ok"),
+    (1, "off 5"),
+    (1, "ok"),
+    (1, "off 6"),
+    (1, "ok"),
+    (1, "off 1"),
+    (1, "ok"),
+    (1, "off 2"),
+    (9, "ok"),
+];
+
+/// A plan, other rules, and the line that breaks a claim by them.
+type Failing = (Plan, Other, (u32, Claim));
+
+const FAILING: &[Failing] = &[
+    // 2 fell silent in slot 2 and is listed as slot 5 ends.
+    (SECOND_LINGERS, Other::WithoutF, (8, Claim::Late)),
+    (SECOND_LINGERS, Other::KsKept, (8, Claim::Late)),
+    (TWO_OFF, Other::WithoutF, (8, Claim::Late)),
+    // Node 1 leaves in slot 3.
+    (SPONSORS_DEAD, Other::WithoutE, (6, Claim::Leaves)),
+    (SPONSORS_DEAD, Other::SilenceIsNo, (6, Claim::Leaves)),
+    (FEEDER_CUT, Other::WithoutE, (8, Claim::Leaves)),
+    // In slot 4 node 2 leaves, and node 1 stands in its place: the no for 2 counts for 1.
+    (FEEDER_CUT, Other::BitsAgain, (9, Claim::Leaves)),
+    // Node 4 leaves in slot 7, the third silent one after its own.
+    (POWER_CUT, Other::WithoutE, (11, Claim::Leaves)),
+    // 2 fell silent in slot 8 and is listed as slot 13 ends.
+    (POWER_CUT, Other::WithoutF, (18, Claim::Late)),
+];
+
+/// Nothing is broken by the rules; by the others the claim is, in that line.
+pub fn typed(count: &mut Count) -> Result<(), String> {
+    for &(plan, other, (line, claim)) in FAILING {
+        let found = follow(plan, &Document01);
+        count.check(found.is_none(), || format!("{plan:?}: {found:?}"))?;
+        let found = follow(plan, &other);
+        let fails = found == Some((line, Broken::Claim(claim)));
+        count.check(fails, || {
+            format!("{plan:?}, {other:?}: line {line} is to break {claim:?}, found {found:?}")
+        })?;
+    }
+    Ok(())
+}
+
+/// A change of the table after slot 1, which node 1 is silent in, and what is then broken; nodes 1 and 2 are off.
+type Change = (fn(&mut [Node]), Result<(), Claim>);
+
+const CHANGES: &[Change] = &[
+    (|_| {}, Ok(())),
+    (|nodes| nodes[2].set = Set(0x0e), Err(Claim::Lists)),
+    (|nodes| nodes[2].state = State::Out(Cause::Unconfirmed), Err(Claim::Leaves)),
+    (|nodes| nodes.iter_mut().for_each(|node| node.set = Set(0x0e)), Err(Claim::Early)),
+    (|nodes| nodes.iter_mut().for_each(|node| node.set = Set(0x0d)), Err(Claim::Early)),
+];
+
+/// A line that breaks a premise.
+#[rustfmt::skip]
+const PREMISES: &[(Plan, u32)] = &[
+    (&[(1, "4 2"), (1, "lost")], 2),
+    (&[(1, "4 2"), (1, "off 1"), (1, "lost"), (1, "lost")], 4),
+    (&[(1, "4 2"), (1, "off 1"), (1, "miss 2"), (1, "miss 1 2"), (1, "miss 1 4")], 5),
+    (&[(1, "4 2"), (1, "off 1"), (5, "ok"), (1, "on 1")], 8),
+    (&[(1, "4 2"), (1, "off 1"), (1, "off 2"), (1, "off 2"), (1, "off 3")], 5),
+];
+
+/// The judge finds the claims broken in tables changed by hand, but for `Late`, which `typed` has; and each premise in
+/// a plan.
+pub fn judge(count: &mut Count) -> Result<(), String> {
+    for (i, &(change, expected)) in CHANGES.iter().enumerate() {
+        let mut moment = Moment::first(4, 2);
+        for x in [1, 2] {
+            moment = moment.after(&Document01, Call::Off(x)).map_err(|why| format!("{why:?}"))?;
+        }
+        let mut after = moment.nodes.clone();
+        change(&mut after);
+        let slot = Slot { sender: 1, fate: Fate::Silent, changes: Vec::new() };
+        let found = moment.judge.judge(&moment.nodes, FINE, Some(&slot), &after);
+        let expected = expected.map_err(Broken::Claim);
+        count.check(found == expected, || format!("change {}: {found:?}, not {expected:?}", i + 1))?;
+    }
+    for &(plan, line) in PREMISES {
+        let found = follow(plan, &Document01);
+        let same = found == Some((line, Broken::Premise));
+        count.check(same, || format!("{plan:?}: line {line} is to break a premise, found {found:?}"))?;
+    }
+    Ok(())
+}
+
+/// Every table that a run can lead to, the slot count taken modulo n; before each slot any nodes are switched off.
+fn every_table(count: &mut Count, n: u32, k: u32) -> Result<(), String> {
+    let mut open = vec![Moment::first(n, k)];
+    let mut met: HashSet<Moment> = open.iter().cloned().collect();
+    while let Some(moment) = open.pop() {
+        for call in (1..=n).map(Call::Off).chain([FINE]) {
+            let next = moment.after(&Document01, call);
+            let broken = next.as_ref().err().copied();
+            if broken == Some(Broken::Premise) {
+                continue;
+            }
+            count.check(broken.is_none(), || format!("n = {n}, k = {k}: {broken:?}"))?;
+            let Ok(mut next) = next else { continue };
+            next.nodes.iter_mut().for_each(|node| node.slots %= u64::from(n));
+            note(count, &moment.nodes, &next.nodes);
+            if met.insert(next.clone()) {
+                open.push(next);
+            }
+        }
+    }
+    Ok(())
+}
+
+/// Notes what happens in a call that keeps the premises.
+fn note(count: &mut Count, before: &[Node], after: &[Node]) {
+    let list = bench::list(after).expect("two are on");
+    before
+        .iter()
+        .zip(after)
+        .filter_map(|(node, next)| several(node, next))
+        .for_each(|name| count.event(name));
+    if list.count() <= after[0].k {
+        count.event("list: k members or fewer");
+    }
+    if list.count() == 2 {
+        count.event("list: two members");
+    }
+}
+
+const MET: [&str; 2] = ["list: k members or fewer", "list: two members"];
+
+pub fn few_nodes(count: &mut Count) -> Result<(), String> {
+    for n in 3..=7 {
+        for k in 2..n {
+            every_table(count, n, k)?;
+        }
+    }
+    count.needs(&SEVERAL)?;
+    count.needs(&MET)
+}
+
+/// One run of up to 6 n calls; the claim that fails, if one does.
+fn run(count: &mut Count, rules: &impl Rules, (n, k): (u32, u32), seed: u64) -> Option<Broken> {
+    let mut cut = PowerCut::new(seed, n);
+    let mut moment = Moment::first(n, k);
+    for _ in 0..6 * n {
+        let call = cut.next(&moment.nodes);
+        match moment.after(rules, call) {
+            Ok(next) => {
+                note(count, &moment.nodes, &next.nodes);
+                moment = next;
+            }
+            Err(broken) => return Some(broken),
+        }
+    }
+    None
+}
+
+/// 20 runs for each n and k.
+pub fn any_number(count: &mut Count) -> Result<(), String> {
+    let mut random = Random::new(74);
+    for n in 3..=32 {
+        for k in 2..n {
+            for _ in 0..20 {
+                let broken = run(count, &Document01, (n, k), random.number());
+                count.check(broken.is_none(), || format!("n = {n}, k = {k}: {broken:?}"))?;
+            }
+        }
+    }
+    count.needs(&SEVERAL)?;
+    count.needs(&MET)
+}
+
+/// The other rules, with the names that the report shows.
+const OTHERS: [(Other, &str); 5] = [
+    (Other::WithoutE, "claim fails: without request e"),
+    (Other::SilenceIsNo, "claim fails: an unheard sponsor counts as a no"),
+    (Other::WithoutF, "claim fails: without request f"),
+    (Other::KsKept, "claim fails: ks of the set as the slot begins"),
+    (Other::BitsAgain, "claim fails: bits read again on the shortened set"),
+];
+
+/// Notes in how many runs a claim fails; each is of another ring.
+pub fn others(count: &mut Count) -> Result<(), String> {
+    for (other, name) in OTHERS {
+        let mut random = Random::new(75);
+        let rings = (3..=12).flat_map(|n| (2..n).map(move |k| (n, k)));
+        for ring in rings {
+            let broken = run(&mut Count::default(), &other, ring, random.number());
+            count.check(broken != Some(Broken::Premise), || format!("{ring:?}: a premise is broken"))?;
+            if broken.is_some() {
+                count.event(name);
+            }
+        }
+        count.needs(&[name])?;
+    }
+    Ok(())
+}
