@@ -1,5 +1,5 @@
 -- The entries of a sequence of calls (bench's specs/Runs), and the world that it makes where it meets the premises. Assumes nothing.
-use Prim.Native.Nat.{ℕ, zero, suc, _+_, _-_, _≤_, _<_}
+use Prim.Native.Nat.{ℕ, zero, suc, _+_, _-_, _≤_}
 use mathlib.Core.Path.{_≡_, refl, sym, ap, _∙_}
 use mathlib.Core.Bool.{Bool, true, false, cond, not, _&&_, true≢false, false≢true}
 use mathlib.Core.List.{List, [], _∷_}
@@ -23,7 +23,7 @@ use Rattle.agreement.proofs.Past.{Past, pastOf, noPast, newPast, past, 
 use Rattle.agreement.proofs.History.{sum-more, Fair, World, num-is}
 use Rattle.bench.proofs.Choices.{choose}
 use Rattle.bench.proofs.Places.{Placed}
-use Rattle.bench.proofs.Runs.{run-length, slots-next}
+use Rattle.bench.proofs.Runs.{run-length}
 
 -- ---- what a slot was
 
@@ -48,11 +48,6 @@ pub past-new : (start : Table) (c : Call) (cs : List Call) → isSlot c (tableAf
     → past start (c ∷ cs) (slotsOf (tableAfter start cs) + 1) ≡ newPast c (tableAfter start cs)
 unfolding past
 past-new start c cs e = chosen _ _ (all e (eq-eqb (slotsOf (tableAfter start cs) + 1) (slotsOf (tableAfter start cs) + 1) refl))
-
--- a call that is no slot adds nothing
-pub past-none : (start : Table) (c : Call) (cs : List Call) (u : ℕ) → isSlot c (tableAfter start cs) ≡ false → past start (c ∷ cs) u ≡ past start cs u
-unfolding past
-past-none start c cs u e = otherwise _ _ (ap (λ (b : Bool). b && eqb u (slotsOf (tableAfter start cs) + 1)) e)
 
 -- ---- what that tells
 
@@ -102,16 +97,6 @@ fair-new n (restart a) t l = fair-none n
 
 module _ (cable : Cable) (pos : 1 ≤ cable .n) (start : Table) (begins : Placed cable 0 start) where
   open Cable cable using (n)
-
-  -- a slot that did not run
-  pub past-later : (cs : List Call) (u : ℕ) → slotsOf (tableAfter start cs) < u → past start cs u ≡ noPast
-  unfolding past
-  past-later [] u h = refl
-  past-later (c ∷ cs) u h = go (isSlot c (tableAfter start cs)) refl (past-later cs u (omega (arith, slots-next cable pos start begins c cs)))
-    where
-      go : (b : Bool) → isSlot c (tableAfter start cs) ≡ b → past start cs u ≡ noPast → past start (c ∷ cs) u ≡ noPast
-      go false e r = past-none start c cs u e ∙ r
-      go true e r = past-other start c cs u (λ z. omega (arith, slots-next cable pos start begins c cs, num-is e)) ∙ r
 
   pub past-fair : (cs : List Call) (u : ℕ) → Fair n (past start cs u)
   unfolding past

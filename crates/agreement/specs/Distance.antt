@@ -1,4 +1,4 @@
--- Demand 3 as the bench's call tells it where its ledger fits: no distance between two lists (document 01, "The bench program": "the greatest distance between sets of two members").
+-- Demand 3 as the bench's call tells it, stated without a ledger (`OnlyRefuses`: with one it is told so, or 13): no distance between two lists (document 01, "The bench program": "the greatest distance between sets of two members").
 use Prim.Native.Nat.{ℕ}
 use mathlib.Core.Path.{_≡_}
 use mathlib.Core.Bool.{Bool, true}

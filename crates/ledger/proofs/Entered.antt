@@ -25,12 +25,6 @@ module _ (date left joined : ℕ) where
   entry-ahead (suc m) i [] = refl
   entry-ahead (suc m) i (f ∷ ledger) = entry-ahead m (suc i) ledger
 
-  pub length-entered : (m i : ℕ) (ledger : Ledger) → length (enteredFrom date left joined m i ledger) ≡ length ledger
-  unfolding enteredFrom
-  length-entered zero i ledger = refl
-  length-entered (suc m) i [] = refl
-  length-entered (suc m) i (f ∷ ledger) = ap suc (length-entered m (suc i) ledger)
-
   -- one entry more
   pub one-entered : (m i x : ℕ) (ledger : Ledger) → x ≡ i + m → m < length ledger
       → set (enteredFrom date left joined m i ledger) m (entryAfter date (has left x) (has joined x) (getD ledger m [])) ≡ enteredFrom date left joined (suc m) i ledger

@@ -38,7 +38,7 @@ use Rattle.bench.specs.Runs.{Call, slot, off, restart, callOf, tableAfter, isDo
 use Rattle.bench.proofs.Places.{Placed}
 use Rattle.bench.proofs.Accepted.{slot-refused, off-done, off-refused, restarts, restart-done, restart-refused}
 use Rattle.bench.proofs.Runs.{after-off-record, after-restart-record, start-record, start-placed, never-unsound, run-length, slots-next}
-use Rattle.ledger.specs.Runs.{commandOf, roomOf, zeros, benchAfter}
+use Rattle.ledger.specs.Runs.{commandOf, roomOf, numberIn, zeros, benchAfter}
 use Rattle.ledger.specs.Tallies.{joins, timesLeft, timesJoined, lastLeaving, LedgerTallies}
 
 -- ---- entries
@@ -247,10 +247,6 @@ all-fit slots (x ∷ ledger) f = all (f 0 (omega arith)) (all-fit slots ledger (
 
 -- ---- 13 is none of the other refusals
 
-abbrev numberIn : Answer → ℕ
-numberIn Done = 0
-numberIn (Refused r) = numberOf r
-
 abbrev numberTold : Outcome → ℕ
 numberTold outcome.Quiet = 0
 numberTold (outcome.Slot s sender fate list distance) = 0
@@ -279,7 +275,7 @@ passes false number t called p q = p
 other : (m : ℕ) → m + 1 ≤ 13 → m ≢ 13
 other m h e = omega arith
 
-call-not-13 : (c : Call) (t : Table) → numberIn (callOf c t .answer) ≢ 13
+pub call-not-13 : (c : Call) (t : Table) → numberIn (callOf c t .answer) ≢ 13
 unfolding callOf slotOf offOf restartOf
 call-not-13 (slot lost missed room) t =
     passes (tableSound t) 4 t _ (other 4 (omega arith)) (passes (within (nodeCount t) missed) 3 t _ (other 3 (omega arith))

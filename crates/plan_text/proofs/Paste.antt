@@ -6,7 +6,7 @@ use mathlib.Core.List.{List, [], _∷_, _++_, append-assoc}
 use native.Mathlib.Omega.{arith}
 use native.Mathlib.Numerals.{add-one}
 use native.Mathlib.Nat.{add-zero, add-suc}
-use lib.ListN.{length, take, drop, getD, set, length-append, length-drop, take-append-drop}
+use lib.ListN.{length, take, drop, getD, set, length-append, take-append-drop}
 use lib.Seq.{length-take-le, lt-length-set, take-at, drop-at, drop-cons, drop-drop, drop-set-lt, take-set-le, getD-set-same, set-split, paste, paste-suc}
 use Rattle.plan_text.proofs.Digits.{length-digits}
 use Rattle.plan_text.specs.Text.{PutAt, digits, glyph, pasted, writtenOf}
@@ -18,12 +18,6 @@ use borrow.Author.Tests.{le-leb}
 -- what stands before the end of the text that was put
 head-length : (d : List ℕ) (at : ℕ) (t : List ℕ) → at ≤ length d → length (take at d ++ t) ≡ at + length t
 head-length d at t h = length-append (take at d) t ∙ ap (λ (n : ℕ). n + length t) (length-take-le at d h)
-
-pub pasted-length : (d : List ℕ) (at : ℕ) (t : List ℕ) → at + length t ≤ length d → length (pasted d at t) ≡ length d
-unfolding pasted
-pasted-length d at t h =
-    let n = at + length t in
-    omega (arith, length-append (take at d) (t ++ drop n d), length-append t (drop n d), length-take-le at d (omega arith), length-drop n d)
 
 pub pasted-none : (d : List ℕ) (at : ℕ) → d ≡ pasted d at []
 unfolding pasted

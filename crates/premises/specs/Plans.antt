@@ -32,7 +32,7 @@ twoKnocks =
 abbrev pub threeLeft : List Call
 threeLeft = lost ∷ ok ∷ ok ∷ ok ∷ restart 1 ∷ (replicate 9 ok ++ (slot false 0b1100 64 ∷ ok ∷ ok ∷ []))
 
--- `4 3`: after slot 4 the list is {2,3,4}; the third member after 2 is 2 itself, so that no deciding slot comes within n - 1 slots.
+-- `4 3`: in slot 4 nodes 1 and 2 leave, 2 at the second departure; on {3,4} there is no third member after 2, so that no deciding slot comes within n - 1 slots.
 abbrev pub noThird : List Call
 noThird = lost ∷ lost ∷ ok ∷ ok ∷ ok ∷ []
 
