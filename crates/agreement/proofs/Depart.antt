@@ -16,11 +16,12 @@ use Rattle.ring.specs.declared.Found.the-variants.{Member}
 use Rattle.ring.specs.Ring.{sender, walk, memberBefore}
 use Rattle.ring.proofs.Senders.{sender-range, sender-period, same-slot}
 use Rattle.ring.proofs.Walks as walks
+use Rattle.ring.proofs.Members.{same-member}
 use Rattle.ring.proofs.Walks.{Met, walk-meets, before-is, others}
 use Rattle.node_steps.proofs.Answers.{At}
 use Rattle.agreement.proofs.History.{World, K, KFact, lst, one-knock, size-from, num-is, num-isnt}
 use Rattle.agreement.proofs.Parts.{without-part}
-use Rattle.agreement.proofs.Marks.{no-both, not-true, same-member}
+use Rattle.agreement.proofs.Marks.{no-both, not-true}
 use Rattle.agreement.proofs.Listed.{ListedSlot, other-sender, same-window}
 
 module _ (W : World) where

@@ -3,40 +3,35 @@
 use Prim.Native.Nat.{ℕ, suc, _+_, _-_, _≤_, _<_}
 use mathlib.Core.Path.{_≡_, refl, sym, ap, _∙_, subst}
 use mathlib.Core.Logic.{inl, inr}
-use mathlib.Core.Bool.{Bool, true, false, cond, _&&_}
+use mathlib.Core.Bool.{Bool, true, cond, _&&_}
 use mathlib.Core.List.{List, [], _∷_}
 use native.Mathlib.Omega.{arith}
-use native.Mathlib.Nat.{add-zero}
 use native.Mathlib.Decide.{ℕ-discrete}
 use lib.Dec.{eqb}
-use lib.ListN.{length, getD}
+use lib.ListN.{length}
 use Rattle.nodeset.specs.Sums.{num}
 use Rattle.nodeset.specs.Sets.{has, size}
 use Rattle.nodeset.proofs.Tests.{by-cases, both, chosen, otherwise}
 use Rattle.nodeset.proofs.Sums.{sum-le, num-le}
 use Rattle.nodeset.proofs.Laws.{has-with-other}
 use Rattle.ring.specs.declared.Cable.{Cable}
-use Rattle.ring.specs.Ring.{ringSize, sponsorCount, nodeNumber, sender}
+use Rattle.ring.specs.Ring.{ringSize, sponsorCount, sender}
 use Rattle.message.specs.declared.Reading.{Reading}
 use Rattle.node_record.specs.declared.Node.{Node}
-use Rattle.node_record.specs.declared.State.{State}
-use Rattle.node_record.specs.declared.State.the-variants.{Member, Listening, Following, Knocking, Out}
-use Rattle.node_record.specs.States.{isMember, isOut}
+use Rattle.node_record.specs.States.{isMember}
 use Rattle.node_record.specs.Soundness.{sound, limit}
 use Rattle.node_changes.specs.Changes.{counted}
-use Rattle.node_slot.specs.Inner.{heardFrom, readIn}
-use Rattle.node_slot.proofs.Read.{slot-read, listening-read}
-use Rattle.node.specs.Calls as node
-use Rattle.node.specs.Calls.{noNode}
-use Rattle.bench.specs.Table.{Table, recordOf, eachFrom, each, tableSound, nodeCount, slotsOf, speaker}
-use Rattle.bench.specs.Calls.{Called, done, ifPassed, setUpOf, heardBy, tableAfterSlot, slotOf, tableAfterOff, offOf, tableAfterRestart, restartOf}
-use Rattle.bench.specs.Runs.{Call, slot, off, restart, callOf, isSlot, listOf, tableAfter, Entry, noEntry, newEntry, entryOn}
+use Rattle.node_slot.specs.Slot.{slotBy}
+use Rattle.node_slot.specs.Inner.{readIn}
+use Rattle.bench.specs.Table.{Table, recordOf, slotsOf, speaker}
+use Rattle.bench.specs.Calls.{setUpOf, heardBy, tableAfterSlot}
+use Rattle.bench.specs.Runs.{Call, slot, off, restart, isSlot, listOf, tableAfter, Entry, noEntry, newEntry, entryOn}
 use Rattle.bench.proofs.Places.{Placed, length-each, record-each}
 use Rattle.bench.proofs.Accepted.{slot-done, slot-refused}
-use Rattle.bench.proofs.Counted.{Same, read-same, off-same, restart-same}
 use Rattle.bench.proofs.Runs.{placed-run, below-limit}
 use Rattle.agreement.specs.Demand.{AtEach, AllHear, KeepsListOn, HearEverythingOn, PremisesOn, KeepsList, HearEverything, EverySequence}
-use Rattle.agreement.specs.Repeated.{slotBefore, tableBefore, callBefore, runBefore, onBoth, KeepsBetween, NothingDiffers}
+use Rattle.agreement.specs.Repeated.{tableBy, callBy, runBy, ruleBefore, runBefore, onBoth, KeepsBetween, NothingDiffers, NothingDiffersNow}
+use Rattle.agreement.proofs.Before.{same-records, before-read, before-next}
 use Rattle.agreement.proofs.Past.{pastOf}
 use Rattle.agreement.proofs.History.{World, num-is, num-isnt}
 use Rattle.agreement.proofs.Marks.{no-both}
@@ -46,76 +41,10 @@ use Rattle.agreement.proofs.Depart.{L₁}
 use Rattle.agreement.proofs.Join.{Next, plain, grown}
 use Rattle.agreement.proofs.Nodes.{next-list}
 use Rattle.agreement.proofs.Tables.{TableInv, Witness, witness}
-use Rattle.agreement.proofs.Slots.{speaker-is, list, told-is, hd, says, hears-any, len-after, S, node-once, node-outside}
+use Rattle.agreement.proofs.Slots.{speaker-is, list, told-is, hd, says, hears-any, len-after, S, leaves-once, node-once, node-outside}
 use Rattle.agreement.proofs.Beginnings.{Beginning, whole, shorter, no-more-of}
 use Rattle.agreement.proofs.Kept as kept
-use Rattle.agreement.proofs.Kept.{Given, Run, run, past-at}
-
--- ---- tables
-
--- two tables with the same records are the same
-same-table : (a b : Table) → length a ≡ length b → ((j : ℕ) → j < length a → getD a j noNode ≡ getD b j noNode) → a ≡ b
-same-table [] [] l h = refl
-same-table [] (w ∷ b) l h = let z : ⊥ = omega arith in absurd z
-same-table (v ∷ a) [] l h = let z : ⊥ = omega arith in absurd z
-same-table (v ∷ a) (w ∷ b) l h = ap (λ (x : Node). x ∷ a) (h 0 (omega arith)) ∙ ap (λ (t : Table). w ∷ t) (same-table a b (omega arith) (λ j q. h (suc j) (omega arith)))
-
-same-records : (a b : Table) → length a ≡ length b → ((i : ℕ) → 1 ≤ i → i ≤ length a → recordOf a i ≡ recordOf b i) → a ≡ b
-unfolding recordOf
-same-records a b l h = same-table a b l (λ j q.
-    let z : suc j - 1 ≡ j = omega arith in
-    ap (λ (x : ℕ). getD a x noNode) (sym z) ∙ h (suc j) (omega arith) (omega arith) ∙ ap (λ (x : ℕ). getD b x noNode) z)
-
--- ---- the rule before
-
--- by what is read
-before-read : (st : State) (s : ℕ) (heard : Reading) (v : Node) → slotBefore st s heard v ≡ readIn 1 st s (heardFrom s heard v) v
-before-read Member s heard v = slot-read 1 s heard v
-before-read Listening s heard v = listening-read s heard v
-before-read Following s heard v = slot-read 1 s heard v
-before-read Knocking s heard v = slot-read 1 s heard v
-before-read (Out cause) s heard v = refl
-
-before-same : (st : State) (s : ℕ) (heard : Reading) (v : Node) → Same v (slotBefore st s heard v)
-before-same st s heard v = subst (Same v) (sym (before-read st s heard v)) (read-same 1 st s (heardFrom s heard v) v)
-
--- each call counts the slots as it does now
-slots-each : (f : ℕ → Node → Node) (d : ℕ) (v : Node) (t : Table) → f 1 v .slots ≡ v .slots + d → slotsOf (each f (v ∷ t)) ≡ slotsOf (v ∷ t) + d
-unfolding slotsOf recordOf eachFrom
-slots-each f d v t e = e
-
-slots-passed : (b : Bool) (number : ℕ) (t : Table) (called : Called) → slotsOf (called .table) ≡ slotsOf t → slotsOf (ifPassed b number t called .table) ≡ slotsOf t
-slots-passed true number t called e = e
-slots-passed false number t called e = refl
-
-pub slots-before : (c : Call) (t : Table) → slotsOf (callBefore c t) ≡ slotsOf t + num (isSlot c t)
-unfolding isSlot slotOf tableSound callOf offOf restartOf
-slots-before (slot lost missed room) [] = omega arith
-slots-before (slot lost missed room) (v ∷ t) =
-    by-cases (isSlot (slot lost missed room) (v ∷ t))
-    (λ e. ap slotsOf (chosen _ _ e) ∙ slots-each (λ i w. slotBefore (w .state) (speaker (v ∷ t)) (heardBy lost missed (v ∷ t) i) (counted w)) 1 v t (before-same (v .state) (speaker (v ∷ t)) (heardBy lost missed (v ∷ t) 1) (counted v) .slots-is) ∙ ap (λ (x : ℕ). slotsOf (v ∷ t) + x) (sym (num-is e)))
-    (λ e. ap slotsOf (otherwise _ _ e) ∙ omega (arith, num-isnt e))
-slots-before (off a) [] = omega arith
-slots-before (off a) (v ∷ t) =
-    slots-passed (tableSound (v ∷ t)) 4 (v ∷ t) (ifPassed (nodeNumber (nodeCount (v ∷ t)) a) 3 (v ∷ t) (done (tableAfterOff a (v ∷ t))))
-    (slots-passed (nodeNumber (nodeCount (v ∷ t)) a) 3 (v ∷ t) (done (tableAfterOff a (v ∷ t)))
-    (slots-each (λ i w. cond (eqb i a) (node.offOf w .node) w) 0 v t (one (eqb 1 a)) ∙ add-zero (slotsOf (v ∷ t))))
-    ∙ sym (add-zero (slotsOf (v ∷ t)))
-  where
-    one : (b : Bool) → cond b (node.offOf v .node) v .slots ≡ v .slots + 0
-    one true = off-same v .slots-is ∙ sym (add-zero (v .slots))
-    one false = sym (add-zero (v .slots))
-slots-before (restart a) [] = omega arith
-slots-before (restart a) (v ∷ t) =
-    slots-passed (tableSound (v ∷ t)) 4 (v ∷ t) (ifPassed (nodeNumber (nodeCount (v ∷ t)) a) 3 (v ∷ t) (ifPassed (isOut (recordOf (v ∷ t) a .state)) 11 (v ∷ t) (done (tableAfterRestart a (v ∷ t)))))
-    (slots-passed (nodeNumber (nodeCount (v ∷ t)) a) 3 (v ∷ t) (ifPassed (isOut (recordOf (v ∷ t) a .state)) 11 (v ∷ t) (done (tableAfterRestart a (v ∷ t))))
-    (slots-passed (isOut (recordOf (v ∷ t) a .state)) 11 (v ∷ t) (done (tableAfterRestart a (v ∷ t)))
-    (slots-each (λ i w. cond (eqb i a) (node.restartOf w .node) w) 0 v t (one (eqb 1 a)) ∙ add-zero (slotsOf (v ∷ t)))))
-    ∙ sym (add-zero (slotsOf (v ∷ t)))
-  where
-    one : (b : Bool) → cond b (node.restartOf v .node) v .slots ≡ v .slots + 0
-    one true = restart-same v .slots-is ∙ sym (add-zero (v .slots))
-    one false = sym (add-zero (v .slots))
+use Rattle.agreement.proofs.Kept.{Given, Run, run, slot-table, past-at}
 
 -- ---- one slot, from a table with the invariant
 
@@ -127,20 +56,20 @@ module _ (W : World) where
       (enough : k + 1 ≤ size n (listOf t)) (hears : AllHear n (slot lost missed 64) t)
       (good : (i : ℕ) → 1 ≤ i → i ≤ n → sound (recordOf t i) ≡ true) (below : slotsOf t < limit) where
     abbrev before : Table
-    before = tableBefore lost missed t
+    before = tableBy ruleBefore lost missed t
 
     abbrev heard : ℕ → Reading
     heard i = hd W N L t lost missed inv eq enough hears good below i
 
-    record-before : (i : ℕ) → 1 ≤ i → i ≤ n → recordOf (tableBefore lost missed t) i ≡ readIn 1 (recordOf t i .state) (sender n (suc N)) (heard i) (counted (recordOf t i))
+    record-before : (i : ℕ) → 1 ≤ i → i ≤ n → recordOf (tableBy ruleBefore lost missed t) i ≡ readIn 1 (recordOf t i .state) (sender n (suc N)) (heard i) (counted (recordOf t i))
     record-before i h l =
-        record-each (λ i v. slotBefore (v .state) (speaker t) (heardBy lost missed t i) (counted v)) t i h (omega (arith, inv .len))
-        ∙ ap (λ (x : ℕ). slotBefore (recordOf t i .state) x (heardBy lost missed t i) (counted (recordOf t i))) (speaker-is W N L t lost missed inv eq enough hears good below)
+        record-each (λ i v. slotBy ruleBefore (v .state) (speaker t) (heardBy lost missed t i) (counted v)) t i h (omega (arith, inv .len))
+        ∙ ap (λ (x : ℕ). slotBy ruleBefore (recordOf t i .state) x (heardBy lost missed t i) (counted (recordOf t i))) (speaker-is W N L t lost missed inv eq enough hears good below)
         ∙ before-read (recordOf t i .state) (sender n (suc N)) (heardBy lost missed t i) (counted (recordOf t i))
         ∙ ap (λ (x : Reading). readIn 1 (recordOf t i .state) (sender n (suc N)) x (counted (recordOf t i))) (told-is W N L t lost missed inv eq enough hears good below i)
 
-    len-before : length (tableBefore lost missed t) ≡ n
-    len-before = length-each (λ i v. slotBefore (v .state) (speaker t) (heardBy lost missed t i) (counted v)) t ∙ inv .len
+    len-before : length (tableBy ruleBefore lost missed t) ≡ n
+    len-before = length-each (λ i v. slotBy ruleBefore (v .state) (speaker t) (heardBy lost missed t i) (counted v)) t ∙ inv .len
 
     module _ (onL : has L (sender n (suc N)) ≡ true) where
       -- the slot as one of a listed node
@@ -148,10 +77,10 @@ module _ (W : World) where
       X = S W N L t lost missed inv eq enough hears good below onL
 
       -- the list after the slot of the rule before
-      next-before : k + 1 ≤ size n (listOf (tableBefore lost missed t)) → Next W X (listOf (tableBefore lost missed t))
+      next-before : k + 1 ≤ size n (listOf (tableBy ruleBefore lost missed t)) → Next W X (listOf (tableBy ruleBefore lost missed t))
       next-before ends = go (witness W before len-before (omega arith))
         where
-          go : Witness W before → Next W X (listOf (tableBefore lost missed t))
+          go : Witness W before → Next W X (listOf (tableBy ruleBefore lost missed t))
           go x = subst (Next W X) (sym (x .its))
               (subst (λ (y : Node). isMember (y .state) ≡ true → Next W X (y .set)) (sym (record-before (x .i) (x .pos) (x .le)))
               (next-list W X (heard (x .i)) (says W N L t lost missed inv eq enough hears good below onL (x .i)) (x .i) (x .pos) (x .le) (recordOf t (x .i)) (inv .nodes (x .i) (x .pos) (x .le)) (hears-any W N L t lost missed inv eq enough hears good below (x .i) (x .pos) (x .le)))
@@ -172,20 +101,29 @@ module _ (W : World) where
           (λ e. let b = both (has L x) (has L′ x) e in omega (arith, num-is (stayed L′ nx x (b .0) (b .1)), num-le (has L x && has L′ x)))
           (λ e. omega (arith, num-isnt e)))
 
-      once-before : k + 1 ≤ size n (listOf (tableBefore lost missed t)) → k + 1 ≤ onBoth n (listOf t) (listOf (tableBefore lost missed t)) → Once W X
+      once-before : k + 1 ≤ size n (listOf (tableBy ruleBefore lost missed t)) → k + 1 ≤ onBoth n (listOf t) (listOf (tableBy ruleBefore lost missed t)) → Once W X
       once-before ends between = by-cases (E (X .D .u) .sent)
           (λ p. inl p)
           (λ p. by-cases (E (second W X .u) .sent) (λ q. inr q)
           (λ q. let f : ⊥ = omega (arith, second-few W X p q, both-stayed (listOf before) (next-before ends), ap (λ (x : ℕ). onBoth n x (listOf before)) (list W N L t lost missed inv eq enough hears good below)) in absurd f))
 
-    pub slot-same : k + 1 ≤ size n (listOf (tableBefore lost missed t)) → k + 1 ≤ onBoth n (listOf t) (listOf (tableBefore lost missed t)) → tableAfterSlot lost missed t ≡ tableBefore lost missed t
-    slot-same ends between =
+    -- where nobody leaves but the member that is decided first, the slot is that of the rule before
+    pub slot-once : ((onL : has L (sender n (suc N)) ≡ true) → Once W (X onL)) → tableAfterSlot lost missed t ≡ tableBy ruleBefore lost missed t
+    slot-once once =
         same-records (tableAfterSlot lost missed t) before (len-after W N L t lost missed inv eq enough hears good below ∙ sym len-before)
         (λ i h l. let m : i ≤ n = omega (arith, len-after W N L t lost missed inv eq enough hears good below) in
         by-cases (has L (sender n (suc N)))
-        (λ onL. node-once W N L t lost missed inv eq enough hears good below onL (once-before onL ends between) i h m)
+        (λ onL. node-once W N L t lost missed inv eq enough hears good below onL (once onL) i h m)
         (λ offL. node-outside W N L t lost missed inv eq enough hears good below offL i h m)
         ∙ sym (record-before i h m))
+
+    -- k + 1 members are left by the rule before, also between a departure and a joining
+    slot-same : k + 1 ≤ size n (listOf (tableBy ruleBefore lost missed t)) → k + 1 ≤ onBoth n (listOf t) (listOf (tableBy ruleBefore lost missed t)) → tableAfterSlot lost missed t ≡ tableBy ruleBefore lost missed t
+    slot-same ends between = slot-once (λ onL. once-before onL ends between)
+
+    -- k + 1 members are left by the rule now
+    slot-same-now : k + 1 ≤ size n (listOf (tableAfterSlot lost missed t)) → tableAfterSlot lost missed t ≡ tableBy ruleBefore lost missed t
+    slot-same-now ends = slot-once (λ onL. leaves-once W N L t lost missed inv eq enough hears good below onL ends)
 
 -- ---- every sequence of calls
 
@@ -198,9 +136,23 @@ module _ (cable : Cable) (ring : ringSize (cable .n) ≡ true) (sponsors : spons
   abbrev before-run : List Call → Table
   before-run = runBefore start
 
-  next-before-run : (c : Call) (cs : List Call) → slotsOf (runBefore start (c ∷ cs)) ≡ slotsOf (runBefore start cs) + num (isSlot c (runBefore start cs))
-  unfolding runBefore
-  next-before-run c cs = slots-before c (runBefore start cs)
+  -- one call more: of a slot that runs the two rules have to agree
+  same-slot : (lost : Bool) (missed room : ℕ) (cs : List Call) → (isSlot (slot lost missed room) (tableAfter start cs) ≡ true → tableAfterSlot lost missed (tableAfter start cs) ≡ tableBy ruleBefore lost missed (tableAfter start cs))
+      → tableAfter start cs ≡ runBefore start cs → tableAfter start (slot lost missed room ∷ cs) ≡ runBefore start (slot lost missed room ∷ cs)
+  unfolding tableAfter runBy
+  same-slot lost missed room cs same r =
+      by-cases (isSlot (slot lost missed room) (tableAfter start cs))
+      (λ e. slot-done lost missed room (tableAfter start cs) e ∙ same e ∙ sym (chosen _ _ e))
+      (λ e. slot-refused lost missed room (tableAfter start cs) e ∙ sym (otherwise _ _ e))
+      ∙ ap (callBy ruleBefore (slot lost missed room)) r
+
+  same-off : (a : ℕ) (cs : List Call) → tableAfter start cs ≡ runBefore start cs → tableAfter start (off a ∷ cs) ≡ runBefore start (off a ∷ cs)
+  unfolding tableAfter runBy
+  same-off a cs r = ap (callBy ruleBefore (off a)) r
+
+  same-restart : (a : ℕ) (cs : List Call) → tableAfter start cs ≡ runBefore start cs → tableAfter start (restart a ∷ cs) ≡ runBefore start (restart a ∷ cs)
+  unfolding tableAfter runBy
+  same-restart a cs r = ap (callBy ruleBefore (restart a)) r
 
   -- up to the last call the tables are the same
   abbrev Alike : List Call → Type 0
@@ -231,7 +183,7 @@ module _ (cable : Cable) (ring : ringSize (cable .n) ≡ true) (sponsors : spons
   module _ (all : List Call) (p : PremisesOn cable (runBefore start) all) where
     -- the calls up to c have no more failures, or the like, now than all of them had before
     no-more : (c : Call) (cs : List Call) → Beginning all (c ∷ cs) → Alike (c ∷ cs) → (f : Entry → ℕ) → f noEntry ≡ 0 → (u : ℕ) → f (entryOn (tableAfter start) (c ∷ cs) u) ≤ f (entryOn (runBefore start) all u)
-    no-more c cs b al f z u = omega (arith, ap f (same-entry (c ∷ cs) al u), no-more-of (runBefore start) next-before-run all (c ∷ cs) b f z u)
+    no-more c cs b al f z u = omega (arith, ap f (same-entry (c ∷ cs) al u), no-more-of (runBefore start) (before-next start) all (c ∷ cs) b f z u)
 
     -- the calls up to c, as they are now
     abbrev given : (c : Call) (cs : List Call) → Beginning all (c ∷ cs) → Alike (c ∷ cs) → Given
@@ -248,8 +200,8 @@ module _ (cable : Cable) (ring : ringSize (cable .n) ≡ true) (sponsors : spons
 
     slot-case : (lost : Bool) (missed room : ℕ) (cs : List Call) → Beginning all (slot lost missed room ∷ cs) → Alike (slot lost missed room ∷ cs)
         → AtEach (KeepsListOn cable (runBefore start)) (slot lost missed room ∷ cs) → AtEach (HearEverythingOn cable (runBefore start)) (slot lost missed room ∷ cs) → KeepsBetween cable (runBefore start) (slot lost missed room) cs
-        → isSlot (slot lost missed room) (tableAfter start cs) ≡ true → tableAfterSlot lost missed (tableAfter start cs) ≡ tableBefore lost missed (tableAfter start cs)
-    unfolding AtEach KeepsListOn HearEverythingOn KeepsBetween runBefore
+        → isSlot (slot lost missed room) (tableAfter start cs) ≡ true → tableAfterSlot lost missed (tableAfter start cs) ≡ tableBy ruleBefore lost missed (tableAfter start cs)
+    unfolding AtEach KeepsListOn HearEverythingOn KeepsBetween runBy
     slot-case lost missed room cs b al kl he kb e = go (run G cs (shorter whole) (kept-now cs (al .0) (al .1) (kl .0)) (heard-now cs (al .0) (he .0)))
       where
         c : Call
@@ -267,19 +219,19 @@ module _ (cable : Cable) (ring : ringSize (cable .n) ≡ true) (sponsors : spons
         placed : Placed cable (slotsOf (tableAfter start cs)) (tableAfter start cs)
         placed = placed-run cable pos start (kept.begins (given (slot lost missed room) cs b al)) cs
 
-        is-before : callBefore (slot lost missed room) (tableAfter start cs) ≡ tableBefore lost missed (tableAfter start cs)
+        is-before : callBy ruleBefore (slot lost missed room) (tableAfter start cs) ≡ tableBy ruleBefore lost missed (tableAfter start cs)
         is-before = chosen _ _ e
 
-        sizes : (k + 1 ≤ size n (listOf (tableAfter start cs))) × (k + 1 ≤ size n (listOf (callBefore (slot lost missed room) (tableAfter start cs))))
-        sizes = subst (λ (x : Table). isSlot (slot lost missed room) x ≡ true → (k + 1 ≤ size n (listOf x)) × (k + 1 ≤ size n (listOf (callBefore (slot lost missed room) x)))) (sym (al .1)) (kl .1) e
+        sizes : (k + 1 ≤ size n (listOf (tableAfter start cs))) × (k + 1 ≤ size n (listOf (callBy ruleBefore (slot lost missed room) (tableAfter start cs))))
+        sizes = subst (λ (x : Table). isSlot (slot lost missed room) x ≡ true → (k + 1 ≤ size n (listOf x)) × (k + 1 ≤ size n (listOf (callBy ruleBefore (slot lost missed room) x)))) (sym (al .1)) (kl .1) e
 
-        between : k + 1 ≤ onBoth n (listOf (tableAfter start cs)) (listOf (callBefore (slot lost missed room) (tableAfter start cs)))
-        between = subst (λ (x : Table). isSlot (slot lost missed room) x ≡ true → k + 1 ≤ onBoth n (listOf x) (listOf (callBefore (slot lost missed room) x))) (sym (al .1)) kb e
+        between : k + 1 ≤ onBoth n (listOf (tableAfter start cs)) (listOf (callBy ruleBefore (slot lost missed room) (tableAfter start cs)))
+        between = subst (λ (x : Table). isSlot (slot lost missed room) x ≡ true → k + 1 ≤ onBoth n (listOf x) (listOf (callBy ruleBefore (slot lost missed room) x))) (sym (al .1)) kb e
 
         hears : AllHear n (slot lost missed room) (tableAfter start cs)
         hears = subst (λ (x : Table). isSlot (slot lost missed room) x ≡ true → AllHear n (slot lost missed room) x) (sym (al .1)) (he .1) e
 
-        go : Run (given (slot lost missed room) cs b al) cs → tableAfterSlot lost missed (tableAfter start cs) ≡ tableBefore lost missed (tableAfter start cs)
+        go : Run (given (slot lost missed room) cs b al) cs → tableAfterSlot lost missed (tableAfter start cs) ≡ tableBy ruleBefore lost missed (tableAfter start cs)
         go r = slot-same (kept.W G) (slotsOf t + n) (r .0) t lost missed (r .1) (past-at G lost missed room cs whole e) (sizes .0) hears
             (λ i h l. placed .at i h l .is-sound) (below-limit cable _ _ pos placed lost missed room e)
             (omega (arith, sizes .1, ap (λ (x : Table). size n (listOf x)) is-before)) (omega (arith, between, ap (λ (x : Table). onBoth n (listOf (tableAfter start cs)) (listOf x)) is-before))
@@ -287,23 +239,58 @@ module _ (cable : Cable) (ring : ringSize (cable .n) ≡ true) (sponsors : spons
     one-call : (c : Call) (cs : List Call) → Beginning all (c ∷ cs) → Alike (c ∷ cs) → tableAfter start cs ≡ runBefore start cs
         → AtEach (KeepsListOn cable (runBefore start)) (c ∷ cs) → AtEach (HearEverythingOn cable (runBefore start)) (c ∷ cs) → KeepsBetween cable (runBefore start) c cs
         → tableAfter start (c ∷ cs) ≡ runBefore start (c ∷ cs)
-    unfolding tableAfter runBefore
-    one-call (slot lost missed room) cs b al r kl he kb =
-        by-cases (isSlot (slot lost missed room) (tableAfter start cs))
-        (λ e. slot-done lost missed room (tableAfter start cs) e ∙ slot-case lost missed room cs b al kl he kb e ∙ sym (chosen _ _ e))
-        (λ e. slot-refused lost missed room (tableAfter start cs) e ∙ sym (otherwise _ _ e))
-        ∙ ap (callBefore (slot lost missed room)) r
-    one-call (off a) cs b al r kl he kb = ap (callBefore (off a)) r
-    one-call (restart a) cs b al r kl he kb = ap (callBefore (restart a)) r
+    one-call (slot lost missed room) cs b al r kl he kb = same-slot lost missed room cs (λ e. slot-case lost missed room cs b al kl he kb e) r
+    one-call (off a) cs b al r kl he kb = same-off a cs r
+    one-call (restart a) cs b al r kl he kb = same-restart a cs r
 
     alike : (cs : List Call) → Beginning all cs → AtEach (KeepsListOn cable (runBefore start)) cs → AtEach (HearEverythingOn cable (runBefore start)) cs → AtEach (KeepsBetween cable (runBefore start)) cs
         → Alike cs × (tableAfter start cs ≡ runBefore start cs)
-    unfolding AtEach tableAfter runBefore
+    unfolding AtEach tableAfter runBy
     alike [] b kl he kb = (tt, refl)
     alike (c ∷ cs) b kl he kb = go (alike cs (shorter b) (kl .0) (he .0) (kb .0))
       where
         go : Alike cs × (tableAfter start cs ≡ runBefore start cs) → Alike (c ∷ cs) × (tableAfter start (c ∷ cs) ≡ runBefore start (c ∷ cs))
         go r = ((r .0, r .1), one-call c cs b (r .0, r .1) (r .1) kl he (kb .1))
+
+  -- ---- with the premises on the run of the rule now
+
+  module _ (all : List Call) (p : PremisesOn cable (tableAfter start) all) where
+    abbrev here : Given
+    here = record { cable = cable; ring = ring; sponsors = sponsors; lent = lent; one-each = one-each; all = all; few-failures = p .few-failures; one-outside = p .one-outside }
+
+    slot-now : (lost : Bool) (missed room : ℕ) (cs : List Call) → Beginning all (slot lost missed room ∷ cs) → AtEach (KeepsList cable start) (slot lost missed room ∷ cs) → AtEach (HearEverything cable start) (slot lost missed room ∷ cs)
+        → isSlot (slot lost missed room) (tableAfter start cs) ≡ true → tableAfterSlot lost missed (tableAfter start cs) ≡ tableBy ruleBefore lost missed (tableAfter start cs)
+    unfolding AtEach KeepsListOn HearEverythingOn
+    slot-now lost missed room cs b kl he e = go (run here cs (shorter b) (kl .0) (he .0))
+      where
+        t : Table
+        t = tableAfter start cs
+
+        placed : Placed cable (slotsOf (tableAfter start cs)) (tableAfter start cs)
+        placed = placed-run cable (kept.pos here) start (kept.begins here) cs
+
+        left : k + 1 ≤ size n (listOf (tableAfterSlot lost missed (tableAfter start cs)))
+        left = subst (λ (x : Table). k + 1 ≤ size n (listOf x)) (slot-table here lost missed room cs e) (kl .1 e .1)
+
+        go : Run here cs → tableAfterSlot lost missed (tableAfter start cs) ≡ tableBy ruleBefore lost missed (tableAfter start cs)
+        go r = slot-same-now (kept.W here) (slotsOf t + n) (r .0) t lost missed (r .1) (past-at here lost missed room cs b e) (kl .1 e .0) (he .1 e)
+            (λ i h l. placed .at i h l .is-sound) (below-limit cable _ _ (kept.pos here) placed lost missed room e) left
+
+    now-call : (c : Call) (cs : List Call) → Beginning all (c ∷ cs) → AtEach (KeepsList cable start) (c ∷ cs) → AtEach (HearEverything cable start) (c ∷ cs)
+        → tableAfter start cs ≡ runBefore start cs → tableAfter start (c ∷ cs) ≡ runBefore start (c ∷ cs)
+    now-call (slot lost missed room) cs b kl he r = same-slot lost missed room cs (λ e. slot-now lost missed room cs b kl he e) r
+    now-call (off a) cs b kl he r = same-off a cs r
+    now-call (restart a) cs b kl he r = same-restart a cs r
+
+    alike-now : (cs : List Call) → Beginning all cs → AtEach (KeepsList cable start) cs → AtEach (HearEverything cable start) cs → Alike cs × (tableAfter start cs ≡ runBefore start cs)
+    unfolding AtEach tableAfter runBy
+    alike-now [] b kl he = (tt, refl)
+    alike-now (c ∷ cs) b kl he = go (alike-now cs (shorter b) (kl .0) (he .0))
+      where
+        go : Alike cs × (tableAfter start cs ≡ runBefore start cs) → Alike (c ∷ cs) × (tableAfter start (c ∷ cs) ≡ runBefore start (c ∷ cs))
+        go r = ((r .0, r .1), now-call c cs b kl he (r .1))
+
+  -- ---- the claim
 
   -- after each call, and not only before it
   after-calls : (cs : List Call) → Alike cs → tableAfter start cs ≡ runBefore start cs → AtEach (λ c earlier. tableAfter start (c ∷ earlier) ≡ runBefore start (c ∷ earlier)) cs
@@ -312,11 +299,17 @@ module _ (cable : Cable) (ring : ringSize (cable .n) ≡ true) (sponsors : spons
   after-calls (c ∷ cs) al e = (after-calls cs (al .0) (al .1), e)
 
   first-same : tableAfter start [] ≡ runBefore start []
-  unfolding tableAfter runBefore
+  unfolding tableAfter runBy
   first-same = refl
 
 pub nothing-differs : NothingDiffers
 unfolding EverySequence
 nothing-differs cable ring sponsors lent one-each cs (p, kb) =
     let r = alike cable ring sponsors lent one-each cs p cs whole (p .list-kept) (p .all-heard) kb in
+    (first-same cable ring sponsors lent one-each, after-calls cable ring sponsors lent one-each cs (r .0) (r .1))
+
+pub nothing-differs-now : NothingDiffersNow
+unfolding EverySequence
+nothing-differs-now cable ring sponsors lent one-each cs p =
+    let r = alike-now cable ring sponsors lent one-each cs p cs whole (p .list-kept) (p .all-heard) in
     (first-same cable ring sponsors lent one-each, after-calls cable ring sponsors lent one-each cs (r .0) (r .1))

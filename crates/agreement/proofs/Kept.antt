@@ -78,7 +78,7 @@ module _ (G : Given) where
   first = (full n, moved n _ (full n) _ _ (omega (arith, none-yet)) (start-table cable ring sponsors lent one-each) (start-keeps W lent one-each))
 
   -- a slot that is accepted
-  slot-table : (lost : Bool) (missed room : ℕ) (cs : List Call) → isSlot (slot lost missed room) (tableAfter start cs) ≡ true → tableAfter start (slot lost missed room ∷ cs) ≡ tableAfterSlot lost missed (tableAfter start cs)
+  pub slot-table : (lost : Bool) (missed room : ℕ) (cs : List Call) → isSlot (slot lost missed room) (tableAfter start cs) ≡ true → tableAfter start (slot lost missed room ∷ cs) ≡ tableAfterSlot lost missed (tableAfter start cs)
   unfolding tableAfter
   slot-table lost missed room cs e = slot-done lost missed room (tableAfter start cs) e
 

@@ -25,6 +25,7 @@ pub mod Onwards
 pub mod Leaving
 pub mod Beginnings
 pub mod Kept
+pub mod Before
 pub mod Differs
 pub mod Demanded
 pub mod Throughout

@@ -31,9 +31,6 @@ pub not-false : (b : Bool) → (b ≡ false → ⊥) → b ≡ true
 not-false true f = refl
 not-false false f = absurd (f refl)
 
-pub same-member : {x y b d : ℕ} → found.Member x b ≡ found.Member y d → x ≡ y
-same-member e = cc
-
 pub has-with-keeps : (m y x : ℕ) → 1 ≤ x → x ≤ 32 → has m x ≡ true → has (with m y) x ≡ true
 has-with-keeps m y x h l e = go (ℕ-discrete y x)
   where

@@ -227,7 +227,7 @@ module _ (W : World) where
       S = record { N = N; L = L; B = begins; lT = listed-is ∙ onL; onL = onL; D = decision W N L (inv .late) (inv .kept) (begins .enough) }
 
       -- in a slot that leaves k + 1 on the list nobody leaves but the member that is decided first
-      leaves-once : k + 1 ≤ size n (listOf after) → Once W S
+      pub leaves-once : k + 1 ≤ size n (listOf after) → Once W S
       leaves-once ends = by-cases (E (S .D .u) .sent) (λ p. inl p) (λ p. by-cases (E (second W S .u) .sent) (λ q. inr q) (λ q. absurd (too-few p q (witness W after len-after (omega arith)))))
         where
           too-few : E (S .D .u) .sent ≡ false → E (second W S .u) .sent ≡ false → Witness W after → ⊥

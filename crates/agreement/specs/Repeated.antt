@@ -9,38 +9,36 @@ use Rattle.nodeset.specs.Sets.{has}
 use Rattle.ring.specs.declared.Cable.{Cable}
 use Rattle.message.specs.declared.Reading.{Reading}
 use Rattle.node_record.specs.declared.Node.{Node}
-use Rattle.node_record.specs.declared.State.{State}
-use Rattle.node_record.specs.declared.State.the-variants.{Member, Listening, Following, Knocking, Out}
 use Rattle.node_changes.specs.Changes.{counted}
 use Rattle.node_steps.specs.Steps.{slotWith}
-use Rattle.node_hearing.specs.Hearing.{listeningSlot}
+use Rattle.node_slot.specs.Slot.{slotBy}
 use Rattle.bench.specs.Table.{Table, each, speaker}
 use Rattle.bench.specs.Calls.{heardBy}
 use Rattle.bench.specs.Runs.{Call, slot, off, restart, callOf, isSlot, listOf, tableAfter}
 use Rattle.agreement.specs.Demand.{AtEach, AfterEach, PremisesOn, EverySequence}
 
--- ---- the run of the rule before
+-- ---- the run of another rule
 
--- One slot of a record, with one departure step: s is its sender.
-abbrev pub slotBefore : State → ℕ → Reading → Node → Node
-slotBefore Member s heard v = slotWith 1 s heard v
-slotBefore Listening s heard v = listeningSlot s heard v
-slotBefore Following s heard v = slotWith 1 s heard v
-slotBefore Knocking s heard v = slotWith 1 s heard v
-slotBefore (Out cause) s heard v = v
-
-abbrev pub tableBefore : Bool → ℕ → Table → Table
-tableBefore lost missed t = each (λ i v. slotBefore (v .state) (speaker t) (heardBy lost missed t i) (counted v)) t
+-- The table after a slot in which `tracking` is the rule of a member, following or knocking node.
+abbrev pub tableBy : (ℕ → Reading → Node → Node) → Bool → ℕ → Table → Table
+tableBy tracking lost missed t = each (λ i v. slotBy tracking (v .state) (speaker t) (heardBy lost missed t i) (counted v)) t
 
 -- A slot is refused where it is refused now; off and restart are as they are.
-abbrev pub callBefore : Call → Table → Table
-callBefore (slot lost missed room) t = cond (isSlot (slot lost missed room) t) (tableBefore lost missed t) t
-callBefore (off a) t = callOf (off a) t .table
-callBefore (restart a) t = callOf (restart a) t .table
+abbrev pub callBy : (ℕ → Reading → Node → Node) → Call → Table → Table
+callBy tracking (slot lost missed room) t = cond (isSlot (slot lost missed room) t) (tableBy tracking lost missed t) t
+callBy tracking (off a) t = callOf (off a) t .table
+callBy tracking (restart a) t = callOf (restart a) t .table
 
-unfoldable pub runBefore : Table → List Call → Table
-runBefore start [] = start
-runBefore start (c ∷ cs) = callBefore c (runBefore start cs)
+unfoldable pub runBy : (ℕ → Reading → Node → Node) → Table → List Call → Table
+runBy tracking start [] = start
+runBy tracking start (c ∷ cs) = callBy tracking c (runBy tracking start cs)
+
+-- The rule before has one departure step.
+abbrev pub ruleBefore : ℕ → Reading → Node → Node
+ruleBefore s heard v = slotWith 1 s heard v
+
+abbrev pub runBefore : Table → List Call → Table
+runBefore start cs = runBy ruleBefore start cs
 
 -- ---- what is assumed, and what is claimed
 
@@ -58,4 +56,12 @@ abbrev pub NothingDiffers : Type 0
 NothingDiffers =
     EverySequence
     (λ cable start cs. PremisesOn cable (runBefore start) cs × AtEach (KeepsBetween cable (runBefore start)) cs)
+    (λ cable start cs. AfterEach (λ before. tableAfter start before ≡ runBefore start before) cs)
+
+-- The same of a sequence that keeps the premises on the run of the rule now. There the clause on the members between is not needed: where a second member leaves, at most
+-- k are left, with one that joins.
+abbrev pub NothingDiffersNow : Type 0
+NothingDiffersNow =
+    EverySequence
+    (λ cable start cs. PremisesOn cable (tableAfter start) cs)
     (λ cable start cs. AfterEach (λ before. tableAfter start before ≡ runBefore start before) cs)

@@ -13,7 +13,7 @@ use Rattle.nodeset.specs.Sums.{num}
 use Rattle.nodeset.specs.Sets.{has, within}
 use Rattle.nodeset.proofs.Tests.{by-cases, both, all}
 use Rattle.ring.specs.declared.Cable.{Cable}
-use Rattle.ring.specs.Ring.{ringSize, sponsorCount, nodeNumber, sender}
+use Rattle.ring.specs.Ring.{ringSize, sponsorCount, nodeNumber}
 use Rattle.message.specs.declared.Reading.{Reading}
 use Rattle.node_record.specs.declared.Node.{Node}
 use Rattle.node_record.specs.Soundness.{limit, sound}
@@ -21,7 +21,7 @@ use Rattle.node_changes.specs.Changes.{starting}
 use Rattle.node_changes.proofs.Sound.{starting-sound}
 use Rattle.node.specs.Calls as node
 use Rattle.node.proofs.Sound.{step-sound, off-sound, restart-sound}
-use Rattle.bench.specs.Table.{Table, recordOf, each, tableSound, nodeCount, slotsOf, speaker}
+use Rattle.bench.specs.Table.{Table, recordOf, each, tableSound, nodeCount, slotsOf}
 use Rattle.bench.specs.Calls.{startTable, setUpOf, unheard, spoken, heardBy, tableAfterSlot, tableAfterOff, tableAfterRestart}
 use Rattle.bench.specs.Runs.{Call, slot, off, restart, callOf, tableAfter, isSlot}
 use Rattle.bench.proofs.Choices.{choose}
@@ -68,10 +68,6 @@ module _ (cable : Cable) (slots : ℕ) (t : Table) (pos : 1 ≤ cable .n) (P : P
   -- the slot count that the slot call tests
   slots-are : slotsOf t ≡ slots
   slots-are = slots-of-placed cable slots t pos P
-
-  pub speaker-placed : speaker t ≡ sender (cable .n) (slots + 1)
-  unfolding speaker
-  speaker-placed = ap (λ (m : ℕ). sender m (slotsOf t + 1)) (P .length-is) ∙ ap (λ (s : ℕ). sender (cable .n) (s + 1)) slots-are
 
   placed-slot : (lost : Bool) (missed : ℕ) → slots < limit → Placed cable (slots + 1) (tableAfterSlot lost missed t)
   placed-slot lost missed l = record { length-is = after-slot-length lost missed t ∙ P .length-is; at = at }
@@ -162,9 +158,6 @@ module _ (cable : Cable) (pos : 1 ≤ cable .n) (start : Table) (begins : Placed
 
   pub run-length : (cs : List Call) → length (tableAfter start cs) ≡ cable .n
   run-length cs = placed-run cs .length-is
-
-  pub speaker-run : (cs : List Call) → speaker (tableAfter start cs) ≡ sender (cable .n) (slotsOf (tableAfter start cs) + 1)
-  speaker-run cs = speaker-placed cable (slotsOf (tableAfter start cs)) (tableAfter start cs) pos (placed-run cs)
 
   pub slots-next : (c : Call) (cs : List Call) → slotsOf (tableAfter start (c ∷ cs)) ≡ slotsOf (tableAfter start cs) + num (isSlot c (tableAfter start cs))
   unfolding tableAfter

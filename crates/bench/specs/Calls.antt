@@ -58,6 +58,7 @@ unfoldable pub transmits : Table → Bool
 transmits t = sends (recordOf t (speaker t))
 
 -- What is read where nothing is heard.
+-- (No bytes have the wrong length.)
 abbrev pub unheard : Reading
 unheard = reading.Refused (cause 6)
 

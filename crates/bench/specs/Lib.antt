@@ -5,3 +5,4 @@ pub mod Outcomes
 pub mod Ledger
 pub mod Kept
 pub mod Runs
+pub mod Plans

@@ -5,6 +5,7 @@ use mathlib.Core.Bool.{Bool, true, false, cond, false≢true, true≢false}
 use mathlib.Core.List.{[], _∷_}
 use native.Mathlib.Omega.{arith}
 use lib.ListN.{length, getD}
+use Rattle.nodeset.specs.Sets.{withIf}
 use Rattle.nodeset.proofs.Tests.{by-cases}
 use Rattle.ring.specs.declared.Cable.{Cable}
 use Rattle.node_record.specs.declared.Node.{Node}
@@ -21,7 +22,7 @@ use Rattle.bench_walks.specs.declared.Order.{Order}
 use Rattle.bench_walks.specs.declared.Moves.{Moves}
 use Rattle.bench_walks.specs.declared.Notes.{Notes}
 use Rattle.bench_walks.specs.Survey.{foldFrom}
-use Rattle.bench_walks.specs.Orders.{carried, carriedFrom, withIf, movesWith, noticed, noNotes, noticedFrom, notesOf}
+use Rattle.bench_walks.specs.Orders.{carried, carriedFrom, movesWith, noticed, noNotes, noticedFrom, notesOf}
 use Rattle.bench_calls.proofs.Surveys.{placed, said}
 
 -- ---- one record

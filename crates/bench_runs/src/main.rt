@@ -4,7 +4,7 @@
 // lowest first; `lost` is a byte, 1 for yes; input that ends within a command counts as followed by
 // zeros.
 //
-//   N size                      the table is the first `size` rows; no answer
+//   N size                      the table is the first `size` rows, all if fewer; no answer
 //   L row record                row 0 to 31 becomes this record; no answer
 //   M entries                   the ledger is the first `entries` entries, all if fewer; no answer
 //   G entry left joined last    entry 0 to 32 becomes these figures; no answer

@@ -7,7 +7,7 @@ use lib.Dec.{eqb, leb, ltb}
 use lib.ListN.{length, getD, set, replicate}
 use Rattle.refusal.specs.declared.Refusal.{Refusal}
 use Rattle.refusal.specs.declared.Refusal.the-variants.{RingSize, SponsorCount, NodeNumber, Unsound, SlotLimit, OutputShort, NotOut, LedgerUnfit}
-use Rattle.nodeset.specs.Sets.{has, with, within}
+use Rattle.nodeset.specs.Sets.{has, within, withIf}
 use Rattle.ring.specs.Ring.{cableOf, ringSize, sponsorCount, nodeNumber}
 use Rattle.message.specs.declared.Reading.{Reading}
 use Rattle.message.specs.declared.Reading.the-variants as reading
@@ -162,9 +162,6 @@ unfoldable pub ordered : Pairs → Pairs
 ordered p = let m = min (p .count) 32 in groupedTo false (p .bytes) m (groupedTo true (p .bytes) m noPairs)
 
 -- ---- who left the member state, and who came to it
-
-abbrev pub withIf : Bool → ℕ → ℕ → ℕ
-withIf so set x = cond so (with set x) set
 
 unfoldable pub movesWith : Moves → Node → Node → Moves
 movesWith m before after =

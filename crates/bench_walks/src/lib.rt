@@ -34,7 +34,7 @@ ghost use mathlib.Core.Path.{_≡_};
 ghost use Prim.Native.Nat.{_<_, _≤_, max, min};
 ghost use lib.ListN.{length, take};
 ghost use Rattle.bench_walks.specs.Survey.{glimpseOf, surveyed, unseen, surveyOf, fineTable, farFrom, memberSeen, gathered, noMembers, membersOf};
-ghost use Rattle.bench_walks.specs.Orders.{orderOf, carried, carriedFrom, pushed, withPair, noPairs, inGroup, withOne, groupedTo, ordered, withIf, movesWith, listWith, sameWith, listsWith, noticed, noNotes, notesOf};
+ghost use Rattle.bench_walks.specs.Orders.{orderOf, carried, carriedFrom, pushed, withPair, noPairs, inGroup, withOne, groupedTo, ordered, movesWith, listWith, sameWith, listsWith, noticed, noNotes, notesOf};
 
 // What a look over a table finds: whether each record stands in its place; the cable and slots of
 // the first; the next sender's number and record; the nodes that are out.
@@ -233,16 +233,6 @@ pub fn ordered(p: Pairs) -> Pairs
     grouped(left, false, bytes, p.count)
 }
 
-// The set, with the node if so.
-fn with_if(so: bool, set: u32, x: u32) -> u32
-    ensures { λ r. ⌜ r ≡ withIf so set x ⌝ }
-{
-    if so {
-        return nodeset::with(set, x);
-    }
-    set
-}
-
 // Who left and who joined, with one record more.
 fn moves_with(m: Moves, before: Node, after: Node) -> Moves
     ensures { λ r. ⌜ r ≡ movesWith m before after ⌝ }
@@ -253,8 +243,8 @@ fn moves_with(m: Moves, before: Node, after: Node) -> Moves
         return m;
     }
     Moves {
-        left: with_if(node_record::is_member(a), m.left, before.own),
-        joined: with_if(node_record::is_member(b), m.joined, before.own),
+        left: nodeset::with_if(node_record::is_member(a), m.left, before.own),
+        joined: nodeset::with_if(node_record::is_member(b), m.joined, before.own),
     }
 }
 

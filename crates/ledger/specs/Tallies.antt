@@ -15,7 +15,7 @@ use Rattle.bench.specs.Calls.{setUpOf}
 use Rattle.bench.specs.Ledger.{figures, isLeaving, isJoining}
 use Rattle.bench.specs.Kept.{dateOf}
 use Rattle.bench.specs.Runs.{Call, callOf, tableAfter}
-use Rattle.ledger.specs.Runs.{commandOf, keptBy, zeros, benchAfter}
+use Rattle.ledger.specs.Runs.{Bench, commandOf, keptBy, zeros, benchAfter}
 
 -- Does node i leave, or join, in a call on a table?
 abbrev pub leaves : Call → Table → ℕ → Bool
@@ -41,16 +41,20 @@ module _ (start : Table) where
   lastLeaving [] i = 0
   lastLeaving (c ∷ cs) i = cond (leaves c (tableAfter start cs) i) (dateOf (commandOf c) (tableAfter start cs)) (lastLeaving cs i)
 
+-- The table and the ledger after calls from a start and a ledger of zeros.
+abbrev pub fromZeros : Cable → Table → List Call → Bench
+fromZeros cable start cs = benchAfter (record { table = start; ledger = zeros (cable .n) }) cs
+
 -- Over every sequence of calls from the common start and a ledger of zeros: the tables are those of the calls without a ledger, the ledger has an entry for each node,
 -- each figure is its tally, and no call is refused by 13.
 pub record Tallied (cable : Cable) (start : Table) (cs : List Call) : Type 0 where
-  pub tables : benchAfter (record { table = start; ledger = zeros (cable .n) }) cs .table ≡ tableAfter start cs
-  pub size : length (benchAfter (record { table = start; ledger = zeros (cable .n) }) cs .ledger) ≡ cable .n
+  pub tables : fromZeros cable start cs .table ≡ tableAfter start cs
+  pub size : length (fromZeros cable start cs .ledger) ≡ cable .n
   pub entries : (i : ℕ) → i ≤ cable .n → 1 ≤ i
-      → getD (benchAfter (record { table = start; ledger = zeros (cable .n) }) cs .ledger) (i - 1) []
+      → getD (fromZeros cable start cs .ledger) (i - 1) []
       ≡ figures (timesLeft start cs i) (timesJoined start cs i) (lastLeaving start cs i)
   pub never-13 : (c : Call)
-      → let b = benchAfter (record { table = start; ledger = zeros (cable .n) }) cs in
+      → let b = fromZeros cable start cs in
       keptBy c (b .ledger) (b .table) .reply .outcome ≢ Refused (cause 13)
 
 abbrev pub LedgerTallies : Type 0

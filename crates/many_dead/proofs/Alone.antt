@@ -24,10 +24,10 @@ use Rattle.bench.specs.Calls.{setUpOf, transmits}
 use Rattle.bench.specs.Runs.{Call, slot, off, restart, misses, tableAfter, entryOn}
 use Rattle.bench.proofs.Computed.{computed}
 use Rattle.agreement.specs.Demand.{AtEach, EverySequence}
-use Rattle.agreement.specs.Repeated.{runBefore}
+use Rattle.agreement.specs.Repeated.{runBy, runBefore}
 use Rattle.agreement.proofs.Beginnings.{at-end}
 use Rattle.many_dead.specs.Many.{Undisturbed, OnlyOffs, Spares, StaysOn, TwoStayOn, Survives, ManyDeadFor}
-use Rattle.many_dead.specs.Alone.{slotWithoutE, runWithoutE, powerCut, lingers, takenAlong}
+use Rattle.many_dead.specs.Alone.{runWithoutE, powerCut, lingers, takenAlong}
 
 -- ---- plans of `ok` and `off` alone, as a test
 
@@ -112,15 +112,15 @@ ends-well runOf claim k fits cs quiet i j two on-i on-j =
     (only-offs (cableOf 4 k) (runOf (four k)) cs quiet, record { a = i; b = j; first = on-i; second = on-j; two = two }))
 
 still-listed : has (recordOf (runBefore (four 3) (reverse lingers)) 3 .set) (sender 4 2) ≡ true
-unfolding computed runBefore
+unfolding computed runBy
 still-listed = refl
 
 in-time : slotsOf (runBefore (four 3) (reverse lingers)) ≡ 5
-unfolding computed runBefore
+unfolding computed runBy
 in-time = refl
 
 was-silent : entryOn (runBefore (four 3)) (reverse lingers) 2 .sent ≡ false
-unfolding computed runBefore
+unfolding computed runBy
 was-silent = refl
 
 pub needs-f : ManyDeadFor runBefore → ⊥
@@ -132,7 +132,7 @@ needs-f claim =
     true≢false (sym still-listed ∙ ends .gone 2 (lit≤ tt) (subst (λ (q : ℕ). 2 + (4 - 1) ≤ q) (sym in-time) (lit≤ tt)) was-silent 3 on)
 
 has-left : isMember (recordOf (runWithoutE (four 2) (reverse takenAlong)) 1 .state) ≡ false
-unfolding computed slotWithoutE runWithoutE
+unfolding computed runBy
 has-left = refl
 
 pub needs-e : ManyDeadFor runWithoutE → ⊥

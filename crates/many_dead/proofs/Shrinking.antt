@@ -19,13 +19,13 @@ use Rattle.ring.specs.declared.Found.the-variants as found
 use Rattle.ring.specs.Ring.{sender, sponsors, sponsored, decided, memberIn, isFound}
 use Rattle.ring.proofs.Senders.{sender-range, sender-once}
 use Rattle.ring.proofs.Walks as walks
-use Rattle.ring.proofs.Members.{sponsored-before, decided-before}
+use Rattle.ring.proofs.Members.{same-member, sponsored-before, decided-before}
 use Rattle.node_steps.proofs.Answers.{At}
 use Rattle.bench.proofs.Choices.{choose}
 use Rattle.agreement.proofs.Backwards.{Before, before}
 use Rattle.agreement.proofs.History.{num-is}
 use Rattle.agreement.proofs.Parts.{without-part}
-use Rattle.agreement.proofs.Marks.{no-both, same-member}
+use Rattle.agreement.proofs.Marks.{no-both}
 
 module _ (cable : Cable) (n-pos : 1 ≤ cable .n) (k-pos : 1 ≤ cable .k) where
   open Cable cable using (n, k)

@@ -1,22 +1,19 @@
 -- Request g wants "e) and f) together". Here each is taken back alone: f's run is agreement's `runBefore`, with one departure step in a slot; e's is this one. And plans, the first line first.
 use Prim.Native.Nat.{ℕ}
-use mathlib.Core.Bool.{false, cond, _&&_}
+use mathlib.Core.Bool.{false, cond}
 use mathlib.Core.List.{List, [], _∷_}
 use lib.ListN.{replicate}
 use Rattle.nodeset.specs.Sets.{has, without}
 use Rattle.message.specs.declared.Reading.{Reading}
 use Rattle.message.specs.declared.Reading.the-variants as reading
 use Rattle.node_record.specs.declared.Node.{Node}
-use Rattle.node_record.specs.declared.State.{State}
-use Rattle.node_record.specs.declared.State.the-variants.{Member, Listening, Following, Knocking, Out}
-use Rattle.node_record.specs.States.{leavingCause}
 use Rattle.node_record.specs.Sponsoring.{sponsorsIn}
-use Rattle.node_changes.specs.Changes.{leave, withMarks, counted}
-use Rattle.node_steps.specs.Steps.{isOwn, confirmed, missedReturn, returnHeard, noted, departedIn, leavesIn, settle}
-use Rattle.node_hearing.specs.Hearing.{listeningSlot}
-use Rattle.bench.specs.Table.{Table, each, speaker}
-use Rattle.bench.specs.Calls.{heardBy}
-use Rattle.bench.specs.Runs.{Call, slot, off, restart, callOf, isSlot}
+use Rattle.node_changes.specs.Changes.{withMarks}
+use Rattle.node_steps.specs.Steps.{isOwn, confirmed, returnHeard, noted, slotFrom}
+use Rattle.bench.specs.Table.{Table}
+use Rattle.bench.specs.Runs.{Call, off}
+use Rattle.bench.specs.Plans.{ok}
+use Rattle.agreement.specs.Repeated.{runBy}
 
 -- ---- the run without request e
 
@@ -28,36 +25,13 @@ readWithoutE s (reading.Refused r) v = without (v .present) s
 abbrev pub markedWithoutE : ℕ → Reading → Node → Node
 markedWithoutE s heard v = withMarks (cond (isOwn s v) (without (v .present) (v .own)) (readWithoutE s heard v)) false (returnHeard s heard v) v
 
-unfoldable pub slotWithoutE : ℕ → Reading → Node → Node
-slotWithoutE s heard v =
-    let inside = has (v .set) s in
-    let w = cond inside (markedWithoutE s heard v) (noted s heard v) in
-    let times = v .cable .n in
-    cond (inside && missedReturn s heard v) (leave (leavingCause 3) v)
-    (cond (inside && leavesIn times s w) (leave (leavingCause 1) w)
-    (settle inside s (cond inside (departedIn times s w) w)))
+abbrev pub slotWithoutE : ℕ → Reading → Node → Node
+slotWithoutE s heard v = slotFrom (v .cable .n) s heard v (cond (has (v .set) s) (markedWithoutE s heard v) (noted s heard v))
 
-abbrev pub inWithoutE : State → ℕ → Reading → Node → Node
-inWithoutE Member s heard v = slotWithoutE s heard v
-inWithoutE Listening s heard v = listeningSlot s heard v
-inWithoutE Following s heard v = slotWithoutE s heard v
-inWithoutE Knocking s heard v = slotWithoutE s heard v
-inWithoutE (Out cause) s heard v = v
-
-abbrev pub callWithoutE : Call → Table → Table
-callWithoutE (slot lost missed room) t =
-    cond (isSlot (slot lost missed room) t) (each (λ i v. inWithoutE (v .state) (speaker t) (heardBy lost missed t i) (counted v)) t) t
-callWithoutE (off a) t = callOf (off a) t .table
-callWithoutE (restart a) t = callOf (restart a) t .table
-
-unfoldable pub runWithoutE : Table → List Call → Table
-runWithoutE start [] = start
-runWithoutE start (c ∷ cs) = callWithoutE c (runWithoutE start cs)
+abbrev pub runWithoutE : Table → List Call → Table
+runWithoutE start cs = runBy slotWithoutE start cs
 
 -- ---- plans
-
-abbrev pub ok : Call
-ok = slot false 0 64
 
 -- `6 3`: nodes 5, 6, 1 and 2 die one slot after the other; 3 and 4 stay on.
 abbrev pub powerCut : List Call

@@ -2,7 +2,7 @@
 // layer: it takes every record as it is.
 use ring::Cable;
 ghost use mathlib.Core.Path.{_≡_};
-ghost use Rattle.node_record.specs.States.{isMember, isListening, isFollowing, isKnocking, isOut, causeNumber};
+ghost use Rattle.node_record.specs.States.{isMember, isListening, isFollowing, isKnocking, isOut};
 ghost use Rattle.node_record.specs.Soundness.{numbersSound, setsSound, returningSound, ownSound, knockSound, emptySound, heardSound, yesSound, windowInRange, windowEmpty, windowSound, enoughSound, sound};
 
 // Why a node is out.
@@ -46,18 +46,6 @@ pub struct Node {
 
 // The slot count at which a record takes no further slot.
 pub const LIMIT: u64 = 1_000_000_000_000_000;
-
-// The number that document 01 gives the cause.
-pub fn cause_number(cause: Cause) -> u32
-    ensures { λ r. ⌜ r ≡ causeNumber cause ⌝ }
-{
-    match cause {
-        Cause::Unconfirmed => 1,
-        Cause::NothingHeard => 2,
-        Cause::MissedReturn => 3,
-        Cause::SwitchedOff => 4,
-    }
-}
 
 pub fn is_member(state: State) -> bool
     ensures { λ r. ⌜ r ≡ isMember state ⌝ }

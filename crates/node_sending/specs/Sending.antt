@@ -2,7 +2,7 @@
 use Prim.Native.Nat.{ℕ, zero, suc}
 use mathlib.Core.Bool.{Bool, cond, not, _&&_, _||_}
 use lib.Dec.{eqb}
-use Rattle.nodeset.specs.Sets.{has, with}
+use Rattle.nodeset.specs.Sets.{has, withIf}
 use Rattle.ring.specs.Ring.{memberIn}
 use Rattle.node_record.specs.declared.Node.{Node}
 use Rattle.node_record.specs.Sponsoring.{sponsorsIn, sponsoredIn}
@@ -15,9 +15,7 @@ sends v = isMember (v .state) || (isFollowing (v .state) && eqb (v .returning) 0
 -- "bits taken from the marks before the slot", "bit 1 concerns the nearest member before the sender": the first j of them, as a set of numbers.
 unfoldable pub markBits : ℕ → Node → ℕ
 markBits zero v = 0
-markBits (suc j) v =
-    let bits = markBits j v in
-    cond (has (v .present) (memberIn (sponsoredIn (v .own) (suc j) v))) (with bits (suc j)) bits
+markBits (suc j) v = withIf (has (v .present) (memberIn (sponsoredIn (v .own) (suc j) v))) (markBits j v) (suc j)
 
 -- "Acknowledgement bits past ks are sent as 0"; "A knock carries zero bits".
 unfoldable pub bitsSent : Node → ℕ

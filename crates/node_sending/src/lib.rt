@@ -4,20 +4,8 @@ use node_record::Node;
 use node_record::is_following;
 use node_record::is_member;
 ghost use mathlib.Core.Path.{_≡_};
-ghost use mathlib.Core.Bool.{cond};
-ghost use Rattle.nodeset.specs.Sets.{has, with};
 ghost use Rattle.node_record.specs.Sponsoring.{sponsorsIn};
 ghost use Rattle.node_sending.specs.Sending.{sends, markBits, bitsSent, returnSent};
-
-// The bits with the j-th, if node x, the j-th sponsored member, is marked.
-fn mark_bit(j: u32, bits: u32, marks: u32, x: u32) -> u32
-    ensures { λ r. ⌜ r ≡ cond (has marks x) (with bits j) bits ⌝ }
-{
-    if nodeset::has(marks, x) {
-        return nodeset::with(bits, j);
-    }
-    bits
-}
 
 // The acknowledgement bits of a member: its marks of those that it sponsors, which one walk back
 // takes one after the other.
@@ -32,7 +20,8 @@ fn mark_bits(v: Node) -> u32
     while j < most {
         j += 1;
         place = ring::nearest(cable.n, v.set, place);
-        bits = mark_bit(j, bits, v.present, place.node);
+        let marked = nodeset::has(v.present, place.node);
+        bits = nodeset::with_if(marked, bits, j);
     }
     bits
 }

@@ -3,7 +3,6 @@ use Prim.Native.Nat.{ℕ}
 use mathlib.Core.Path.{_≡_, refl, sym, ap, _∙_}
 use mathlib.Core.Logic.{_≢_}
 use lib.Dec.{eqb}
-use Rattle.nodeset.specs.Sets.{has}
 use borrow.Author.Tests.{eqb-false}
 use Rattle.nodeset.proofs.Tests.{by-cases, otherwise}
 use Rattle.message.specs.declared.Reading.{Reading}
@@ -12,7 +11,7 @@ use Rattle.message.proofs.From.{FromOther}
 use Rattle.node_record.specs.declared.Node.{Node}
 use Rattle.node_record.specs.declared.State.{State}
 use Rattle.node_record.specs.declared.State.the-variants.{Member, Listening, Following, Knocking, Out}
-use Rattle.node_steps.specs.Steps.{settle, slotWith, trackingSlot}
+use Rattle.node_steps.specs.Steps.{slotWith, trackingSlot}
 use Rattle.node_steps.specs.Inner.{slotByCases}
 use Rattle.node_steps.proofs.Cases.{slot-by-cases, slot-ignores}
 use Rattle.node_hearing.specs.Hearing.{listeningSlot, listeningBy}
@@ -31,7 +30,7 @@ from-other s heard v = by-cases (eqb s (v .own)) (λ e. rw e tt) (λ e. rw e (go
 pub slot-read : (times s : ℕ) (heard : Reading) (v : Node) → slotWith times s heard v ≡ slotByCases times s (heardFrom s heard v) v
 slot-read times s heard v =
     by-cases (eqb s (v .own))
-    (λ e. slot-ignores (settle (has (v .set) s) s) times s heard (heardFrom s heard v) v e)
+    (λ e. slot-ignores times s heard (heardFrom s heard v) v e)
     (λ e. ap (λ (r : Reading). slotWith times s r v) (sym (otherwise _ heard e)))
     ∙ slot-by-cases times s (heardFrom s heard v) v (from-other s heard v)
 

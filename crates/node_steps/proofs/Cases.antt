@@ -16,7 +16,7 @@ use Rattle.node_record.specs.declared.Node.{Node}
 use Rattle.node_record.specs.States.{leavingCause}
 use Rattle.node_record.specs.Sponsoring.{decidedIn}
 use Rattle.node_changes.specs.Changes.{leave, withSet, withMarks}
-use Rattle.node_steps.specs.Steps.{isOwn, returnIn, hearsReturn, marksAfter, yesAfter, missedReturn, returnHeard, marked, noted, leaves, departed, departedIn, leavesIn, settle, slotThen, slotWith}
+use Rattle.node_steps.specs.Steps.{isOwn, returnIn, hearsReturn, marksAfter, yesAfter, missedReturn, returnHeard, marked, noted, leaves, departed, departedIn, leavesIn, settle, slotFrom, slotWith}
 use Rattle.node_steps.specs.Inner.{readReturn, readHeard, readMarked, departing, insideSlot, outsideSlot, slotByCases}
 
 -- ---- step 1: what is heard of the own slot is a refused reading
@@ -86,7 +86,7 @@ departing-is (suc times) s v =
 -- ---- the slot
 
 pub slot-by-cases : (times s : ℕ) (heard : Reading) (v : Node) → FromOther s heard (v .own) → slotWith times s heard v ≡ slotByCases times s heard v
-unfolding slotThen slotByCases insideSlot outsideSlot
+unfolding slotFrom slotByCases insideSlot outsideSlot
 slot-by-cases times s heard v f =
     by-cases (has (v .set) s)
     (λ e.
@@ -104,6 +104,6 @@ unfolding slotByCases
 slot-outside times s heard v e = otherwise _ _ e
 
 -- a message handed over in the own slot is ignored
-pub slot-ignores : (rest : Node → Node) (times s : ℕ) (a b : Reading) (v : Node) → isOwn s v ≡ true → slotThen rest times s a v ≡ slotThen rest times s b v
-unfolding slotThen noted
-slot-ignores rest times s a b v e = rw e refl
+pub slot-ignores : (times s : ℕ) (a b : Reading) (v : Node) → isOwn s v ≡ true → slotWith times s a v ≡ slotWith times s b v
+unfolding slotFrom noted
+slot-ignores times s a b v e = rw e refl

@@ -2,7 +2,7 @@
 use Prim.Native.Nat.{ℕ, zero, suc}
 use mathlib.Core.Bool.{Bool, true, false, cond, not, _&&_, _||_}
 use lib.Dec.{eqb}
-use Rattle.nodeset.specs.Sets.{has, with, without, union}
+use Rattle.nodeset.specs.Sets.{has, with, withIf, without, union}
 use Rattle.ring.specs.declared.Cable.{Cable}
 use Rattle.ring.specs.Ring.{sponsors, sponsored, decided, memberIn}
 use Rattle.message.specs.declared.Reading.{Reading}
@@ -31,7 +31,7 @@ unfoldable pub answered : Bool → ℕ → ℕ → ℕ → ℕ → Cable → ℕ
 answered answer nodes zero s bits cable set = nodes
 answered answer nodes (suc j) s bits cable set =
     let earlier = answered answer nodes j s bits cable set in
-    cond (saysSo answer (has bits (suc j))) (with earlier (memberIn (sponsored cable set s (suc j)))) earlier
+    withIf (saysSo answer (has bits (suc j))) earlier (memberIn (sponsored cable set s (suc j)))
 
 -- What a message of s says: a yes for s and for those that it acknowledges, a no for the others that it sponsors.
 abbrev pub saidOf : ℕ → ℕ → Cable → ℕ → Said

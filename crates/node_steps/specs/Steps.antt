@@ -182,19 +182,18 @@ settle inside s v =
     (cond (nothingHeard v) (leave (leavingCause 2) v)
     (cond (inside && joins s v) (join v) v))
 
--- One slot with so many departure steps, and with what is done then. Step 1: "leaving with cause 3, and nothing further happens". Step 3: "If that is this node,
--- it leaves with cause 1 and the steps end."
-unfoldable pub slotThen : (Node → Node) → ℕ → ℕ → Reading → Node → Node
-slotThen rest times s heard v =
+-- The rest of a slot with so many departure steps, where its message made the record w of v. Step 1: "leaving with cause 3, and nothing further happens". Step 3: "If that is
+-- this node, it leaves with cause 1 and the steps end."
+unfoldable pub slotFrom : ℕ → ℕ → Reading → Node → Node → Node
+slotFrom times s heard v w =
     let inside = has (v .set) s in
-    let w = afterMessage inside s heard v in
     cond (inside && missedReturn s heard v) (leave (leavingCause 3) v)
     (cond (inside && leavesIn times s w) (leave (leavingCause 1) w)
-    (rest (cond inside (departedIn times s w) w)))
+    (settle inside s (cond inside (departedIn times s w) w)))
 
--- One slot with so many departure steps: 1 was the rule of document 01.
+-- One slot with so many departure steps: 1 was the rule before request f.
 abbrev pub slotWith : ℕ → ℕ → Reading → Node → Node
-slotWith times s heard v = slotThen (settle (has (v .set) s) s) times s heard v
+slotWith times s heard v = slotFrom times s heard v (afterMessage (has (v .set) s) s heard v)
 
 -- One slot. Each departure step that changes the set takes a member, so that after n of them nobody is left to leave.
 unfoldable pub trackingSlot : ℕ → Reading → Node → Node

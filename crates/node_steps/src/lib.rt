@@ -10,9 +10,7 @@ use node_record::is_member;
 use ring::Cable;
 use ring::Found;
 ghost use mathlib.Core.Path.{_≡_};
-ghost use mathlib.Core.Bool.{cond};
 ghost use lib.Dec.{eqb};
-ghost use Rattle.nodeset.specs.Sets.{has, with};
 ghost use Rattle.ring.specs.Ring.{memberIn, isFound};
 ghost use Rattle.node_steps.specs.Steps.{tooFew, nothingHeard, joins, stateOnList, joined, join, settle};
 ghost use Rattle.node_steps.specs.Digests.{bitsHeard, saidOf, digestOf, saidBy, marksBy, decidedBy, heardEffect, unheardMarks, unheardEffect, effectOf, markedBy, notedBy, takenBy, decidedWhere, staysOn, departures, trackingBy};
@@ -62,16 +60,6 @@ fn bits_heard(heard: Reading) -> u32
     }
 }
 
-// The nodes, with node x if so.
-fn with_if(so: bool, nodes: u32, x: u32) -> u32
-    ensures { λ r. ⌜ r ≡ cond so (with nodes x) nodes ⌝ }
-{
-    if so {
-        return nodeset::with(nodes, x);
-    }
-    nodes
-}
-
 // What a message says of its sender and of the members that it sponsors, which one walk back takes one
 // after the other.
 fn said_of(s: u32, bits: u32, cable: Cable, set: u32) -> Said
@@ -86,8 +74,8 @@ fn said_of(s: u32, bits: u32, cable: Cable, set: u32) -> Said
         j += 1;
         place = ring::nearest(cable.n, set, place);
         let bit = nodeset::has(bits, j);
-        yes = with_if(bit, yes, place.node);
-        no = with_if(!bit, no, place.node);
+        yes = nodeset::with_if(bit, yes, place.node);
+        no = nodeset::with_if(!bit, no, place.node);
     }
     Said { yes, no }
 }

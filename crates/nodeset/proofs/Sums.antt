@@ -127,10 +127,6 @@ pub num-le : (b : Bool) → num b ≤ 1
 num-le true = omega arith
 num-le false = omega arith
 
-pub num-true : (b : Bool) → 1 ≤ num b → b ≡ true
-num-true true h = refl
-num-true false h = absurd (elim h [ ])
-
 pub num-false : (b : Bool) → num b ≡ 0 → b ≡ false
 num-false true h = let z : ⊥ = omega arith in absurd z
 num-false false h = refl

@@ -1,20 +1,11 @@
 -- Reasoning by what a test answers. Assumes nothing.
-use Prim.Native.Nat.{ℕ}
 use mathlib.Core.Path.{_≡_, refl, sym, ap, _∙_}
 use mathlib.Core.Bool.{Bool, true, false, cond, not, _&&_, _||_, and-eq-true-iff}
-use lib.Dec.{eqb}
-use borrow.Author.Tests.{not-true, not-false, eqb-true, eqb-false, eq-eqb, ne-eqb}
+use borrow.Author.Tests.{not-true, not-false}
 
 pub by-cases {ℓ} : {A : Type ℓ} (b : Bool) → (b ≡ true → A) → (b ≡ false → A) → A
 by-cases true f g = f refl
 by-cases false f g = g refl
-
--- two numbers are compared either way round
-pub eqb-swap : (x y : ℕ) → eqb x y ≡ eqb y x
-eqb-swap x y =
-    by-cases (eqb x y)
-    (λ e. e ∙ sym (eq-eqb y x (sym (eqb-true x y e))))
-    (λ e. e ∙ sym (ne-eqb y x (λ p. eqb-false x y e (sym p))))
 
 -- a test of two holds where both do
 pub both : (a b : Bool) → (a && b) ≡ true → (a ≡ true) × (b ≡ true)

@@ -16,6 +16,10 @@ unfoldable pub with : ℕ → ℕ → ℕ
 with s zero = s
 with s (suc i) = cond (ltb i 32 && not (has s (suc i))) (s + 2 ^ i) s
 
+-- The set with node x if so, else the set itself.
+abbrev pub withIf : Bool → ℕ → ℕ → ℕ
+withIf so s x = cond so (with s x) s
+
 -- The set without node x.
 unfoldable pub without : ℕ → ℕ → ℕ
 without s zero = s

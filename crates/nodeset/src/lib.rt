@@ -1,7 +1,7 @@
 // Sets of node numbers 1 to 32 in a u32: node 1 is the lowest bit. Every u32 is a set. A number
 // that is not 1 to 32 names no node: no set has it, and with and without leave the set as it is.
 ghost use mathlib.Core.Path.{_≡_};
-ghost use Rattle.nodeset.specs.Sets.{has, with, without, union, full, within, subset, size, distance, run};
+ghost use Rattle.nodeset.specs.Sets.{has, with, withIf, without, union, full, within, subset, size, distance, run};
 
 // Whether node x is in the set.
 pub fn has(s: u32, x: u32) -> bool
@@ -30,6 +30,16 @@ pub fn with(s: u32, x: u32) -> u32
         return s;
     }
     s + (1 << (x - 1))
+}
+
+// The set with node x if so, else the set itself.
+pub fn with_if(so: bool, s: u32, x: u32) -> u32
+    ensures { λ r. ⌜ r ≡ withIf so s x ⌝ }
+{
+    if so {
+        return with(s, x);
+    }
+    s
 }
 
 // The set without node x.

@@ -84,7 +84,7 @@ abbrev pub ifSaid : Bool → Refusal → Line → Line
 ifSaid true cause said = said
 ifSaid false cause said = lines.Refused cause
 
--- What came of the words so far, with one node more; and what they say.
+-- Inner: what came of the words so far, with one node more; and what they say.
 abbrev pub missedWith : ℕ → Missed → ℕ → Missed
 missedWith n missed a = record { inside = missed .inside && inRing n a; set = with (missed .set) a }
 

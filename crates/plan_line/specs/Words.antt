@@ -77,7 +77,7 @@ valueFrom high (byte ∷ rest) = valueFrom (high * 10 + (byte - 48)) rest
 abbrev pub valueOf : List ℕ → ℕ
 valueOf word = valueFrom 0 word
 
--- The least number that may follow a word where "numbers rising" is asked: any where there is no word before.
+-- Inner: the least number that may follow a word where "numbers rising" is asked: any where there is no word before.
 abbrev pub leastAfter : List ℕ → ℕ
 leastAfter [] = 0
 leastAfter (byte ∷ rest) = suc (valueOf (byte ∷ rest))

@@ -17,7 +17,7 @@ use Rattle.bench.specs.Table.{Table, recordOf, slotsOf}
 use Rattle.bench.specs.Calls.{setUpOf, greatest}
 use Rattle.bench.specs.Runs.{Call, tableAfter}
 use Rattle.agreement.specs.Demand.{next, onwards, isDeciding, decidingRan, LostOrSilent, Premises, Agree, InTime, EverySequence}
-use Rattle.agreement.specs.Repeated.{callBefore, runBefore}
+use Rattle.agreement.specs.Repeated.{callBy, runBy, ruleBefore, runBefore}
 use Rattle.bench.proofs.Computed.{computed}
 use Rattle.bench.proofs.Places.{Placed}
 use Rattle.bench.proofs.Runs.{start-placed, run-length}
@@ -146,7 +146,7 @@ module _ (a b c d e : Node) where
   unfolding computed every noted scan
   meets-before p = by-test-on (cableOf 5 3) (calls-before (setUpOf (cableOf 5 3) (a ∷ b ∷ c ∷ d ∷ e ∷ []) .table)) (reverse twoAtOnce) p (each p)
     where
-      each : (p : Premise) → testBy callBefore p (cableOf 5 3) (setUpOf (cableOf 5 3) (a ∷ b ∷ c ∷ d ∷ e ∷ []) .table) (reverse twoAtOnce) ≡ true
+      each : (p : Premise) → testBy (callBy ruleBefore) p (cableOf 5 3) (setUpOf (cableOf 5 3) (a ∷ b ∷ c ∷ d ∷ e ∷ []) .table) (reverse twoAtOnce) ≡ true
       each few-failures = refl
       each one-outside = refl
       each list-kept = refl
@@ -154,7 +154,7 @@ module _ (a b c d e : Node) where
 
   -- node 2 is a member by the rule before, and has left now
   was-member : isMember (recordOf (runBefore (setUpOf (cableOf 5 3) (a ∷ b ∷ c ∷ d ∷ e ∷ []) .table) (reverse twoAtOnce)) 2 .state) ≡ true
-  unfolding computed runBefore
+  unfolding computed runBy
   was-member = refl
 
   has-left : isMember (recordOf (tableAfter (setUpOf (cableOf 5 3) (a ∷ b ∷ c ∷ d ∷ e ∷ []) .table) (reverse twoAtOnce)) 2 .state) ≡ false

@@ -10,8 +10,8 @@ use Rattle.bench.specs.Table.{Table, slotsOf}
 use Rattle.bench.specs.Runs.{Call, callOf, tableAfter, isSlot, Entry, newEntry, entryOn}
 use Rattle.bench.proofs.Places.{Placed}
 use Rattle.bench.proofs.Runs.{slots-next}
-use Rattle.agreement.specs.Repeated.{callBefore, runBefore}
-use Rattle.agreement.proofs.Differs.{slots-before}
+use Rattle.agreement.specs.Repeated.{callBy, ruleBefore, runBefore}
+use Rattle.agreement.proofs.Before.{before-none, before-one, before-next}
 
 -- ---- what is gathered
 
@@ -159,17 +159,6 @@ pub after-one : (start : Table) (c : Call) (cs : List Call) → tableAfter start
 unfolding tableAfter
 after-one start c cs = refl
 
-pub before-none : (start : Table) → runBefore start [] ≡ start
-unfolding runBefore
-before-none start = refl
-
-pub before-one : (start : Table) (c : Call) (cs : List Call) → runBefore start (c ∷ cs) ≡ callBefore c (runBefore start cs)
-unfolding runBefore
-before-one start c cs = refl
-
-pub before-next : (start : Table) (c : Call) (cs : List Call) → slotsOf (runBefore start (c ∷ cs)) ≡ slotsOf (runBefore start cs) + num (isSlot c (runBefore start cs))
-before-next start c cs = ap slotsOf (before-one start c cs) ∙ slots-before c (runBefore start cs)
-
 -- of the calls as they are
 abbrev pub called : Call → Table → Table
 called c t = callOf c t .table
@@ -179,4 +168,4 @@ calls cable pos start begins = record { step = called; start = start; run = tabl
 
 -- and of the rule before request f
 abbrev pub calls-before : Table → Run
-calls-before start = record { step = callBefore; start = start; run = runBefore start; first = before-none start; then = before-one start; next = before-next start }
+calls-before start = record { step = callBy ruleBefore; start = start; run = runBefore start; first = before-none start; then = before-one start; next = before-next start }

@@ -1,14 +1,9 @@
 -- Plans for the bench (document 01, "The bench program"), the first line first: one in which the premises of demand 3 are met, and for each premise one that breaks it alone.
-use mathlib.Core.Bool.{true, false}
+use mathlib.Core.Bool.{false}
 use mathlib.Core.List.{List, [], _∷_, _++_}
 use lib.ListN.{replicate}
 use Rattle.bench.specs.Runs.{Call, slot, off, restart}
-
-abbrev pub ok : Call
-ok = slot false 0 64
-
-abbrev pub lost : Call
-lost = slot true 0 64
+use Rattle.bench.specs.Plans.{ok, lost}
 
 -- `5 2`: the message of node 2 in slot 2 is lost, and it leaves in slot 4.
 abbrev pub departure : List Call

@@ -38,13 +38,13 @@ stood (suc left) n set x j m back h e =
     (λ t.
     let b = both (has set p) (eqb j 1) t in
     let found = sym (chosen here (walk left n set p more) t) ∙ e in
-    let at = same-member p m (n - suc left) back found in
+    let at = same-member found in
     record {
       i = 1;
       some = omega (arith, eqb-true j 1 (b .1));
       low = omega arith;
       high = omega arith;
-      is = omega (arith, same-back p m (n - suc left) back found);
+      is = omega (arith, same-back found);
       stands = at;
       listed = sym (ap (has set) at) ∙ b .0;
       count = omega (arith, ap num (b .0), eqb-true j 1 (b .1));

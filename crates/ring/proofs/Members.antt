@@ -13,11 +13,11 @@ use Rattle.ring.specs.declared.Found.{Found}
 use Rattle.ring.specs.declared.Found.the-variants.{Member, Nobody}
 use Rattle.ring.specs.Ring.{previous, walk, memberBefore, sponsors, sponsored, decided}
 
-pub same-member : (x y b d : ℕ) → Member x b ≡ Member y d → x ≡ y
-same-member x y b d e = cc
+pub same-member : {x y b d : ℕ} → Member x b ≡ Member y d → x ≡ y
+same-member e = cc
 
-pub same-back : (x y b d : ℕ) → Member x b ≡ Member y d → b ≡ d
-same-back x y b d e = cc
+pub same-back : {x y b d : ℕ} → Member x b ≡ Member y d → b ≡ d
+same-back e = cc
 
 pub nobody-found : (m back : ℕ) → Nobody ≡ Member m back → ⊥
 nobody-found m back e = let z : _≡_ {A = ℕ} 0 1 = cc in omega arith
@@ -30,7 +30,7 @@ walk-member (suc left) n set x j m back e =
     let here : Found = Member p (n - suc left) in
     let more : ℕ = j - num (has set p) in
     by-cases (has set p && eqb j 1)
-    (λ t. sym (ap (has set) (same-member p m (n - suc left) back (sym (chosen here (walk left n set p more) t) ∙ e))) ∙ both (has set p) (eqb j 1) t .0)
+    (λ t. sym (ap (has set) (same-member (sym (chosen here (walk left n set p more) t) ∙ e))) ∙ both (has set p) (eqb j 1) t .0)
     (λ t. walk-member left n set p more m back (sym (otherwise here (walk left n set p more) t) ∙ e))
 
 pub before-member : (n set x j m back : ℕ) → memberBefore n set x j ≡ Member m back → has set m ≡ true

@@ -27,10 +27,6 @@ pub reach-here : (left n set x : ℕ) → has set (previous n x) ≡ true → re
 unfolding reach
 reach-here left n set x e = rw e refl
 
-pub reach-on : (left n set x j : ℕ) → j ≢ 1 → has set (previous n x) ≡ true → reach (suc left) n set x j ≡ reach left n set (previous n x) (j - 1)
-unfolding reach
-reach-on left n set x j h e = rw (e, ne-eqb j 1 h) refl
-
 -- ---- what it finds
 
 -- node 0 is in no set

@@ -39,7 +39,7 @@ ks cable c = min (cable .k) (c - 1)
 unfoldable pub previous : ℕ → ℕ → ℕ
 previous n x = cond (leb x 1) n (x - 1)
 
--- "The walk back along the ring is a recursion with a falling number of slots": the j-th member met from node x, and "how many slots back round the ring that member speaks". Of a round of n slots
+-- "The walk back along the ring is a recursion with a falling number of slots" (in code a loop, request d): the j-th member met from node x, and "how many slots back round the ring that member speaks". Of a round of n slots
 -- the walk may still go `left`, so that the next is n - left slots back from its start. (There is no 0th member.)
 unfoldable pub walk : ℕ → ℕ → ℕ → ℕ → ℕ → Found
 walk zero n set x j = Nobody

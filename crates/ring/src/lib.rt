@@ -184,7 +184,7 @@ pub fn sponsors(cable: Cable, set: u32) -> u32
 }
 
 // The j-th member that node x sponsors, the nearest first.
-pub fn sponsored_member(cable: Cable, set: u32, x: u32, j: u32) -> Found
+fn sponsored_member(cable: Cable, set: u32, x: u32, j: u32) -> Found
     ensures { λ r. ⌜ r ≡ sponsored cable set x j ⌝ }
 {
     if j == 0 {

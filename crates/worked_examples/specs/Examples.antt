@@ -14,7 +14,8 @@ use Rattle.bench.specs.Table.{Table}
 use Rattle.bench.specs.Runs.{Call, off}
 use Rattle.plan_line.specs.Words.{bytes}
 use Rattle.plan_program.specs.Program.{printed}
-use Rattle.worked_examples.specs.Rows.{Row, _gives_, these, refusalIn, holds, out, told, tellings, ok, lost, miss, after, failures, apart}
+use Rattle.bench.specs.Plans.{ok, lost}
+use Rattle.worked_examples.specs.Rows.{Row, _gives_, these, refusalIn, holds, out, standing, standings, miss, after, failures, apart}
 
 -- ---- plans, and the listing
 
@@ -72,18 +73,18 @@ examples lent =
     ∷ (refusalIn (readOf 2 (0x02 ∷ 0x03 ∷ 0x02 ∷ 0x00 ∷ [])) gives 7)
     -- "the listing above; node 2 is out, cause 1."
     ∷ (printed input gives listing)
-    ∷ (told (after 4 2 lent slotTwoLost) 2 gives out 1)
+    ∷ (standing (after 4 2 lent slotTwoLost) 2 gives out 1)
     -- "n = 4, k = 2, node 3 alone misses slot 2: after slot 4 all hold {1,2,3,4}."
-    ∷ (tellings (after 4 2 lent slotTwoMissed) gives replicate 4 (holds allFour))
+    ∷ (standings (after 4 2 lent slotTwoMissed) gives replicate 4 (holds allFour))
     -- "the same with slot 4 lost: two failures; node 3 holds {1,3,4}, node 1 all four, node 2 is out, distance 1."
     ∷ (failures 4 2 lent slotFourLost 4 gives 2)
-    ∷ (told (after 4 2 lent slotFourLost) 3 gives holds (these (1 ∷ 3 ∷ 4 ∷ [])))
-    ∷ (told (after 4 2 lent slotFourLost) 1 gives holds allFour)
-    ∷ (told (after 4 2 lent slotFourLost) 2 gives out 1)
+    ∷ (standing (after 4 2 lent slotFourLost) 3 gives holds (these (1 ∷ 3 ∷ 4 ∷ [])))
+    ∷ (standing (after 4 2 lent slotFourLost) 1 gives holds allFour)
+    ∷ (standing (after 4 2 lent slotFourLost) 2 gives out 1)
     ∷ (apart (after 4 2 lent slotFourLost) gives 1)
     -- "n = 4, k = 3, nodes 1 and 2 off from the start: 1 leaves at slot 4, 2 at slot 8." With request f 2 leaves at slot 4, too: "The last example of document 01
     -- then has 2 leaving at slot 4" (document 02).
-    ∷ (tellings (after 4 3 lent (twoOff 3)) gives out 4 ∷ out 4 ∷ replicate 2 (holds allFour))
-    ∷ (tellings (after 4 3 lent (twoOff 4)) gives out 4 ∷ out 4 ∷ replicate 2 (holds (these (3 ∷ 4 ∷ []))))
-    ∷ (tellings (after 4 3 lent (twoOff 8)) gives out 4 ∷ out 4 ∷ replicate 2 (holds (these (3 ∷ 4 ∷ []))))
+    ∷ (standings (after 4 3 lent (twoOff 3)) gives out 4 ∷ out 4 ∷ replicate 2 (holds allFour))
+    ∷ (standings (after 4 3 lent (twoOff 4)) gives out 4 ∷ out 4 ∷ replicate 2 (holds (these (3 ∷ 4 ∷ []))))
+    ∷ (standings (after 4 3 lent (twoOff 8)) gives out 4 ∷ out 4 ∷ replicate 2 (holds (these (3 ∷ 4 ∷ []))))
     ∷ []

@@ -8,7 +8,8 @@ use Rattle.bench.specs.Table.{Table, recordOf}
 use Rattle.bench.specs.Calls.{slotOf}
 use Rattle.bench.specs.Pairs.{slotBytes}
 use Rattle.bench.specs.Runs.{Call, off, restart}
-use Rattle.worked_examples.specs.Rows.{Row, _gives_, these, Told, holds, out, tellings, ok, lost, miss, after}
+use Rattle.bench.specs.Plans.{ok, lost}
+use Rattle.worked_examples.specs.Rows.{Row, _gives_, these, Standing, holds, out, standings, miss, after}
 
 -- ---- c: changes in a fixed order
 
@@ -24,7 +25,7 @@ bytesAfter before = slotBytes before (slotOf false 0 64 before) (replicate 64 0x
 unfoldable pub fixedOrder : Table → List Row
 fixedOrder lent =
     (bytesAfter (after 4 2 lent joinsAsOneLeaves) gives 3 ∷ 1 ∷ 2 ∷ 4 ∷ replicate 60 0xAA)
-    ∷ (tellings (after 4 2 lent (joinsAsOneLeaves ++ ok ∷ [])) gives holds (these (1 ∷ 2 ∷ 4 ∷ [])) ∷ holds (these (1 ∷ 2 ∷ 4 ∷ [])) ∷ out 1 ∷ holds (these (1 ∷ 2 ∷ 4 ∷ [])) ∷ [])
+    ∷ (standings (after 4 2 lent (joinsAsOneLeaves ++ ok ∷ [])) gives holds (these (1 ∷ 2 ∷ 4 ∷ [])) ∷ holds (these (1 ∷ 2 ∷ 4 ∷ [])) ∷ out 1 ∷ holds (these (1 ∷ 2 ∷ 4 ∷ [])) ∷ [])
     ∷ []
 
 -- ---- e: a feeder cut takes no healthy controller along
@@ -34,20 +35,20 @@ abbrev pub cutFeeder : ℕ → List Call
 cutFeeder slots = off 2 ∷ off 3 ∷ off 5 ∷ off 6 ∷ replicate slots ok
 
 -- What nodes 1 and 4 hold, the others being switched off.
-abbrev pub onlyTwo : List ℕ → List Told
+abbrev pub onlyTwo : List ℕ → List Standing
 onlyTwo nodes = let both = holds (these nodes) in both ∷ out 4 ∷ out 4 ∷ both ∷ out 4 ∷ out 4 ∷ []
 
 -- Over any table of six records that was lent to set-up.
 unfoldable pub feederCut : Table → List Row
 feederCut lent =
-    (tellings (after 6 2 lent (cutFeeder 3)) gives onlyTwo (1 ∷ 2 ∷ 3 ∷ 4 ∷ 5 ∷ 6 ∷ []))
-    ∷ (tellings (after 6 2 lent (cutFeeder 4)) gives onlyTwo (1 ∷ 3 ∷ 4 ∷ 5 ∷ 6 ∷ []))
-    ∷ (tellings (after 6 2 lent (cutFeeder 5)) gives onlyTwo (1 ∷ 4 ∷ 5 ∷ 6 ∷ []))
-    ∷ (tellings (after 6 2 lent (cutFeeder 6)) gives onlyTwo (1 ∷ 4 ∷ 5 ∷ 6 ∷ []))
-    ∷ (tellings (after 6 2 lent (cutFeeder 7)) gives onlyTwo (1 ∷ 4 ∷ 6 ∷ []))
-    ∷ (tellings (after 6 2 lent (cutFeeder 9)) gives onlyTwo (1 ∷ 4 ∷ 6 ∷ []))
-    ∷ (tellings (after 6 2 lent (cutFeeder 10)) gives onlyTwo (1 ∷ 4 ∷ []))
-    ∷ (tellings (after 6 2 lent (cutFeeder 16)) gives onlyTwo (1 ∷ 4 ∷ []))
+    (standings (after 6 2 lent (cutFeeder 3)) gives onlyTwo (1 ∷ 2 ∷ 3 ∷ 4 ∷ 5 ∷ 6 ∷ []))
+    ∷ (standings (after 6 2 lent (cutFeeder 4)) gives onlyTwo (1 ∷ 3 ∷ 4 ∷ 5 ∷ 6 ∷ []))
+    ∷ (standings (after 6 2 lent (cutFeeder 5)) gives onlyTwo (1 ∷ 4 ∷ 5 ∷ 6 ∷ []))
+    ∷ (standings (after 6 2 lent (cutFeeder 6)) gives onlyTwo (1 ∷ 4 ∷ 5 ∷ 6 ∷ []))
+    ∷ (standings (after 6 2 lent (cutFeeder 7)) gives onlyTwo (1 ∷ 4 ∷ 6 ∷ []))
+    ∷ (standings (after 6 2 lent (cutFeeder 9)) gives onlyTwo (1 ∷ 4 ∷ 6 ∷ []))
+    ∷ (standings (after 6 2 lent (cutFeeder 10)) gives onlyTwo (1 ∷ 4 ∷ []))
+    ∷ (standings (after 6 2 lent (cutFeeder 16)) gives onlyTwo (1 ∷ 4 ∷ []))
     ∷ []
 
 -- Node i's own mark, and whether it has heard a yes.

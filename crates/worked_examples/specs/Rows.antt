@@ -1,7 +1,7 @@
 -- Rows of worked examples: what is asked of a definition that the contracts cite, and what is answered; and how rows are written.
 use Prim.Native.Nat.{ℕ}
 use mathlib.Core.Path.{_≡_}
-use mathlib.Core.Bool.{true, false}
+use mathlib.Core.Bool.{false}
 use mathlib.Core.List.{List, [], _∷_, foldr, map, reverse}
 use Rattle.refusal.specs.Causes.{numberOf}
 use Rattle.nodeset.specs.Sums.{sum}
@@ -44,36 +44,30 @@ refusalIn (reading.Heard bits returnBit) = 0
 refusalIn (reading.Refused cause) = numberOf cause
 
 -- What is told of a node: it is a member and holds this set, it is out with a cause of this number, or it is in another state.
-pub data Told : Type 0 where
-  holds : ℕ → Told
-  out : ℕ → Told
-  other : Told
+pub data Standing : Type 0 where
+  holds : ℕ → Standing
+  out : ℕ → Standing
+  other : Standing
 
-abbrev pub toldAs : State → ℕ → Told
-toldAs state.Member set = holds set
-toldAs state.Listening set = other
-toldAs state.Following set = other
-toldAs state.Knocking set = other
-toldAs (state.Out cause) set = out (causeNumber cause)
+abbrev pub standingAs : State → ℕ → Standing
+standingAs state.Member set = holds set
+standingAs state.Listening set = other
+standingAs state.Following set = other
+standingAs state.Knocking set = other
+standingAs (state.Out cause) set = out (causeNumber cause)
 
-abbrev pub told : Table → ℕ → Told
-told t i = toldAs (recordOf t i .state) (recordOf t i .set)
+abbrev pub standing : Table → ℕ → Standing
+standing t i = standingAs (recordOf t i .state) (recordOf t i .set)
 
 -- The same of each node.
-abbrev pub tellings : Table → List Told
-tellings t = map (λ (v : Node). toldAs (v .state) (v .set)) t
+abbrev pub standings : Table → List Standing
+standings t = map (λ (v : Node). standingAs (v .state) (v .set)) t
 
--- The lines of a plan (the first comes first), with a buffer of 64 bytes.
-abbrev pub ok : Call
-ok = slot false 0 64
-
-abbrev pub lost : Call
-lost = slot true 0 64
-
+-- A line of a plan, with a buffer of 64 bytes.
 abbrev pub miss : List ℕ → Call
 miss nodes = slot false (these nodes) 64
 
--- The table after a plan, over a table that was lent to set-up.
+-- The table after a plan (the first line comes first), over a table that was lent to set-up.
 abbrev pub after : ℕ → ℕ → Table → List Call → Table
 after n k lent plan = tableAfter (setUpOf (cableOf n k) lent .table) (reverse plan)
 

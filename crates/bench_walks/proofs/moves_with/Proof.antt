@@ -3,9 +3,10 @@ use borrow.Author.Needs.{needs}
 use mathlib.Core.Bool.{Bool}
 use mathlib.Core.Path.{_≡_, sym, ap, ap₂, _∙_}
 use Prim.Native.Nat.{ℕ}
+use Rattle.nodeset.specs.Sets.{withIf}
 use Rattle.nodeset.proofs.Tests.{told, chosen, otherwise}
 use Rattle.bench_walks.specs.declared.Moves.{Moves}
-use Rattle.bench_walks.specs.Orders.{withIf, movesWith}
+use Rattle.bench_walks.specs.Orders.{movesWith}
 use Rattle.bench_walks.proofs.moves_with.Statement.{statement}
 use Rattle.bench_walks.proofs.moves_with.Tie as tie
 

@@ -2,11 +2,11 @@
 -- Assumes nothing.
 use Prim.Native.Nat.{ℕ, _+_, _-_, _≤_}
 use mathlib.Core.Path.{_≡_, refl, ap, _∙_, subst⁻¹}
-use mathlib.Core.Bool.{cond}
+use mathlib.Core.Bool.{Bool}
 use native.Mathlib.Omega.{arith}
 use native.Mathlib.Numerals.{add-one}
 use borrow.Author.Needs.{needs}
-use Rattle.nodeset.specs.Sets.{has, with}
+use Rattle.nodeset.specs.Sets.{has, withIf}
 use Rattle.ring.specs.declared.Place.{Place}
 use Rattle.ring.specs.Ring.{memberIn}
 use Rattle.ring.proofs.Places.{After, at-start, one-on, next-sponsored}
@@ -29,12 +29,12 @@ abbrev μ-loop : tie.MeasureT-loop
 
 -- one bit more is one step of the definition
 one-more : (v : Node) (j bits x : ℕ) → bits ≡ markBits j v → x ≡ memberIn (sponsoredIn (v .own) (j + 1) v)
-    → cond (has (v .present) x) (with bits (j + 1)) bits ≡ markBits (j + 1) v
+    → withIf (has (v .present) x) bits (j + 1) ≡ markBits (j + 1) v
 unfolding markBits
 one-more v j bits x e f =
-    ap (λ (y : ℕ). cond (has (v .present) y) (with bits (j + 1)) bits) f
-    ∙ ap (λ (b : ℕ). cond (has (v .present) (memberIn (sponsoredIn (v .own) (j + 1) v))) (with b (j + 1)) b) e
-    ∙ subst⁻¹ (λ (m : ℕ). cond (has (v .present) (memberIn (sponsoredIn (v .own) m v))) (with (markBits j v) m) (markBits j v) ≡ markBits m v) (add-one j) refl
+    ap (λ (y : ℕ). withIf (has (v .present) y) bits (j + 1)) f
+    ∙ ap (λ (b : ℕ). withIf (has (v .present) (memberIn (sponsoredIn (v .own) (j + 1) v))) b (j + 1)) e
+    ∙ subst⁻¹ (λ (m : ℕ). withIf (has (v .present) (memberIn (sponsoredIn (v .own) m v))) (markBits j v) m ≡ markBits m v) (add-one j) refl
 
 sponsors-requires : tie.Need-sponsors-requires Inv-loop μ-loop
 sponsors-requires c κs = search needs
@@ -54,25 +54,29 @@ add-j c = omega arith
 nearest-requires : tie.Need-nearest-requires Inv-loop μ-loop
 nearest-requires c κs = search needs
 
-mark-bit-requires : tie.Need-mark-bit-requires Inv-loop μ-loop
-mark-bit-requires c κs = search needs
+has-requires : tie.Need-has-requires Inv-loop μ-loop
+has-requires c κs = search needs
+
+with-if-requires : tie.Need-with-if-requires Inv-loop μ-loop
+with-if-requires c κs = search needs
 
 loop-less : tie.Need-loop-less Inv-loop μ-loop
 loop-less c = omega arith
 
 loop-again : tie.Need-loop-again Inv-loop μ-loop
 loop-again c =
-    let v = c .before .before .before .before .before .before .before .args .v in
-    let l = c .before .before .before .loop in
-    let near = c .before .nearest .ensures in
-    let most = c .before .before .before .before .before .sponsors .ensures in
+    let v = c .before .before .before .before .before .before .before .before .args .v in
+    let l = c .before .before .before .before .loop in
+    let near = c .before .before .nearest in
+    let most = c .before .before .before .before .before .before .sponsors .ensures in
     record {
       below = omega arith;
       so-far =
-          c .mark-bit .ensures
-          ∙ one-more v (l .j) (l .bits) (c .before .nearest .result .node) (l .inv .so-far)
-          (ap (λ (p : Place). p .node) near ∙ next-sponsored (v .cable) (v .set) (v .own) (l .j) (l .place) (omega arith) (l .inv .stands));
-      stands = rw near (one-on (v .cable .n) (v .set) (v .own) (l .j) (l .place) (l .inv .stands));
+          c .with-if .ensures
+          ∙ ap (λ (b : Bool). withIf b (l .bits) (l .j + 1)) (c .before .has .ensures)
+          ∙ one-more v (l .j) (l .bits) (near .result .node) (l .inv .so-far)
+          (ap (λ (p : Place). p .node) (near .ensures) ∙ next-sponsored (v .cable) (v .set) (v .own) (l .j) (l .place) (omega arith) (l .inv .stands));
+      stands = rw (near .ensures) (one-on (v .cable .n) (v .set) (v .own) (l .j) (l .place) (l .inv .stands));
     }
 
 returns : tie.Need-returns Inv-loop μ-loop
@@ -92,7 +96,8 @@ mark-bits-spec =
     loop-holds
     add-j
     nearest-requires
-    mark-bit-requires
+    has-requires
+    with-if-requires
     loop-less
     loop-again
     returns)

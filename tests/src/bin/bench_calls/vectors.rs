@@ -58,26 +58,14 @@ const DEAF: Run = &[(MISS, &[]), (OK, &[(2, 3)]), (MISS, &[]), (MISS, &[(2, 6)])
 /// nodes 1, 2 and 3.
 const SILENCE: Run = &[(LOST, &[]), (LOST, &[(2, 3)]), (LOST, &[(4, 1)]), (LOST, &[(1, 1), (3, 1), (2, 6)])];
 
-/// n = 5, k = 2: node 2 leaves in slot 4 and follows after two windows of five slots.
-const RETURN_OF_FIVE: Run = &[
-    (OK, &[]),
-    (LOST, &[]),
-    (OK, &[]),
-    (OK, &[(2, 1)]),
-    (Call::Restart(2), &[]),
-    (OK, &[]),
-    (OK, &[]),
-    (OK, &[]),
-    (OK, &[]),
-    (OK, &[]),
-    (OK, &[]),
-    (OK, &[]),
-    (OK, &[]),
-    (OK, &[]),
-    (OK, &[(2, 2)]),
-    (OK, &[]),
-    (OK, &[]),
-];
+/// n = 5, k = 2: node 2 leaves in slot 4 and is restarted.
+const TWO_BACK: Run = &[(OK, &[]), (LOST, &[]), (OK, &[]), (OK, &[(2, 1)]), (Call::Restart(2), &[])];
+
+/// The last slot of the two windows, at whose end node 2 follows, and two slots more.
+const TWO_FOLLOWS: Run = &[(OK, &[(2, 2)]), (OK, &[]), (OK, &[])];
+
+/// The slots of two windows of five but the last.
+const NINE: Run = &[(OK, &[] as &[(u8, u8)]); 9];
 
 /// The message of slot 19 is lost. Node 1 decides its sender, node 4, in slot 21, and then node 2 joins.
 const JOINS_AS_ONE_LEAVES: Run =
@@ -141,8 +129,8 @@ pub fn pairs(count: &mut Count) -> Result<(), String> {
 pub fn groups(count: &mut Count) -> Result<(), String> {
     let runs: [(u8, &[Run]); 4] = [
         (4, &[RETURN, SILENCE]),
-        (5, &[RETURN_OF_FIVE, JOINS_AS_ONE_LEAVES]),
-        (5, &[RETURN_OF_FIVE, UNHEARD_AS_ONE_LEAVES]),
+        (5, &[TWO_BACK, NINE, TWO_FOLLOWS, JOINS_AS_ONE_LEAVES]),
+        (5, &[TWO_BACK, NINE, TWO_FOLLOWS, UNHEARD_AS_ONE_LEAVES]),
         (5, &[FOLLOWS_AS_ONE_LEAVES]),
     ];
     for (n, runs) in runs {
@@ -158,50 +146,36 @@ const TWO_LEAVE: Run = &[(LOST, &[]), (LOST, &[]), (OK, &[]), (OK, &[(1, 1), (2,
 /// n = 5, k = 4: in slot 5 node 5 decides 1 of five, 2 of four and 3 of three.
 const THREE_LEAVE: Run = &[(LOST, &[]), (LOST, &[]), (LOST, &[]), (OK, &[]), (OK, &[(1, 1), (2, 1), (3, 1)])];
 
-/// n = 5, k = 3: node 1 leaves in slot 4, and follows after two windows of five slots. The messages of 5 and 2 in
-/// slots 15 and 17 are lost, and in slot 16 it knocks. In slot 19 node 4 decides 5 of four and 2 of three, and is
-/// then the nearest before 1.
-const TWO_LEAVE_ONE_JOINS: Run = &[
-    (LOST, &[]),
-    (OK, &[]),
-    (OK, &[]),
-    (OK, &[(1, 1)]),
-    (Call::Restart(1), &[]),
-    (OK, &[]),
-    (OK, &[]),
-    (OK, &[]),
-    (OK, &[]),
-    (OK, &[]),
-    (OK, &[]),
-    (OK, &[]),
-    (OK, &[]),
-    (OK, &[]),
-    (OK, &[(1, 2)]),
-    (LOST, &[]),
-    (OK, &[(1, 3)]),
-    (LOST, &[]),
-    (OK, &[]),
-    (OK, &[(2, 1), (5, 1), (1, 4)]),
-];
+/// n = 5, k = 3: node 1 leaves in slot 4 and is restarted; it follows after two windows of five slots.
+const ONE_BACK: Run = &[(LOST, &[]), (OK, &[]), (OK, &[]), (OK, &[(1, 1)]), (Call::Restart(1), &[])];
+
+/// The messages of 5 and 2 in slots 15 and 17 are lost, and in slot 16 node 1 knocks. In slot 19 node 4 decides 5 of
+/// four and 2 of three, and is then the nearest before 1.
+const TWO_LEAVE_ONE_JOINS: Run =
+    &[(OK, &[(1, 2)]), (LOST, &[]), (OK, &[(1, 3)]), (LOST, &[]), (OK, &[]), (OK, &[(2, 1), (5, 1), (1, 4)])];
 
 /// Document 01's last example: who is switched off before slot 1 leaves no more in slot 4, and no state changes.
 const TWO_OFF: Run =
     &[(Call::Off(1), &[]), (Call::Off(2), &[]), (OK, &[]), (OK, &[]), (OK, &[]), (OK, &[]), (OK, &[])];
 
-/// n and k, a run, and the figures of nodes 1 to n after it: left, joined, slot of the last leaving.
-type Several = ((u8, u32), Run, &'static [[u64; 3]]);
+/// n and k, runs one after the other, and the figures of nodes 1 to n after them: left, joined, slot of the last leaving.
+type Several = ((u8, u32), &'static [Run], &'static [[u64; 3]]);
 
 const SEVERAL_LEAVE: &[Several] = &[
-    ((4, 3), TWO_LEAVE, &[[1, 0, 4], [1, 0, 4], [0, 0, 0], [0, 0, 0]]),
-    ((5, 4), THREE_LEAVE, &[[1, 0, 5], [1, 0, 5], [1, 0, 5], [0, 0, 0], [0, 0, 0]]),
-    ((5, 3), TWO_LEAVE_ONE_JOINS, &[[1, 1, 4], [1, 0, 19], [0, 0, 0], [0, 0, 0], [1, 0, 19]]),
-    ((4, 3), TWO_OFF, &[[1, 0, 0], [1, 0, 0], [0, 0, 0], [0, 0, 0]]),
+    ((4, 3), &[TWO_LEAVE], &[[1, 0, 4], [1, 0, 4], [0, 0, 0], [0, 0, 0]]),
+    ((5, 4), &[THREE_LEAVE], &[[1, 0, 5], [1, 0, 5], [1, 0, 5], [0, 0, 0], [0, 0, 0]]),
+    (
+        (5, 3),
+        &[ONE_BACK, NINE, TWO_LEAVE_ONE_JOINS],
+        &[[1, 1, 4], [1, 0, 19], [0, 0, 0], [0, 0, 0], [1, 0, 19]],
+    ),
+    ((4, 3), &[TWO_OFF], &[[1, 0, 0], [1, 0, 0], [0, 0, 0], [0, 0, 0]]),
 ];
 
 /// Request f: several leave in one slot, in one of them before a node joins.
 pub fn several_leave(count: &mut Count) -> Result<(), String> {
-    for &(ring, run, figures) in SEVERAL_LEAVE {
-        let (commands, held) = follow(count, ring, &[run])?;
+    for &(ring, runs, figures) in SEVERAL_LEAVE {
+        let (commands, held) = follow(count, ring, runs)?;
         let expected: Vec<Figures> =
             figures.iter().map(|&[left, joined, last]| Figures { left, joined, last }).collect();
         let ledger = &held.entries[..held.lent];

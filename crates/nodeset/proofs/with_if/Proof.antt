@@ -1,9 +1,9 @@
--- `node_steps::with_if` meets its contract: its test is that of the definition. Assumes nothing.
-use mathlib.Core.Path.{sym, _∙_}
+-- `nodeset::with_if` meets its contract. Assumes nothing.
 use borrow.Author.Needs.{needs}
+use mathlib.Core.Path.{sym, _∙_}
 use Rattle.nodeset.proofs.Tests.{chosen}
-use Rattle.node_steps.proofs.with_if.Statement.{statement}
-use Rattle.node_steps.proofs.with_if.Tie as tie
+use Rattle.nodeset.proofs.with_if.Statement.{statement}
+use Rattle.nodeset.proofs.with_if.Tie as tie
 
 with-requires : tie.Need-with-requires
 with-requires c κs = search needs
