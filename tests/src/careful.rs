@@ -22,7 +22,7 @@ const LOST: Call = Call::Slot { lost: true, missed: Set::EMPTY };
 
 impl<'a, R: Rules> Run<'a, R> {
     pub fn new(rules: &'a R, n: u32, k: u32, seed: u64, seldom: u64) -> Run<'a, R> {
-        let nodes = bench::set_up(n, k, n as usize).expect("n and k are in range");
+        let nodes = bench::set_up(n, k, 0, n as usize).expect("n and k are in range");
         Run { rules, nodes, demand: Demand::new(n, k), random: Random::new(seed), seldom }
     }
 

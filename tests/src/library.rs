@@ -1,9 +1,19 @@
 //! The library under test, as safe functions.
 
+use crate::model::message::Said;
+
 mod c {
     unsafe extern "C" {
-        pub unsafe fn message_read(k: u32, ptr: *const u8, len: usize) -> u64;
-        pub unsafe fn message_write(k: u32, acks: u32, ret: bool, ptr: *mut u8, len: usize) -> u64;
+        pub unsafe fn message_read(k: u32, m: u32, ptr: *const u8, len: usize) -> u64;
+        pub unsafe fn message_write(
+            k: u32,
+            m: u32,
+            acks: u32,
+            ret: bool,
+            jobs: u8,
+            ptr: *mut u8,
+            len: usize,
+        ) -> u64;
         pub safe fn ring_sender(n: u32, done: u64) -> u64;
         pub safe fn ring_before(n: u32, set: u32, x: u32, j: u32) -> u64;
         pub safe fn ring_sponsored(n: u32, k: u32, set: u32, x: u32, j: u32) -> u64;
@@ -32,27 +42,33 @@ unsafe extern "C" {
     pub safe fn ring_ks(n: u32, k: u32, c: u32) -> u32;
 }
 
-/// What is below bit 33 if that is the highest bit set. Any other answer is kept whole, so that one
+/// What is below this bit if that is the highest bit set. Any other answer is kept whole, so that one
 /// which is not exactly a refusal's number differs from each of them.
-fn value(answer: u64) -> Result<u64, u64> {
-    if answer >> 33 == 1 {
-        Ok(answer - (1 << 33))
+fn below(bit: u32, answer: u64) -> Result<u64, u64> {
+    if answer >> bit == 1 {
+        Ok(answer - (1 << bit))
     } else {
         Err(answer)
     }
 }
 
-/// The acknowledgements and the return bit, or the number of the refusal.
-pub fn read(k: u32, bytes: &[u8]) -> Result<(u32, bool), u64> {
+/// An answer that stands below bit 33.
+fn value(answer: u64) -> Result<u64, u64> {
+    below(33, answer)
+}
+
+/// What the message says, or the number of the refusal. The job byte stands below bit 41, the return bit is bit 32.
+pub fn read(k: u32, m: u32, bytes: &[u8]) -> Result<Said, u64> {
     // SAFETY: the pointer and the length are those of one slice, which is only read.
-    let answer = unsafe { c::message_read(k, bytes.as_ptr(), bytes.len()) };
-    value(answer).map(|v| (v as u32, v >> 32 == 1))
+    let answer = unsafe { c::message_read(k, m, bytes.as_ptr(), bytes.len()) };
+    below(41, answer).map(|v| Said { acks: v as u32, return_bit: v >> 32 & 1 == 1, jobs: (v >> 33) as u8 })
 }
 
 /// The number of bytes written, or the number of the refusal.
-pub fn write(k: u32, acks: u32, ret: bool, out: &mut [u8]) -> Result<u64, u64> {
+pub fn write(k: u32, m: u32, said: Said, out: &mut [u8]) -> Result<u64, u64> {
+    let Said { acks, return_bit, jobs } = said;
     // SAFETY: the pointer and the length are those of one slice, lent for the call alone.
-    let answer = unsafe { c::message_write(k, acks, ret, out.as_mut_ptr(), out.len()) };
+    let answer = unsafe { c::message_write(k, m, acks, return_bit, jobs, out.as_mut_ptr(), out.len()) };
     value(answer)
 }
 

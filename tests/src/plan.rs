@@ -11,7 +11,7 @@ pub struct Plan {
 
 impl Plan {
     pub fn new(n: u32, k: u32) -> Plan {
-        let nodes = bench::set_up(n, k, n as usize).expect("n and k are in range");
+        let nodes = bench::set_up(n, k, 0, n as usize).expect("n and k are in range");
         Plan { text: format!("{n} {k}\n").into_bytes(), nodes }
     }
 

@@ -1,10 +1,10 @@
-//! A record as the programs under test take and give it: 52 bytes, all numbers lowest byte first.
+//! A record as the programs under test take and give it: 56 bytes, all numbers lowest byte first.
 
 use crate::model::node::{Cause, ListeningData, Node, State};
 use crate::model::ring::Set;
 
 /// The bytes of a record.
-pub const RECORD: usize = 52;
+pub const RECORD: usize = 56;
 
 const CAUSES: [Cause; 4] = [Cause::Unconfirmed, Cause::NothingHeard, Cause::MissedReturn, Cause::SwitchedOff];
 
@@ -48,7 +48,8 @@ pub fn record_bytes(record: &Node) -> [u8; RECORD] {
     out.push(u8::from(return_seen));
     out.extend(last.0.to_le_bytes());
     out.push(u8::from(record.yes_heard));
-    out.try_into().expect("52 bytes")
+    out.extend(record.m.to_le_bytes());
+    out.try_into().expect("56 bytes")
 }
 
 /// Takes bytes apart; those not yet taken.
@@ -93,6 +94,7 @@ impl<'a> Reader<'a> {
                 last: Set(self.u32()),
             },
             yes_heard: self.u8() == 1,
+            m: self.u32(),
         }
     }
 }
@@ -104,9 +106,10 @@ fn shown_set(set: Set) -> String {
 pub fn shown_record(record: &Node) -> String {
     let data = &record.listening;
     format!(
-        "n {} k {} own {} slots {} {:?} set {} marks {} returning {} return heard {} yes heard {}; done {} heard {} shortest {} return seen {} last {}",
+        "n {} k {} m {} own {} slots {} {:?} set {} marks {} returning {} return heard {} yes heard {}; done {} heard {} shortest {} return seen {} last {}",
         record.n,
         record.k,
+        record.m,
         record.own,
         record.slots,
         record.state,

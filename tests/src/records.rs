@@ -95,17 +95,27 @@ fn listening_data(random: &mut Random, n: u32, k: u32, own: u32) -> ListeningDat
     ListeningData { done, heard, shortest, return_seen: random.below(4) == 0, last }
 }
 
+/// m, often 0 or 8.
+pub fn job_count(random: &mut Random) -> u32 {
+    match random.below(4) {
+        0 => 0,
+        1 => 8,
+        _ => random.below(9) as u32,
+    }
+}
+
 /// A sound record in this state, its slot count below the limit.
 pub fn sound(random: &mut Random, state: State) -> Node {
     let n = size(random);
     let k = random.within(2, u64::from(n) - 1) as u32;
+    let m = job_count(random);
     let own = random.within(1, u64::from(n)) as u32;
     let slots = slots(random, n, own);
-    sound_of(random, state, (n, k, own), slots)
+    sound_of(random, state, (n, k, m, own), slots)
 }
 
 /// A sound record of this node, with this slot count.
-pub fn sound_of(random: &mut Random, state: State, (n, k, own): (u32, u32, u32), slots: u64) -> Node {
+pub fn sound_of(random: &mut Random, state: State, (n, k, m, own): (u32, u32, u32, u32), slots: u64) -> Node {
     let others = Set::full(n).without(own);
     let set = match state {
         State::Member => some(random, others).with(own),
@@ -133,6 +143,7 @@ pub fn sound_of(random: &mut Random, state: State, (n, k, own): (u32, u32, u32),
             ListeningData::default()
         },
         yes_heard: state == State::Member && random.bit(),
+        m,
     }
 }
 
@@ -301,6 +312,7 @@ pub const BREAKS: &[Break] = &[
         Some(())
     } },
     Break { breaks: &["yes heard only in the member state"], states: NO_MEMBER, make: |_, r| { r.yes_heard = true; Some(()) } },
+    Break { breaks: &["m in range"], states: ANY, make: |random, r| { r.m = past(random, 8); Some(()) } },
 ];
 
 /// One of the listening data is neither zero nor no.
@@ -316,12 +328,12 @@ fn not_listening(random: &mut Random, r: &mut Node) -> Option<()> {
     Some(())
 }
 
-/// Makes a sound record one that is not, by yes heard outside the member state or by the listening data.
+/// Makes a sound record one that is not, by yes heard outside the member state, by the listening data or by m.
 pub fn spoil(random: &mut Random, node: &mut Node) {
-    if node.state != State::Member && random.bit() {
-        node.yes_heard = true;
-    } else {
-        node.listening.done = node.n;
+    match random.below(4) {
+        0 => node.m = past(random, 8),
+        1 | 2 if node.state != State::Member => node.yes_heard = true,
+        _ => node.listening.done = node.n,
     }
 }
 
@@ -337,7 +349,7 @@ pub fn disturb(random: &mut Random, node: &mut Node) {
         1 => 1 << random.below(32),
         _ => random.below(34) as u32,
     };
-    match random.below(15) {
+    match random.below(16) {
         0 => node.n = number,
         1 => node.k = number,
         2 => node.own = number,
@@ -352,6 +364,7 @@ pub fn disturb(random: &mut Random, node: &mut Node) {
         11 => node.listening.shortest = number,
         12 => node.listening.return_seen ^= true,
         13 => node.yes_heard ^= true,
+        14 => node.m = number,
         _ => node.listening.last.0 ^= number,
     }
 }

@@ -3,8 +3,8 @@
 use std::collections::BTreeMap;
 use std::process::ExitCode;
 
-/// The refusals' numbers reach to 13; 0 stands for an accepted call.
-const ANSWERS: usize = 14;
+/// The refusals' numbers reach to 14; 0 stands for an accepted call.
+const ANSWERS: usize = 15;
 
 /// What a case has compared so far.
 #[derive(Default)]

@@ -17,7 +17,7 @@ use Rattle.nodeset.proofs.Sums.{sum-none}
 use Rattle.nodeset.proofs.Counts.{distance-same}
 use Rattle.ring.specs.declared.Cable.{Cable}
 use Rattle.ring.specs.Ring.{sender}
-use Rattle.ring.proofs.Ranges.{ring-size}
+use Rattle.ring.proofs.Ranges.{ring-size, fitting}
 use Rattle.ring.proofs.Senders.{sender-period}
 use Rattle.node_record.specs.Soundness.{sound, limit}
 use Rattle.bench.specs.Table.{Table, recordOf, slotsOf, speaker}
@@ -254,7 +254,7 @@ module _ (G : Given) (premises : Premises (G .cable) (kept.start G) (G .all)) wh
 
 pub demand3 : Demand3
 unfolding EverySequence
-demand3 cable ring sponsors lent one-each cs p = record {
+demand3 cable fits lent one-each cs p = record {
   agree = after (Agree cable first) (λ x q. agrees (given x q) q);
   stays = after (Stays cable first) (λ x q. stays-on (given x q) q);
   leaves = at-each cable pos first placed (Leaves cable first) (λ c x q s. leaves-all (given (c ∷ x) q) q s c x refl) cs p;
@@ -265,13 +265,13 @@ demand3 cable ring sponsors lent one-each cs p = record {
     first = setUpOf cable lent .table
 
     pos : 1 ≤ cable .n
-    pos = omega (arith, ring-size (cable .n) ring)
+    pos = omega (arith, ring-size (cable .n) (fitting cable fits .ring))
 
     placed : Placed cable 0 first
-    placed = start-placed cable ring sponsors lent one-each
+    placed = start-placed cable fits lent one-each
 
     given : (x : List Call) → Premises cable first x → Given
-    given x q = record { cable = cable; ring = ring; sponsors = sponsors; lent = lent; one-each = one-each; all = x; few-failures = q .few-failures; one-outside = q .one-outside }
+    given x q = record { cable = cable; fits = fits; lent = lent; one-each = one-each; all = x; few-failures = q .few-failures; one-outside = q .one-outside }
 
     after : (P : List Call → Type 0) → ((x : List Call) → Premises cable first x → P x) → AfterEach P cs
     after P h = after-each cable pos first placed P h cs p

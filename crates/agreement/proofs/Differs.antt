@@ -15,7 +15,7 @@ use Rattle.nodeset.proofs.Tests.{by-cases, both, chosen, otherwise}
 use Rattle.nodeset.proofs.Sums.{sum-le, num-le}
 use Rattle.nodeset.proofs.Laws.{has-with-other}
 use Rattle.ring.specs.declared.Cable.{Cable}
-use Rattle.ring.specs.Ring.{ringSize, sponsorCount, sender}
+use Rattle.ring.specs.Ring.{sender, cableFits}
 use Rattle.message.specs.declared.Reading.{Reading}
 use Rattle.node_record.specs.declared.Node.{Node}
 use Rattle.node_record.specs.States.{isMember}
@@ -127,7 +127,7 @@ module _ (W : World) where
 
 -- ---- every sequence of calls
 
-module _ (cable : Cable) (ring : ringSize (cable .n) ≡ true) (sponsors : sponsorCount cable ≡ true) (lent : Table) (one-each : length lent ≡ cable .n) where
+module _ (cable : Cable) (fits : cableFits cable ≡ true) (lent : Table) (one-each : length lent ≡ cable .n) where
   open Cable cable using (n, k)
 
   abbrev start : Table
@@ -189,8 +189,7 @@ module _ (cable : Cable) (ring : ringSize (cable .n) ≡ true) (sponsors : spons
     abbrev given : (c : Call) (cs : List Call) → Beginning all (c ∷ cs) → Alike (c ∷ cs) → Given
     given c cs b al = record {
       cable = cable;
-      ring = ring;
-      sponsors = sponsors;
+      fits = fits;
       lent = lent;
       one-each = one-each;
       all = c ∷ cs;
@@ -256,7 +255,7 @@ module _ (cable : Cable) (ring : ringSize (cable .n) ≡ true) (sponsors : spons
 
   module _ (all : List Call) (p : PremisesOn cable (tableAfter start) all) where
     abbrev here : Given
-    here = record { cable = cable; ring = ring; sponsors = sponsors; lent = lent; one-each = one-each; all = all; few-failures = p .few-failures; one-outside = p .one-outside }
+    here = record { cable = cable; fits = fits; lent = lent; one-each = one-each; all = all; few-failures = p .few-failures; one-outside = p .one-outside }
 
     slot-now : (lost : Bool) (missed room : ℕ) (cs : List Call) → Beginning all (slot lost missed room ∷ cs) → AtEach (KeepsList cable start) (slot lost missed room ∷ cs) → AtEach (HearEverything cable start) (slot lost missed room ∷ cs)
         → isSlot (slot lost missed room) (tableAfter start cs) ≡ true → tableAfterSlot lost missed (tableAfter start cs) ≡ tableBy ruleBefore lost missed (tableAfter start cs)
@@ -304,12 +303,12 @@ module _ (cable : Cable) (ring : ringSize (cable .n) ≡ true) (sponsors : spons
 
 pub nothing-differs : NothingDiffers
 unfolding EverySequence
-nothing-differs cable ring sponsors lent one-each cs (p, kb) =
-    let r = alike cable ring sponsors lent one-each cs p cs whole (p .list-kept) (p .all-heard) kb in
-    (first-same cable ring sponsors lent one-each, after-calls cable ring sponsors lent one-each cs (r .0) (r .1))
+nothing-differs cable fits lent one-each cs (p, kb) =
+    let r = alike cable fits lent one-each cs p cs whole (p .list-kept) (p .all-heard) kb in
+    (first-same cable fits lent one-each, after-calls cable fits lent one-each cs (r .0) (r .1))
 
 pub nothing-differs-now : NothingDiffersNow
 unfolding EverySequence
-nothing-differs-now cable ring sponsors lent one-each cs p =
-    let r = alike-now cable ring sponsors lent one-each cs p cs whole (p .list-kept) (p .all-heard) in
-    (first-same cable ring sponsors lent one-each, after-calls cable ring sponsors lent one-each cs (r .0) (r .1))
+nothing-differs-now cable fits lent one-each cs p =
+    let r = alike-now cable fits lent one-each cs p cs whole (p .list-kept) (p .all-heard) in
+    (first-same cable fits lent one-each, after-calls cable fits lent one-each cs (r .0) (r .1))

@@ -13,8 +13,8 @@ use Rattle.nodeset.specs.Sets.{has}
 use Rattle.nodeset.proofs.Sums.{sum-none, sum-next, sum-split, sum-zero, sum-same}
 use Rattle.nodeset.proofs.Tests.{by-cases, chosen, otherwise, all}
 use Rattle.ring.specs.declared.Cable.{Cable}
-use Rattle.ring.specs.Ring.{ringSize, sponsorCount}
-use Rattle.ring.proofs.Ranges.{ring-size, sponsor-count}
+use Rattle.ring.specs.Ring.{cableFits}
+use Rattle.ring.proofs.Ranges.{ring-size, sponsor-count, fitting}
 use Rattle.node_record.specs.States.{isMember}
 use Rattle.bench.specs.Table.{Table, recordOf, nodeCount, slotsOf, speaker}
 use Rattle.bench.specs.Calls.{transmits}
@@ -145,12 +145,12 @@ pub same-count : (f : Entry → ℕ) (start : Table) (cs : List Call) (a m : ℕ
 same-count f start cs a m = sum-same (λ u. f (entryIn (past start cs u))) (λ u. f (entry start cs u)) a m (λ u _ _. ap f (sym (entry-is start cs u)))
 
 -- the world of a sequence of calls
-abbrev pub world : (cable : Cable) → ringSize (cable .n) ≡ true → sponsorCount cable ≡ true → (start : Table) → Placed cable 0 start → (cs : List Call)
+abbrev pub world : (cable : Cable) → cableFits cable ≡ true → (start : Table) → Placed cable 0 start → (cs : List Call)
     → ((a : ℕ) → sum (λ u. entry start cs u .failures) (suc a) (cable .n) ≤ cable .k - 1) → ((a : ℕ) → sum (λ u. num (entry start cs u .outside)) (suc a) (cable .n) ≤ 1) → World
-world cable ring sponsors start begins cs few-failures one-outside =
+world cable fits start begins cs few-failures one-outside =
     let n = cable .n in
-    let r = ring-size n ring in
-    let c = sponsor-count cable sponsors in
+    let r = ring-size n (fitting cable fits .ring) in
+    let c = sponsor-count cable (fitting cable fits .sponsors) in
     record {
       cable = cable;
       n-pos = omega arith;

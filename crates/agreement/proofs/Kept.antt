@@ -9,8 +9,8 @@ use Rattle.nodeset.specs.Sums.{sum, num}
 use Rattle.nodeset.specs.Sets.{full}
 use Rattle.nodeset.proofs.Tests.{by-cases, both, chosen}
 use Rattle.ring.specs.declared.Cable.{Cable}
-use Rattle.ring.specs.Ring.{ringSize, sponsorCount, nodeNumber}
-use Rattle.ring.proofs.Ranges.{ring-size}
+use Rattle.ring.specs.Ring.{nodeNumber, cableFits}
+use Rattle.ring.proofs.Ranges.{ring-size, fitting}
 use Rattle.node_record.specs.declared.Cause.the-variants.{SwitchedOff}
 use Rattle.node.specs.declared.Stepped.{Stepped}
 use Rattle.node.specs.Calls as node
@@ -31,8 +31,7 @@ use Rattle.agreement.proofs.Slots.{slot-keeps}
 -- calls from a common start with few failures and few transmissions from outside the list
 pub record Given : Type 0 where
   pub cable : Cable
-  pub ring : ringSize (cable .n) ≡ true
-  pub sponsors : sponsorCount cable ≡ true
+  pub fits : cableFits cable ≡ true
   pub lent : Table
   pub one-each : length lent ≡ cable .n
   pub all : List Call
@@ -40,7 +39,7 @@ pub record Given : Type 0 where
   pub one-outside : (a : ℕ) → sum (λ u. num (entry (setUpOf cable lent .table) all u .outside)) (suc a) (cable .n) ≤ 1
 
 module _ (G : Given) where
-  open Given G using (cable, ring, sponsors, lent, one-each, all, few-failures, one-outside)
+  open Given G using (cable, fits, lent, one-each, all, few-failures, one-outside)
   open Cable cable using (n)
 
   -- the common start
@@ -48,13 +47,13 @@ module _ (G : Given) where
   start = setUpOf cable lent .table
 
   pub begins : Placed cable 0 start
-  begins = start-placed cable ring sponsors lent one-each
+  begins = start-placed cable fits lent one-each
 
   abbrev pub W : World
-  W = world cable ring sponsors start begins all few-failures one-outside
+  W = world cable fits start begins all few-failures one-outside
 
   pub pos : 1 ≤ n
-  pos = omega (arith, ring-size n ring)
+  pos = omega (arith, ring-size n (fitting cable fits .ring))
 
   placed : (cs : List Call) → Placed cable (slotsOf (tableAfter start cs)) (tableAfter start cs)
   placed = placed-run cable pos start begins
@@ -75,7 +74,7 @@ module _ (G : Given) where
 
   first : Run []
   unfolding tableAfter
-  first = (full n, moved n _ (full n) _ _ (omega (arith, none-yet)) (start-table cable ring sponsors lent one-each) (start-keeps W lent one-each))
+  first = (full n, moved n _ (full n) _ _ (omega (arith, none-yet)) (start-table cable fits lent one-each) (start-keeps W lent one-each))
 
   -- a slot that is accepted
   pub slot-table : (lost : Bool) (missed room : ℕ) (cs : List Call) → isSlot (slot lost missed room) (tableAfter start cs) ≡ true → tableAfter start (slot lost missed room ∷ cs) ≡ tableAfterSlot lost missed (tableAfter start cs)

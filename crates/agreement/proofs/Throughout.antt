@@ -8,7 +8,7 @@ use lib.ListN.{length, getD}
 use Rattle.nodeset.specs.Sets.{distance}
 use Rattle.nodeset.proofs.Tests.{by-cases}
 use Rattle.ring.specs.declared.Cable.{Cable}
-use Rattle.ring.proofs.Ranges.{ring-size}
+use Rattle.ring.proofs.Ranges.{ring-size, fitting}
 use Rattle.node_record.specs.declared.Node.{Node}
 use Rattle.node_record.specs.States.{isMember}
 use Rattle.node.specs.declared.Answer.{Answer}
@@ -99,7 +99,7 @@ module _ (cable : Cable) (pos : 1 ≤ cable .n) (start : Table) (begins : Placed
 
 pub distance-throughout : NoDistanceTold
 unfolding EverySequence
-distance-throughout cable ring sponsors lent one-each cs p = record {
+distance-throughout cable fits lent one-each cs p = record {
   looks = (look-tells cable pos first placed [] (agree .0), also-each _ _ (λ c x h. look-tells cable pos first placed (c ∷ x) h) cs (agree .1));
   slots = also-each _ _ (λ c x h. slot-tells cable pos first placed c x h) cs (agree .1);
 }
@@ -108,10 +108,10 @@ distance-throughout cable ring sponsors lent one-each cs p = record {
     first = setUpOf cable lent .table
 
     placed : Placed cable 0 first
-    placed = start-placed cable ring sponsors lent one-each
+    placed = start-placed cable fits lent one-each
 
     pos : 1 ≤ cable .n
-    pos = omega (arith, ring-size (cable .n) ring)
+    pos = omega (arith, ring-size (cable .n) (fitting cable fits .ring))
 
     agree : AfterEach (Agree cable first) cs
-    agree = demand3 cable ring sponsors lent one-each cs p .agree
+    agree = demand3 cable fits lent one-each cs p .agree

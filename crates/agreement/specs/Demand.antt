@@ -10,7 +10,7 @@ use lib.ListN.{length}
 use Rattle.nodeset.specs.Sums.{sum, num}
 use Rattle.nodeset.specs.Sets.{has, size, distance}
 use Rattle.ring.specs.declared.Cable.{Cable}
-use Rattle.ring.specs.Ring.{ringSize, sponsorCount, sender}
+use Rattle.ring.specs.Ring.{sender, cableFits}
 use Rattle.node_record.specs.States.{isMember, isOut}
 use Rattle.bench.specs.Table.{Table, recordOf, slotsOf, speaker}
 use Rattle.bench.specs.Calls.{transmits, setUpOf}
@@ -167,7 +167,7 @@ module _ (cable : Cable) (start : Table) where
 -- what is assumed has what is claimed.
 unfoldable pub EverySequence : (assumed claimed : Cable → Table → List Call → Type 0) → Type 0
 EverySequence assumed claimed =
-    (cable : Cable) → ringSize (cable .n) ≡ true → sponsorCount cable ≡ true
+    (cable : Cable) → cableFits cable ≡ true
     → (lent : Table) → length lent ≡ cable .n
     → (cs : List Call) → assumed cable (setUpOf cable lent .table) cs → claimed cable (setUpOf cable lent .table) cs
 

@@ -12,7 +12,7 @@ use Rattle.bench.specs.Kept.{slotWith, offWith, OnlyRefuses}
 
 pub only-refuses : OnlyRefuses
 unfolding slotWith offWith slotOf offOf
-only-refuses (command.SetUp n k) room ledger t = inl refl
+only-refuses (command.SetUp cable) room ledger t = inl refl
 only-refuses (command.Off a) room ledger t =
     by-cases (tableSound t)
     (λ e. by-cases (nodeNumber (nodeCount t) a)

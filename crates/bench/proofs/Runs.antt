@@ -13,7 +13,8 @@ use Rattle.nodeset.specs.Sums.{num}
 use Rattle.nodeset.specs.Sets.{has, within}
 use Rattle.nodeset.proofs.Tests.{by-cases, both, all}
 use Rattle.ring.specs.declared.Cable.{Cable}
-use Rattle.ring.specs.Ring.{ringSize, sponsorCount, nodeNumber}
+use Rattle.ring.specs.Ring.{nodeNumber, cableFits}
+use Rattle.ring.proofs.Ranges.{fitting}
 use Rattle.message.specs.declared.Reading.{Reading}
 use Rattle.node_record.specs.declared.Node.{Node}
 use Rattle.node_record.specs.Soundness.{limit, sound}
@@ -118,9 +119,9 @@ module _ (cable : Cable) (slots : ℕ) (t : Table) (pos : 1 ≤ cable .n) (P : P
 
 -- ---- the common start
 
-module _ (cable : Cable) (ring : ringSize (cable .n) ≡ true) (sponsors : sponsorCount cable ≡ true) (lent : Table) (one-each : length lent ≡ cable .n) where
+module _ (cable : Cable) (fits : cableFits cable ≡ true) (lent : Table) (one-each : length lent ≡ cable .n) where
   pub start-table : setUpOf cable lent .table ≡ startTable cable lent
-  start-table = start-is cable lent ring sponsors one-each
+  start-table = start-is cable lent (fitting cable fits) one-each
 
   pub start-record : (i : ℕ) → 1 ≤ i → i ≤ cable .n → recordOf (setUpOf cable lent .table) i ≡ starting cable i
   start-record i h l = ap (λ (t : Table). recordOf t i) start-table ∙ record-each (λ i v. starting cable i) lent i h (omega (arith, one-each))
@@ -129,7 +130,7 @@ module _ (cable : Cable) (ring : ringSize (cable .n) ≡ true) (sponsors : spons
   start-placed = record {
     length-is = ap length start-table ∙ length-each (λ i v. starting cable i) lent ∙ one-each;
     at = λ i h l. rw (start-record i h l) (record {
-      is-sound = starting-sound cable i ring sponsors (all (le-leb 1 i h) (le-leb i (cable .n) l));
+      is-sound = starting-sound cable i (fitting cable fits) (all (le-leb 1 i h) (le-leb i (cable .n) l));
       cable-is = refl;
       slots-is = refl;
       own-is = refl;

@@ -40,7 +40,7 @@ offWith a ledger t =
 -- ---- each call
 
 abbrev pub calledWith : Command → ℕ → Ledger → Table → Called
-calledWith (command.SetUp n k) room ledger t = calledOf (command.SetUp n k) room t
+calledWith (command.SetUp cable) room ledger t = calledOf (command.SetUp cable) room t
 calledWith (command.Off a) room ledger t = offWith a ledger t
 calledWith (command.Restart a) room ledger t = calledOf (command.Restart a) room t
 calledWith (command.Slot lost missed) room ledger t = slotWith lost missed room ledger t
@@ -55,7 +55,7 @@ OnlyRefuses =
 
 -- A leaving in a slot has that slot's number; "`off` counts as a leaving if the node was a member, dated with the slots done so far".
 abbrev pub dateOf : Command → Table → ℕ
-dateOf (command.SetUp n k) t = 0
+dateOf (command.SetUp cable) t = 0
 dateOf (command.Off a) t = slotsOf t
 dateOf (command.Restart a) t = 0
 dateOf (command.Slot lost missed) t = slotsOf t + 1
@@ -67,7 +67,7 @@ enteredIf answer.Done after ledger = after
 enteredIf (answer.Refused cause) after ledger = ledger
 
 abbrev pub ledgerWith : Command → Table → Called → Ledger → Ledger
-ledgerWith (command.SetUp n k) before called ledger = ledger
+ledgerWith (command.SetUp cable) before called ledger = ledger
 ledgerWith (command.Off a) before called ledger = enteredIf (called .answer) (ledgerAfter (dateOf (command.Off a) before) before (called .table) ledger) ledger
 ledgerWith (command.Restart a) before called ledger = ledger
 ledgerWith (command.Slot lost missed) before called ledger =

@@ -2,7 +2,6 @@
 use Prim.Native.Nat.{ℕ}
 use mathlib.Core.Bool.{Bool}
 use mathlib.Core.List.{List}
-use Rattle.ring.specs.Ring.{cableOf}
 use Rattle.node.specs.declared.Answer.{Answer}
 use Rattle.node.specs.declared.Answer.the-variants as answer
 use Rattle.bench.specs.declared.Command.{Command}
@@ -16,7 +15,7 @@ use Rattle.bench.specs.Pairs.{pairsTold, slotBytes}
 
 -- The call that a command asks for, where so many bytes are lent for the pairs.
 abbrev pub calledOf : Command → ℕ → Table → Called
-calledOf (command.SetUp n k) room t = setUpOf (cableOf n k) t
+calledOf (command.SetUp cable) room t = setUpOf cable t
 calledOf (command.Off a) room t = offOf a t
 calledOf (command.Restart a) room t = restartOf a t
 calledOf (command.Slot lost missed) room t = slotOf lost missed room t
@@ -38,7 +37,7 @@ quietOutcome (answer.Refused cause) = outcome.Refused cause
 
 -- A look leaves the table as it is: the slots done, the next slot's sender and fate, the list and the distance are all told of it.
 abbrev pub outcomeOf : Command → Table → Called → Outcome
-outcomeOf (command.SetUp n k) before called = quietOutcome (called .answer)
+outcomeOf (command.SetUp cable) before called = quietOutcome (called .answer)
 outcomeOf (command.Off a) before called = quietOutcome (called .answer)
 outcomeOf (command.Restart a) before called = quietOutcome (called .answer)
 outcomeOf (command.Slot lost missed) before called = slotOutcome lost before (called .table) (called .answer)
@@ -48,7 +47,7 @@ outcomeOf (command.Look lost) before called = slotOutcome lost before (called .t
 
 -- Pairs are told of slots alone.
 abbrev pub pairsOf : Command → Table → Called → ℕ
-pairsOf (command.SetUp n k) before called = 0
+pairsOf (command.SetUp cable) before called = 0
 pairsOf (command.Off a) before called = 0
 pairsOf (command.Restart a) before called = 0
 pairsOf (command.Slot lost missed) before called = pairsTold before called
@@ -70,7 +69,7 @@ endedOf c room t = endedBy c t (calledOf c room t)
 
 -- The lent bytes after a call that came to this: no call but a slot changes one.
 abbrev pub bytesBy : Command → Table → Called → List ℕ → List ℕ
-bytesBy (command.SetUp n k) t called out = out
+bytesBy (command.SetUp cable) t called out = out
 bytesBy (command.Off a) t called out = out
 bytesBy (command.Restart a) t called out = out
 bytesBy (command.Slot lost missed) t called out = slotBytes t called out

@@ -1,4 +1,4 @@
--- The table (document 01, "The bench"): "a lent slice of node records, one per node in number order, all with the same n, k and slot count".
+-- The table (document 01, "The bench"): "a lent slice of node records, one per node in number order, all with the same n, k and slot count"; a kept choice of set-up is "the same throughout the table" (document 02, h).
 use Prim.Native.Nat.{ℕ, suc, _+_, _-_}
 use mathlib.Core.Bool.{Bool, true, false, _&&_}
 use mathlib.Core.List.{List, [], _∷_}

@@ -2,12 +2,13 @@
 // call does is specs/Calls, specs/Pairs and specs/Outcomes, and sequences of calls are specs/Runs. The
 // code is in `bench_calls`.
 use refusal::Refusal;
+use ring::Cable;
 
-// A call over the table: set-up with n and k; off and restart of a node; a slot, whose message is
+// A call over the table: set-up with the cable's choices; off and restart of a node; a slot, whose message is
 // lost or not, and which these nodes miss; a look, which changes nothing and tells of the next slot's
 // message, lost or not.
 pub enum Command {
-    SetUp(u32, u32),
+    SetUp(Cable),
     Off(u32),
     Restart(u32),
     Slot(bool, u32),

@@ -8,11 +8,12 @@ use lib.Dec.{eqb, leb, ltb}
 use lib.ListN.{length, take}
 use lib.Seq.{take-length}
 use Rattle.refusal.specs.declared.Refusal.{Refusal}
-use Rattle.refusal.specs.declared.Refusal.the-variants.{RingSize, SponsorCount, NodeNumber, Unsound, SlotLimit, OutputShort, NotOut, LedgerUnfit}
+use Rattle.refusal.specs.declared.Refusal.the-variants.{RingSize, SponsorCount, NodeNumber, Unsound, SlotLimit, OutputShort, NotOut, LedgerUnfit, JobCount}
 use Rattle.nodeset.specs.Sets.{has, within}
 use Rattle.nodeset.proofs.Tests.{by-cases}
-use Rattle.ring.specs.Ring.{cableOf, ringSize, sponsorCount, nodeNumber}
+use Rattle.ring.specs.Ring.{ringSize, sponsorCount, jobCount, nodeNumber}
 use Rattle.ring.proofs.Ranges.{ring-size}
+use Rattle.ring.specs.declared.Cable.{Cable}
 use Rattle.node_record.specs.Soundness.{limit}
 use Rattle.bench.specs.declared.Command.{Command}
 use Rattle.bench.specs.declared.Command.the-variants as command
@@ -49,7 +50,7 @@ fits-is t ledger ok = let s = said t ok in ap₂ (λ (n slots : ℕ). ledgerFits
 -- a table that is not sound is refused before the ledger is looked at
 fit-called : (c : Command) (room : ℕ) (t : Table) (ledger : Ledger) → calledFit c room (fitting t ledger) t ≡ calledWith c room ledger t
 unfolding slotWith offWith
-fit-called (command.SetUp n k) room t ledger = refl
+fit-called (command.SetUp cable) room t ledger = refl
 fit-called (command.Off a) room t ledger = by-cases (tableSound t) (λ e. rw (e, fits-is t ledger e) refl) (λ e. rw e refl)
 fit-called (command.Restart a) room t ledger = refl
 fit-called (command.Slot lost missed) room t ledger = by-cases (tableSound t) (λ e. rw (e, fits-is t ledger e) refl) (λ e. rw e refl)
@@ -70,18 +71,19 @@ Entered c t ledger o = enteredBy o (surveyOf t .slots) (notesOf o t) ledger ≡ 
 
 entered-if : (c : Command) (t : Table) (ledger : Ledger) (b : Bool) (cause : Refusal) (o : Order) → (b ≡ true → Entered c t ledger o) → Entered c t ledger (ifGood b cause o)
 entered-if c t ledger true cause o h = h refl
-entered-if (command.SetUp n k) t ledger false cause o h = refl
+entered-if (command.SetUp cable) t ledger false cause o h = refl
 entered-if (command.Off a) t ledger false cause o h = refl
 entered-if (command.Restart a) t ledger false cause o h = refl
 entered-if (command.Slot lost missed) t ledger false cause o h = refl
 entered-if (command.Look lost) t ledger false cause o h = refl
 
-set-up-entered : (n k room : ℕ) (t : Table) (ledger : Ledger) → Entered (command.SetUp n k) t ledger (orderFor (command.SetUp n k) room (fitting t ledger) t)
+set-up-entered : (cable : Cable) (room : ℕ) (t : Table) (ledger : Ledger) → Entered (command.SetUp cable) t ledger (orderFor (command.SetUp cable) room (fitting t ledger) t)
 unfolding orderFor
-set-up-entered n k room t ledger =
-    entered-if (command.SetUp n k) t ledger (ringSize n) RingSize _ (λ _.
-    entered-if (command.SetUp n k) t ledger (sponsorCount (cableOf n k)) SponsorCount _ (λ _.
-    entered-if (command.SetUp n k) t ledger (eqb (length t) n) Unsound (order.Start n k) (λ _. refl)))
+set-up-entered cable room t ledger =
+    entered-if (command.SetUp cable) t ledger (ringSize (cable .n)) RingSize _ (λ _.
+    entered-if (command.SetUp cable) t ledger (sponsorCount cable) SponsorCount _ (λ _.
+    entered-if (command.SetUp cable) t ledger (jobCount (cable .m)) JobCount _ (λ _.
+    entered-if (command.SetUp cable) t ledger (eqb (length t) (cable .n)) Unsound (order.Start cable) (λ _. refl))))
 
 off-entered : (a room : ℕ) (t : Table) (ledger : Ledger) → Entered (command.Off a) t ledger (orderFor (command.Off a) room (fitting t ledger) t)
 unfolding orderFor
@@ -121,7 +123,7 @@ look-entered lost room t ledger =
     entered-if (command.Look lost) t ledger (fineTable (surveyOf t) (length t)) Unsound (order.Look (surveyOf t .slots) (surveyOf t .sender) (fateBy lost (surveyOf t .speaker))) (λ _. refl)
 
 entered-told : (c : Command) (room : ℕ) (t : Table) (ledger : Ledger) → Entered c t ledger (orderFor c room (fitting t ledger) t)
-entered-told (command.SetUp n k) room t ledger = set-up-entered n k room t ledger
+entered-told (command.SetUp cable) room t ledger = set-up-entered cable room t ledger
 entered-told (command.Off a) room t ledger = off-entered a room t ledger
 entered-told (command.Restart a) room t ledger = restart-entered a room t ledger
 entered-told (command.Slot lost missed) room t ledger = slot-entered lost missed room t ledger

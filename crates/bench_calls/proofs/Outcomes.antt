@@ -10,13 +10,14 @@ use lib.ListN.{length, take}
 use lib.Seq.{take-length}
 use borrow.Author.Tests.{eqb-true, ltb-true}
 use Rattle.refusal.specs.declared.Refusal.{Refusal}
-use Rattle.refusal.specs.declared.Refusal.the-variants.{RingSize, SponsorCount, NodeNumber, Unsound, SlotLimit, OutputShort, NotOut, LedgerUnfit}
+use Rattle.refusal.specs.declared.Refusal.the-variants.{RingSize, SponsorCount, NodeNumber, Unsound, SlotLimit, OutputShort, NotOut, LedgerUnfit, JobCount}
 use Rattle.nodeset.specs.Sets.{has, within, distance}
 use Rattle.nodeset.specs.Sums.{num}
 use Rattle.nodeset.proofs.Tests.{by-cases, both, all, chosen, otherwise}
 use Rattle.nodeset.proofs.Counts.{distance-same}
-use Rattle.ring.specs.Ring.{cableOf, ringSize, sponsorCount, nodeNumber}
+use Rattle.ring.specs.Ring.{ringSize, sponsorCount, jobCount, nodeNumber}
 use Rattle.ring.proofs.Ranges.{ring-size}
+use Rattle.ring.specs.declared.Cable.{Cable}
 use Rattle.node_record.specs.declared.Node.{Node}
 use Rattle.node_record.specs.States.{isMember}
 use Rattle.node_record.specs.Soundness.{limit}
@@ -238,9 +239,13 @@ quiet-if : (b : Bool) (cause : Refusal) (o : Order) → Quiet o → Quiet (ifGoo
 quiet-if true cause o h list apart = h list apart
 quiet-if false cause o h list apart = refl
 
-set-up-quiet : (n k room : ℕ) (fits : Bool) (t : Table) → Quiet (orderFor (command.SetUp n k) room fits t)
+set-up-quiet : (cable : Cable) (room : ℕ) (fits : Bool) (t : Table) → Quiet (orderFor (command.SetUp cable) room fits t)
 unfolding orderFor
-set-up-quiet n k room fits t = quiet-if (ringSize n) RingSize _ (quiet-if (sponsorCount (cableOf n k)) SponsorCount _ (quiet-if (eqb (length t) n) Unsound (order.Start n k) (λ list apart. refl)))
+set-up-quiet cable room fits t =
+    quiet-if (ringSize (cable .n)) RingSize _
+    (quiet-if (sponsorCount cable) SponsorCount _
+    (quiet-if (jobCount (cable .m)) JobCount _
+    (quiet-if (eqb (length t) (cable .n)) Unsound (order.Start cable) (λ list apart. refl))))
 
 off-quiet : (a room : ℕ) (fits : Bool) (t : Table) → Quiet (orderFor (command.Off a) room fits t)
 unfolding orderFor
@@ -255,7 +260,7 @@ restart-quiet a room fits t =
 -- ---- each call
 
 outcome-told : (c : Command) (room : ℕ) (fits : Bool) (t : Table) → let o = orderFor c room fits t in outcomeBy o (notesOf o t .lists .list) (apartBy o t) ≡ outcomeOf c t (calledBy o t)
-outcome-told (command.SetUp n k) room fits t = set-up-quiet n k room fits t _ _
+outcome-told (command.SetUp cable) room fits t = set-up-quiet cable room fits t _ _
 outcome-told (command.Off a) room fits t = off-quiet a room fits t _ _
 outcome-told (command.Restart a) room fits t = restart-quiet a room fits t _ _
 outcome-told (command.Slot lost missed) room fits t = slot-ends lost missed room fits t

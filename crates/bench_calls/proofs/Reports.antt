@@ -11,11 +11,11 @@ use lib.ListN.{length, getD, set, take, drop, length-set, length-replicate, leng
 use lib.Seq.{getD-take, take-length}
 use borrow.Author.Tests.{leb-true, le-leb, lt-ltb}
 use Rattle.refusal.specs.declared.Refusal.{Refusal}
-use Rattle.refusal.specs.declared.Refusal.the-variants.{RingSize, SponsorCount, NodeNumber, Unsound, SlotLimit, OutputShort, NotOut, LedgerUnfit}
+use Rattle.refusal.specs.declared.Refusal.the-variants.{RingSize, SponsorCount, NodeNumber, Unsound, SlotLimit, OutputShort, NotOut, LedgerUnfit, JobCount}
 use Rattle.nodeset.specs.Sets.{has, within}
 use Rattle.nodeset.proofs.Tests.{by-cases, all, chosen}
 use Rattle.ring.specs.declared.Cable.{Cable}
-use Rattle.ring.specs.Ring.{cableOf, ringSize, sponsorCount, nodeNumber}
+use Rattle.ring.specs.Ring.{ringSize, sponsorCount, jobCount, nodeNumber}
 use Rattle.ring.proofs.Ranges.{ring-size}
 use Rattle.node_record.specs.declared.Node.{Node}
 use Rattle.node_record.specs.declared.State.{State}
@@ -390,9 +390,13 @@ silent-written c fits t out h =
     let m = notesOf (orderFor c (length out) fits t) t in
     ap (λ (k : ℕ). puts (ordered (m .pairs) .bytes) (bytesTold k (length out)) out) (h m) ∙ none-written (ordered (m .pairs) .bytes) out
 
-set-up-silent : (n k room : ℕ) (fits : Bool) (t : Table) → Silent (orderFor (command.SetUp n k) room fits t)
+set-up-silent : (cable : Cable) (room : ℕ) (fits : Bool) (t : Table) → Silent (orderFor (command.SetUp cable) room fits t)
 unfolding orderFor
-set-up-silent n k room fits t = silent-if (ringSize n) RingSize _ (silent-if (sponsorCount (cableOf n k)) SponsorCount _ (silent-if (eqb (length t) n) Unsound (order.Start n k) (λ m. refl)))
+set-up-silent cable room fits t =
+    silent-if (ringSize (cable .n)) RingSize _
+    (silent-if (sponsorCount cable) SponsorCount _
+    (silent-if (jobCount (cable .m)) JobCount _
+    (silent-if (eqb (length t) (cable .n)) Unsound (order.Start cable) (λ m. refl))))
 
 off-silent : (a room : ℕ) (fits : Bool) (t : Table) → Silent (orderFor (command.Off a) room fits t)
 unfolding orderFor
@@ -411,14 +415,14 @@ look-silent lost room fits t = silent-if (fineTable (surveyOf t) (length t)) Uns
 -- ---- each call
 
 pub pairs-told : (c : Command) (fits : Bool) (t : Table) (out : List ℕ) → let o = orderFor c (length out) fits t in pairsBy o (notesOf o t) ≡ pairsOf c t (calledBy o t)
-pairs-told (command.SetUp n k) fits t out = set-up-silent n k (length out) fits t _
+pairs-told (command.SetUp cable) fits t out = set-up-silent cable (length out) fits t _
 pairs-told (command.Off a) fits t out = off-silent a (length out) fits t _
 pairs-told (command.Restart a) fits t out = restart-silent a (length out) fits t _
 pairs-told (command.Slot lost missed) fits t out = slot-told lost missed fits t out .0
 pairs-told (command.Look lost) fits t out = look-silent lost (length out) fits t _
 
 pub bytes-told : (c : Command) (fits : Bool) (t : Table) (out : List ℕ) → let o = orderFor c (length out) fits t in writtenBy o (notesOf o t) out ≡ bytesBy c t (calledFit c (length out) fits t) out
-bytes-told (command.SetUp n k) fits t out = silent-written (command.SetUp n k) fits t out (set-up-silent n k (length out) fits t)
+bytes-told (command.SetUp cable) fits t out = silent-written (command.SetUp cable) fits t out (set-up-silent cable (length out) fits t)
 bytes-told (command.Off a) fits t out = silent-written (command.Off a) fits t out (off-silent a (length out) fits t)
 bytes-told (command.Restart a) fits t out = silent-written (command.Restart a) fits t out (restart-silent a (length out) fits t)
 bytes-told (command.Slot lost missed) fits t out =

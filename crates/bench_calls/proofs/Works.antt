@@ -11,12 +11,12 @@ use lib.Dec.{eqb, leb, ltb}
 use lib.ListN.{length, getD}
 use borrow.Author.Tests.{eqb-true, ltb-true, lt-ltb}
 use Rattle.refusal.specs.declared.Refusal.{Refusal}
-use Rattle.refusal.specs.declared.Refusal.the-variants.{SponsorCount, Unsound}
+use Rattle.refusal.specs.declared.Refusal.the-variants.{SponsorCount, Unsound, JobCount}
 use Rattle.refusal.specs.Causes.{cause}
 use Rattle.nodeset.specs.Sets.{has, within}
 use Rattle.nodeset.proofs.Tests.{by-cases, chosen}
 use Rattle.ring.specs.declared.Cable.{Cable}
-use Rattle.ring.specs.Ring.{cableOf, ringSize, sponsorCount, nodeNumber, sender}
+use Rattle.ring.specs.Ring.{ringSize, sponsorCount, jobCount, nodeNumber, sender}
 use Rattle.ring.proofs.Ranges.{ring-size}
 use Rattle.ring.proofs.Senders.{sender-range}
 use Rattle.message.specs.declared.Reading.{Reading}
@@ -91,7 +91,7 @@ by-place f g h i (v ∷ t) l = ap₂ {C = List Node} (λ w r. w ∷ r) (h i v (o
 
 -- the call that a command asks for, where a ledger fits or not
 abbrev pub calledFit : Command → ℕ → Bool → Table → Called
-calledFit (command.SetUp n k) room fits t = calledOf (command.SetUp n k) room t
+calledFit (command.SetUp cable) room fits t = calledOf (command.SetUp cable) room t
 calledFit (command.Off a) room fits t = ifPassed (tableSound t) 4 t (ifPassed (nodeNumber (nodeCount t) a) 3 t (ifPassed fits 13 t (offOf a t)))
 calledFit (command.Restart a) room fits t = calledOf (command.Restart a) room t
 calledFit (command.Slot lost missed) room fits t = ifPassed (tableSound t) 4 t (ifPassed (within (nodeCount t) missed) 3 t (ifPassed fits 13 t (slotOf lost missed room t)))
@@ -155,20 +155,27 @@ restart-called a room fits t =
         by-record (recordOf t 1 .cable) (slotsOf t) (carried (order.Restart a)) (λ i v. cond (eqb i a) (node.restartOf v .node) v) t rows
         (λ j v u p is. ap (λ (i : ℕ). cond (eqb i a) (fresh v) v) (p .own) ∙ one j v (p .good) out is)
 
-set-up-called : (n k room : ℕ) (fits : Bool) (t : Table) → calledBy (orderFor (command.SetUp n k) room fits t) t ≡ setUpOf (cableOf n k) t
+set-up-called : (cable : Cable) (room : ℕ) (fits : Bool) (t : Table) → calledBy (orderFor (command.SetUp cable) room fits t) t ≡ setUpOf cable t
 unfolding orderFor setUpOf carried
-set-up-called n k room fits t =
-    passes {b = ringSize n} 1 (ifGood (sponsorCount (cableOf n k)) SponsorCount (ifGood (eqb (length t) n) Unsound (order.Start n k))) t _ refl (λ ring.
-    passes {b = sponsorCount (cableOf n k)} 2 (ifGood (eqb (length t) n) Unsound (order.Start n k)) t _ refl (λ sponsors.
-    passes {b = eqb (length t) n} 4 (order.Start n k) t _ refl (λ size. ap done (tables ring size))))
+set-up-called cable room fits t =
+    passes {b = ringSize n} 1 (ifGood (sponsorCount cable) SponsorCount (ifGood (jobCount (cable .m)) JobCount last)) t _ refl (λ ring.
+    passes {b = sponsorCount cable} 2 (ifGood (jobCount (cable .m)) JobCount last) t _ refl (λ sponsors.
+    passes {b = jobCount (cable .m)} 14 last t _ refl (λ jobs.
+    passes {b = eqb (length t) n} 4 (order.Start cable) t _ refl (λ size. ap done (tables ring size)))))
   where
-    at-most : ringSize n ≡ true → eqb (length t) n ≡ true → 0 + length t ≤ 32
-    at-most ring size = let r = ring-size n ring .1 in let e = eqb-true (length t) n size in omega (arith, r, e)
+    n : ℕ
+    n = cable .n
 
-    tables : ringSize n ≡ true → eqb (length t) n ≡ true → eachFrom (carried (order.Start n k)) 0 t ≡ startTable (cableOf n k) t
+    last : Order
+    last = ifGood (eqb (length t) (cable .n)) Unsound (order.Start cable)
+
+    at-most : ringSize (cable .n) ≡ true → eqb (length t) (cable .n) ≡ true → 0 + length t ≤ 32
+    at-most ring size = let r = ring-size (cable .n) ring .1 in let e = eqb-true (length t) (cable .n) size in omega (arith, r, e)
+
+    tables : ringSize (cable .n) ≡ true → eqb (length t) (cable .n) ≡ true → eachFrom (carried (order.Start cable)) 0 t ≡ startTable cable t
     tables ring size =
-        by-place (carried (order.Start n k)) (λ i v. starting (cableOf n k) i)
-        (λ j v l. ap (starting (cableOf n k)) (chosen (j + 1) 0 (lt-ltb j 32 l) ∙ add-one j)) 0 t (at-most ring size)
+        by-place (carried (order.Start cable)) (λ i v. starting cable i)
+        (λ j v l. ap (starting cable) (chosen (j + 1) 0 (lt-ltb j 32 l) ∙ add-one j)) 0 t (at-most ring size)
 
 -- what a node hears of the speaker
 hears : (lost : Bool) (missed : ℕ) (t : Table) (i : ℕ) (said′ : Node) → said′ ≡ recordOf t (speaker t) → cond (has missed i) unheard (spokenBy lost said′) ≡ heardBy lost missed t i
@@ -252,7 +259,7 @@ look-called lost room fits t =
 
 -- the call that a command asks for
 pub called-by : (c : Command) (room : ℕ) (fits : Bool) (t : Table) → calledBy (orderFor c room fits t) t ≡ calledFit c room fits t
-called-by (command.SetUp n k) room fits t = set-up-called n k room fits t
+called-by (command.SetUp cable) room fits t = set-up-called cable room fits t
 called-by (command.Off a) room fits t = off-called a room fits t
 called-by (command.Restart a) room fits t = restart-called a room fits t
 called-by (command.Slot lost missed) room fits t = slot-called lost missed room fits t
@@ -261,7 +268,7 @@ called-by (command.Look lost) room fits t = look-called lost room fits t
 -- where a ledger fits, the call is the one without it
 pub called-fitting : (c : Command) (room : ℕ) (t : Table) → calledFit c room true t ≡ calledOf c room t
 unfolding slotOf offOf
-called-fitting (command.SetUp n k) room t = refl
+called-fitting (command.SetUp cable) room t = refl
 called-fitting (command.Off a) room t = by-cases (tableSound t) (λ e. by-cases (nodeNumber (nodeCount t) a) (λ h. rw (e, h) refl) (λ h. rw (e, h) refl)) (λ e. rw e refl)
 called-fitting (command.Restart a) room t = refl
 called-fitting (command.Slot lost missed) room t = by-cases (tableSound t) (λ e. by-cases (within (nodeCount t) missed) (λ h. rw (e, h) refl) (λ h. rw (e, h) refl)) (λ e. rw e refl)

@@ -20,7 +20,7 @@ workOf order t = record {
 -- The date of what is entered of an order: the slots done so far; of a slot, its own number.
 abbrev pub dateBy : Order → ℕ → ℕ
 dateBy (order.Refuse cause) slots = slots
-dateBy (order.Start n k) slots = slots
+dateBy (order.Start cable) slots = slots
 dateBy (order.Off a) slots = slots
 dateBy (order.Restart a) slots = slots
 dateBy (order.Slot turn) slots = oneMore slots
@@ -29,7 +29,7 @@ dateBy (order.Look done sender fate) slots = slots
 -- The ledger after an order: who left and who joined is entered of an off and of a slot.
 abbrev pub enteredBy : Order → ℕ → Notes → Ledger → Ledger
 enteredBy (order.Refuse cause) slots m ledger = ledger
-enteredBy (order.Start n k) slots m ledger = ledger
+enteredBy (order.Start cable) slots m ledger = ledger
 enteredBy (order.Off a) slots m ledger = entered (dateBy (order.Off a) slots) (m .moves .left) (m .moves .joined) ledger
 enteredBy (order.Restart a) slots m ledger = ledger
 enteredBy (order.Slot turn) slots m ledger = entered (dateBy (order.Slot turn) slots) (m .moves .left) (m .moves .joined) ledger

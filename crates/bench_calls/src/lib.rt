@@ -35,7 +35,7 @@ fn outcome_by(order: Order, list: Listed, apart: u32) -> Outcome
 {
     match order {
         Order::Refuse(cause) => Outcome::Refused(cause),
-        Order::Start(_, _) => Outcome::Quiet,
+        Order::Start(_) => Outcome::Quiet,
         Order::Off(_) => Outcome::Quiet,
         Order::Restart(_) => Outcome::Quiet,
         Order::Slot(turn) => {
@@ -53,7 +53,7 @@ fn pairs_by(order: Order, notes: Notes) -> u32
     let told = notes.pairs;
     match order {
         Order::Refuse(_) => 0,
-        Order::Start(_, _) => 0,
+        Order::Start(_) => 0,
         Order::Off(_) => 0,
         Order::Restart(_) => 0,
         Order::Slot(_) => told.count,
@@ -135,7 +135,7 @@ fn date_of(order: Order, slots: u64) -> u64
     let next = ledger::one_more(slots);
     match order {
         Order::Refuse(_) => slots,
-        Order::Start(_, _) => slots,
+        Order::Start(_) => slots,
         Order::Off(_) => slots,
         Order::Restart(_) => slots,
         Order::Slot(_) => next,
@@ -152,7 +152,7 @@ fn enter(ledger: &mut [[u64; 3]], s: Survey, order: Order, work: Work)
     let moves = notes.moves;
     match order {
         Order::Refuse(_) => {}
-        Order::Start(_, _) => {}
+        Order::Start(_) => {}
         Order::Off(_) => ledger::enter(ledger, moves.left, moves.joined, date),
         Order::Restart(_) => {}
         Order::Slot(_) => ledger::enter(ledger, moves.left, moves.joined, date),
@@ -177,7 +177,7 @@ fn tell(pairs: &mut [u8], order: Order, work: Work) -> Reply
 // Carries a call out. The nodes whose state a slot changed stand in `pairs`, those that left first, each with
 // the kind of its change; who left or joined in an off or a slot is entered in `ledger`. The table is tested once; sets
 // are compared only where two members hold different ones.
-// Set-up refuses by 1, 2 and 4, off by 4, 3 and 13, restart by 4, 3 and 11, a slot by 4, 3, 13, 5 and 9,
+// Set-up refuses by 1, 2, 14 and 4, off by 4, 3 and 13, restart by 4, 3 and 11, a slot by 4, 3, 13, 5 and 9,
 // a look by 4.
 pub fn call(
     table: &mut [Node],

@@ -8,7 +8,7 @@
 //   L row record                row 0 to 31 becomes this record; no answer
 //   M entries                   the ledger is the first `entries` entries, all if fewer; no answer
 //   G entry left joined last    entry 0 to 32 becomes these figures; no answer
-//   U room n k                  set-up
+//   U room n k m                set-up
 //   F room a                    off
 //   R room a                    restart
 //   S room lost missed          one slot
@@ -26,6 +26,7 @@ use bench_by_value::Ran;
 use node_bytes::bytes;
 use node_bytes::rows;
 use node_record::Node;
+use ring::Cable;
 use run_io::block;
 use run_io::block::Block;
 use run_io::input;
@@ -60,7 +61,7 @@ fn body(letter: u8) -> u8 {
     match letter {
         b'L' => bytes::RECORD,
         b'G' => 24,
-        b'U' => 8,
+        b'U' => 12,
         b'F' | b'R' => 4,
         b'S' => 5,
         b'Q' => 1,
@@ -84,9 +85,17 @@ fn read(input: &mut [u8; 4096], left: Unread, block: &mut Block) -> Head {
     }
 }
 
+fn cable_of(block: &Block) -> Cable {
+    Cable {
+        n: block::word(block, 0),
+        k: block::word(block, 4),
+        m: block::word(block, 8),
+    }
+}
+
 fn command_of(letter: u8, block: &Block) -> Command {
     match letter {
-        b'U' => Command::SetUp(block::word(block, 0), block::word(block, 4)),
+        b'U' => Command::SetUp(cable_of(block)),
         b'F' => Command::Off(block::word(block, 0)),
         b'R' => Command::Restart(block::word(block, 0)),
         b'S' => Command::Slot(block[0] == 1, block::word(block, 1)),

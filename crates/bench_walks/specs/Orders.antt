@@ -6,9 +6,10 @@ use mathlib.Core.List.{List}
 use lib.Dec.{eqb, leb, ltb}
 use lib.ListN.{length, getD, set, replicate}
 use Rattle.refusal.specs.declared.Refusal.{Refusal}
-use Rattle.refusal.specs.declared.Refusal.the-variants.{RingSize, SponsorCount, NodeNumber, Unsound, SlotLimit, OutputShort, NotOut, LedgerUnfit}
+use Rattle.refusal.specs.declared.Refusal.the-variants.{RingSize, SponsorCount, NodeNumber, Unsound, SlotLimit, OutputShort, NotOut, LedgerUnfit, JobCount}
 use Rattle.nodeset.specs.Sets.{has, within, withIf}
-use Rattle.ring.specs.Ring.{cableOf, ringSize, sponsorCount, nodeNumber}
+use Rattle.ring.specs.declared.Cable.{Cable}
+use Rattle.ring.specs.Ring.{ringSize, sponsorCount, jobCount, nodeNumber}
 use Rattle.message.specs.declared.Reading.{Reading}
 use Rattle.message.specs.declared.Reading.the-variants as reading
 use Rattle.node_record.specs.declared.Node.{Node}
@@ -50,8 +51,13 @@ use Rattle.bench_walks.specs.Survey.{foldFrom, surveyOf, fineTable}
 abbrev pub ifGood : Bool → Refusal → Order → Order
 ifGood good cause o = cond good o (order.Refuse cause)
 
-abbrev pub setUpOrder : ℕ → ℕ → ℕ → Order
-setUpOrder n k size = ifGood (ringSize n) RingSize (ifGood (sponsorCount (cableOf n k)) SponsorCount (ifGood (eqb size n) Unsound (order.Start n k)))
+abbrev pub setUpOrder : Cable → ℕ → Order
+setUpOrder cable size =
+    ifGood (ringSize (cable .n)) RingSize
+    (ifGood (sponsorCount cable) SponsorCount
+    (ifGood (jobCount (cable .m)) JobCount
+    (ifGood (eqb size (cable .n)) Unsound
+    (order.Start cable))))
 
 abbrev pub offOrder : ℕ → Survey → ℕ → Bool → Order
 offOrder a s size fits =
@@ -93,7 +99,7 @@ abbrev pub lookOrder : Bool → Survey → ℕ → Order
 lookOrder lost s size = ifGood (fineTable s size) Unsound (order.Look (s .slots) (s .sender) (fateBy lost (s .speaker)))
 
 abbrev pub orderOf : Command → Survey → ℕ → ℕ → Bool → Order
-orderOf (command.SetUp n k) s size room fits = setUpOrder n k size
+orderOf (command.SetUp cable) s size room fits = setUpOrder cable size
 orderOf (command.Off a) s size room fits = offOrder a s size fits
 orderOf (command.Restart a) s size room fits = restartOrder a s size
 orderOf (command.Slot lost missed) s size room fits = slotOrder lost missed room s size fits
@@ -123,7 +129,7 @@ stepAt turn v = afterBy (turn .digest) (turn .sender) (heardAt turn v) (numbered
 
 unfoldable pub carried : Order → ℕ → Node → Node
 carried (order.Refuse cause) i v = v
-carried (order.Start n k) i v = starting (cableOf n k) (placeOf i)
+carried (order.Start cable) i v = starting cable (placeOf i)
 carried (order.Off a) i v = offAt a v
 carried (order.Restart a) i v = restartAt a v
 carried (order.Slot turn) i v = stepAt turn v
@@ -205,7 +211,7 @@ notesOf o t = noticedFrom o noNotes 0 t
 
 abbrev pub answerTo : Order → Answer
 answerTo (order.Refuse cause) = answer.Refused cause
-answerTo (order.Start n k) = answer.Done
+answerTo (order.Start cable) = answer.Done
 answerTo (order.Off a) = answer.Done
 answerTo (order.Restart a) = answer.Done
 answerTo (order.Slot turn) = answer.Done
@@ -218,7 +224,7 @@ reachOf m = cond (m .lists .same) 0 32
 -- What there is to print.
 abbrev pub outcomeBy : Order → Listed → ℕ → Outcome
 outcomeBy (order.Refuse cause) list apart = outcome.Refused cause
-outcomeBy (order.Start n k) list apart = outcome.Quiet
+outcomeBy (order.Start cable) list apart = outcome.Quiet
 outcomeBy (order.Off a) list apart = outcome.Quiet
 outcomeBy (order.Restart a) list apart = outcome.Quiet
 outcomeBy (order.Slot turn) list apart = outcome.Slot (turn .slot) (turn .sender) (turn .fate) list apart
@@ -227,7 +233,7 @@ outcomeBy (order.Look slots sender fate) list apart = outcome.Slot slots sender 
 -- Pairs are told of a slot alone.
 abbrev pub pairsBy : Order → Notes → ℕ
 pairsBy (order.Refuse cause) m = 0
-pairsBy (order.Start n k) m = 0
+pairsBy (order.Start cable) m = 0
 pairsBy (order.Off a) m = 0
 pairsBy (order.Restart a) m = 0
 pairsBy (order.Slot turn) m = m .pairs .count

@@ -69,7 +69,7 @@ pub struct Turn {
 // slots before it, its sender, what comes of its message.
 pub enum Order {
     Refuse(Refusal),
-    Start(u32, u32),
+    Start(Cable),
     Off(u32),
     Restart(u32),
     Slot(Turn),
@@ -131,7 +131,7 @@ pub fn order_of(command: Command, s: Survey, size: usize, room: usize, fits: boo
     ensures { λ r. ⌜ r ≡ orderOf command s size room fits ⌝ }
 {
     match command {
-        Command::SetUp(n, k) => set_up_order(n, k, size),
+        Command::SetUp(cable) => set_up_order(cable, size),
         Command::Off(a) => off_order(a, s, size, fits),
         Command::Restart(a) => restart_order(a, s, size),
         Command::Slot(lost, missed) => slot_order(lost, missed, room, s, size, fits),
@@ -145,7 +145,7 @@ fn carried(order: Order, i: usize, v: Node) -> Node
 {
     match order {
         Order::Refuse(_) => v,
-        Order::Start(n, k) => node_changes::starting(Cable { n, k }, place_of(i)),
+        Order::Start(cable) => node_changes::starting(cable, place_of(i)),
         Order::Off(a) => off_at(a, v),
         Order::Restart(a) => restart_at(a, v),
         Order::Slot(turn) => step_at(turn, v),

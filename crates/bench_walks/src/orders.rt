@@ -12,19 +12,22 @@ ghost use mathlib.Core.Path.{_≡_};
 ghost use Prim.Native.Nat.{_<_, _^_, _-_};
 ghost use Rattle.bench_walks.specs.Orders.{setUpOrder, offOrder, restartOrder, spokenBy, fateBy, turnOf, slotOrder, lookOrder};
 
-pub fn set_up_order(n: u32, k: u32, size: usize) -> Order
-    ensures { λ r. ⌜ r ≡ setUpOrder n k size ⌝ }
+pub fn set_up_order(cable: Cable, size: usize) -> Order
+    ensures { λ r. ⌜ r ≡ setUpOrder cable size ⌝ }
 {
-    if !ring::is_ring_size(n) {
+    if !ring::is_ring_size(cable.n) {
         return Order::Refuse(Refusal::RingSize);
     }
-    if !ring::is_sponsor_count(Cable { n, k }) {
+    if !ring::is_sponsor_count(cable) {
         return Order::Refuse(Refusal::SponsorCount);
     }
-    if size != n as usize {
+    if !ring::is_job_count(cable.m) {
+        return Order::Refuse(Refusal::JobCount);
+    }
+    if size != cable.n as usize {
         return Order::Refuse(Refusal::Unsound);
     }
-    Order::Start(n, k)
+    Order::Start(cable)
 }
 
 pub fn off_order(a: u32, s: Survey, size: usize, fits: bool) -> Order

@@ -1,7 +1,7 @@
 -- Demand 1 holds: each definition is a chain of tests, and each test that fails gives a number of the call's list and leaves what was lent. Assumes nothing.
 use Prim.Native.Nat.{ℕ, _+_, _*_, _^_}
 use mathlib.Core.Path.{refl}
-use mathlib.Core.Bool.{Bool, true, false, cond}
+use mathlib.Core.Bool.{Bool, true, false, cond, _&&_}
 use mathlib.Core.List.{List, [], _∷_}
 use lib.Dec.{eqb, ltb, leb}
 use lib.ListN.{length}
@@ -14,11 +14,12 @@ use Rattle.ring.specs.declared.Speaker.{Speaker}
 use Rattle.ring.specs.declared.Found.{Found}
 use Rattle.ring.specs.declared.Lookup.{Lookup}
 use Rattle.ring.specs.Answers.{beforeOf, onCable}
-use Rattle.ring.specs.Ring.{cableOf, ringSize, nodeNumber, sponsorCount, sponsored, decided}
+use Rattle.ring.specs.Ring.{ringSize, nodeNumber, sponsorCount, jobCount, sponsored, decided}
 use Rattle.message.specs.declared.Reading.{Reading}
 use Rattle.message.specs.declared.Reading.the-variants as reading
+use Rattle.message.specs.declared.Received.{Received}
 use Rattle.message.specs.declared.Written.the-variants as written
-use Rattle.message.specs.Message.{Outcome, unread, ifRead, unwritten, ifWritten, inRange, lengthOf, partOne, partTwo, readOf, saidBy, sectionIn, writeOf}
+use Rattle.message.specs.Message.{Outcome, unread, ifRead, unwritten, ifWritten, inRange, jobsWithin, lengthOf, partOne, partTwo, partThree, readOf, saidBy, sectionIn, writeOf}
 use Rattle.node_record.specs.Soundness.{sound, limit}
 use Rattle.node_record.specs.States.{isOut}
 use Rattle.node_record.specs.declared.Node.{Node}
@@ -46,7 +47,7 @@ either : {A : Type 0} (P : A → Type 0) (b : Bool) {x y : A} → P x → P y �
 either P true p q = p
 either P false p q = q
 
-either-read : (P : Reading → Type 0) (b : Bool) (number : ℕ) {r : Reading} → P r → P (unread number) → P (ifRead b number r)
+either-read : (P : Received → Type 0) (b : Bool) (number : ℕ) {r : Received} → P r → P (unread (cause number)) → P (ifRead b number r)
 either-read P true number p q = p
 either-read P false number p q = q
 
@@ -74,34 +75,35 @@ finds-on cable x f =
 
 -- ---- the message
 
-reads : (k : ℕ) (bytes : List ℕ) → EndsBy (2 ∷ 6 ∷ 7 ∷ 8 ∷ []) (ofReading (readOf k bytes))
+reads : (k m : ℕ) (bytes : List ℕ) → EndsBy (2 ∷ 14 ∷ 6 ∷ 7 ∷ 8 ∷ []) (ofReading (readOf k m bytes .reading))
 unfolding readOf saidBy
-reads k bytes =
-    let P : Reading → Type 0 = λ r. EndsBy (2 ∷ 6 ∷ 7 ∷ 8 ∷ []) (ofReading r) in
+reads k m bytes =
+    let P : Received → Type 0 = λ r. EndsBy (2 ∷ 14 ∷ 6 ∷ 7 ∷ 8 ∷ []) (ofReading (r .reading)) in
     let one = sectionIn k (partOne k bytes) in
     let two = sectionIn 1 (partTwo k bytes) in
+    let three = sectionIn m (partThree k bytes) in
     either-read P (inRange k) 2
+    (either-read P (jobCount m) 14
     (either-read P (eqb (length bytes) (lengthOf k)) 6
-    (either-read P (one .counted) 7
-    (either-read P (two .counted) 7
-    (either-read P (one .clear) 8
-    (either-read P (two .clear) 8 tt refl) refl) refl) refl) refl) refl
+    (either-read P (one .counted && (two .counted && three .counted)) 7
+    (either-read P (one .clear && (two .clear && three .clear)) 8 tt refl) refl) refl) refl) refl
 
-writes : (k a : ℕ) (b : Bool) (out : List ℕ) → WritesBy (2 ∷ 8 ∷ 9 ∷ []) out (writeOf k a b out)
+writes : (k m a : ℕ) (b : Bool) (jobs : ℕ) (out : List ℕ) → WritesBy (2 ∷ 14 ∷ 8 ∷ 9 ∷ []) out (writeOf k m a b jobs out)
 unfolding writeOf
-writes k a b out =
-    let P = WritesBy (2 ∷ 8 ∷ 9 ∷ []) out in
+writes k m a b jobs out =
+    let P = WritesBy (2 ∷ 14 ∷ 8 ∷ 9 ∷ []) out in
     either-written P (inRange k) 2
-    (either-written P (ltb a (2 ^ k)) 8
-    (either-written P (leb (lengthOf k) (length out)) 9 (tt, tt) (refl, refl)) (refl, refl)) (refl, refl)
+    (either-written P (jobCount m) 14
+    (either-written P (ltb a (2 ^ k) && jobsWithin m jobs) 8
+    (either-written P (leb (lengthOf k) (length out)) 9 (tt, tt) (refl, refl)) (refl, refl)) (refl, refl)) (refl, refl)
 
 -- ---- the node record
 
-sets-up : (cable : Cable) (own : ℕ) → EndsBy (1 ∷ 2 ∷ 3 ∷ []) (ofAnswer (setUpOf cable own .answer))
+sets-up : (cable : Cable) (own : ℕ) → EndsBy (1 ∷ 2 ∷ 14 ∷ 3 ∷ []) (ofAnswer (setUpOf cable own .answer))
 unfolding setUpOf
 sets-up cable own =
-    let P : Stepped → Type 0 = λ s. EndsBy (1 ∷ 2 ∷ 3 ∷ []) (ofAnswer (s .answer)) in
-    either P (ringSize (cable .n)) (either P (sponsorCount cable) (either P (nodeNumber (cable .n) own) tt refl) refl) refl
+    let P : Stepped → Type 0 = λ s. EndsBy (1 ∷ 2 ∷ 14 ∷ 3 ∷ []) (ofAnswer (s .answer)) in
+    either P (ringSize (cable .n)) (either P (sponsorCount cable) (either P (jobCount (cable .m)) (either P (nodeNumber (cable .n) own) tt refl) refl) refl) refl
 
 steps : (heard : Reading) (v : Node) → StepsBy (4 ∷ 5 ∷ []) v (stepOf heard v)
 unfolding stepOf
@@ -120,16 +122,18 @@ restarts v =
     either P (sound v) (either P (isOut (v .state)) (tt, tt) (refl, refl)) (refl, refl)
 
 -- "of the writer's refusals only 9 can come of sending" (node's proofs/Sent)
-sends : (v : Node) (out : List ℕ) → WritesBy (4 ∷ 5 ∷ 10 ∷ 9 ∷ []) out (sendOf v out)
+sends : (v : Node) (jobs : ℕ) (out : List ℕ) → WritesBy (4 ∷ 5 ∷ 8 ∷ 10 ∷ 9 ∷ []) out (sendOf v jobs out)
 unfolding sendOf
-sends v out =
-    let P = WritesBy (4 ∷ 5 ∷ 10 ∷ 9 ∷ []) out in
+sends v jobs out =
+    let P = WritesBy (4 ∷ 5 ∷ 8 ∷ 10 ∷ 9 ∷ []) out in
     by-cases (sound v)
     (λ s. by-cases (leb limit (v .slots))
     (λ l. rw (s, l) (refl, refl))
-    (λ l. by-cases (itsTurn v)
-    (λ i. rw (sent-or-short v out s (leb-false limit (v .slots) l) i) (either-written P (leb (lengthOf (v .cable .k)) (length out)) 9 (tt, tt) (refl, refl)))
-    (λ i. rw (s, l, i) (refl, refl))))
+    (λ l. by-cases (jobsWithin (v .cable .m) jobs)
+    (λ h. by-cases (itsTurn v)
+    (λ i. rw (sent-or-short v jobs out s (leb-false limit (v .slots) l) h i) (either-written P (leb (lengthOf (v .cable .k)) (length out)) 9 (tt, tt) (refl, refl)))
+    (λ i. rw (s, l, h, i) (refl, refl)))
+    (λ h. rw (s, l, h) (refl, refl))))
     (λ s. rw s (refl, refl))
 
 -- ---- the bench
@@ -139,11 +143,12 @@ Runs c t ledger out called = RunsBy (numbersFor c) (outcomeOf c t called) (t, le
 
 runs : (c : Command) (t : Table) (ledger : Ledger) (out : List ℕ) → Runs c t ledger out (calledWith c (length out) ledger t)
 unfolding bench.setUpOf bench.slotOf bench.offOf bench.restartOf bench.lookOf slotWith offWith
-runs (command.SetUp n k) t ledger out =
-    let P = Runs (command.SetUp n k) t ledger out in
-    either-passed P (ringSize n) 1
-    (either-passed P (sponsorCount (cableOf n k)) 2
-    (either-passed P (eqb (length t) n) 4 (tt, tt) (refl, refl)) (refl, refl)) (refl, refl)
+runs (command.SetUp cable) t ledger out =
+    let P = Runs (command.SetUp cable) t ledger out in
+    either-passed P (ringSize (cable .n)) 1
+    (either-passed P (sponsorCount cable) 2
+    (either-passed P (jobCount (cable .m)) 14
+    (either-passed P (eqb (length t) (cable .n)) 4 (tt, tt) (refl, refl)) (refl, refl)) (refl, refl)) (refl, refl)
 runs (command.Slot lost missed) t ledger out =
     let P = Runs (command.Slot lost missed) t ledger out in
     either-passed P (tableSound t) 4
@@ -198,7 +203,7 @@ demand1 = record {
   read = reads;
   write = writes;
   set-up = sets-up;
-  slot = λ bytes v. steps (readOf (v .cable .k) bytes) v;
+  slot = λ bytes v. steps (readOf (v .cable .k) (v .cable .m) bytes .reading) v;
   step = steps;
   send = sends;
   off = switches-off;

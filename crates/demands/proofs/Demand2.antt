@@ -13,6 +13,7 @@ use Rattle.ring.specs.declared.Cable.{Cable}
 use Rattle.ring.specs.Ring.{sender}
 use Rattle.ring.proofs.Senders.{sender-range}
 use Rattle.message.specs.declared.Reading.{Reading}
+use Rattle.message.specs.declared.Received.{Received}
 use Rattle.message.specs.declared.Written.the-variants.{Bytes}
 use Rattle.message.specs.Message.{readOf}
 use Rattle.message.proofs.RoundTrip.{read-back, written-read}
@@ -75,13 +76,13 @@ each-steps lost missed room ledger t e i low high =
     let is = ap (λ (x : Table). recordOf x i) left ∙ after-slot-record lost missed t i low high in
     stepped ∙ ap done (sym (is ∙ ap (λ (s : Stepped). s .node) stepped))
 
-sent-is-spoken : (t : Table) (out : List ℕ) (count : ℕ) (after : List ℕ) → sendOf (recordOf t (speaker t)) out ≡ (Bytes count, after)
-    → readOf (recordOf t (speaker t) .cable .k) (take count after) ≡ bench.spoken t
+sent-is-spoken : (t : Table) (jobs : ℕ) (out : List ℕ) (count : ℕ) (after : List ℕ) → sendOf (recordOf t (speaker t)) jobs out ≡ (Bytes count, after)
+    → readOf (recordOf t (speaker t) .cable .k) (recordOf t (speaker t) .cable .m) (take count after) .reading ≡ bench.spoken t
 unfolding bench.spoken bench.transmits
-sent-is-spoken t out count after e =
+sent-is-spoken t jobs out count after e =
     let v = recordOf t (speaker t) in
-    let turn : sends v ≡ true = both (eqb (nextSender v) (v .own)) (sends v) (sent-by v out count after e .0) .1 in
-    rw turn (sent-read v out count after e)
+    let turn : sends v ≡ true = both (eqb (nextSender v) (v .own)) (sends v) (sent-by v jobs out count after e .0) .1 in
+    rw turn (ap (λ (r : Received). r .reading) (sent-read v jobs out count after e))
 
 -- the next slot of a sound table is that of its speaker's record
 speaks : (t : Table) → tableSound t ≡ true → eqb (nextSender (recordOf t (speaker t))) (recordOf t (speaker t) .own) ≡ true
@@ -94,11 +95,11 @@ speaks (w ∷ t) e =
     let n-is : recordOf (w ∷ t) (speaker (w ∷ t)) .cable .n ≡ suc (length t) = ap (λ (c : Cable). c .n) (place .cable-is) ∙ sym (P .length-is) in
     eq-eqb _ _ (ap (λ (n : ℕ). sender n (recordOf (w ∷ t) (speaker (w ∷ t)) .slots + 1)) n-is ∙ ap (λ (s : ℕ). sender (suc (length t)) (s + 1)) (place .slots-is) ∙ sym (place .own-is))
 
-silent-unheard : (t : Table) (out : List ℕ) → tableSound t ≡ true → sendOf (recordOf t (speaker t)) out ≡ unsent 10 out → bench.spoken t ≡ bench.unheard
+silent-unheard : (t : Table) (jobs : ℕ) (out : List ℕ) → tableSound t ≡ true → sendOf (recordOf t (speaker t)) jobs out ≡ unsent 10 out → bench.spoken t ≡ bench.unheard
 unfolding bench.spoken bench.transmits
-silent-unheard t out e u =
+silent-unheard t jobs out e u =
     let v = recordOf t (speaker t) in
-    by-cases (sends v) (λ s. absurd (true≢false (sym (all (speaks t e) s) ∙ not-its-turn v out u))) (λ s. rw s refl)
+    by-cases (sends v) (λ s. absurd (true≢false (sym (all (speaks t e) s) ∙ not-its-turn v jobs out u))) (λ s. rw s refl)
 
 -- ---- the demand
 

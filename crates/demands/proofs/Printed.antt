@@ -8,7 +8,7 @@ use lib.ListN.{length, length-replicate, length-take}
 use Rattle.nodeset.proofs.Tests.{by-cases}
 use Rattle.ring.specs.declared.Cable.{Cable}
 use Rattle.ring.specs.Ring.{cableOf}
-use Rattle.ring.proofs.Ranges.{ring-size}
+use Rattle.ring.proofs.Ranges.{ring-size, fitting}
 use Rattle.node.specs.Calls.{noNode}
 use Rattle.node.specs.declared.Answer.{Answer}
 use Rattle.node.specs.declared.Answer.the-variants.{Done, Refused}
@@ -92,6 +92,6 @@ pub no-distance-printed : NoDistancePrinted
 unfolding AtEachLine EverySequence
 no-distance-printed n k input first more is opens premises =
     let r = ring n k first opens in
-    let lent : length (tableOf n noRows) ≡ n = omega (arith, length-take n noRows, length-replicate 32 noNode, ring-size n (r .0)) in
-    let slots = distance-throughout (cableOf n k) (r .0) (r .1) (tableOf n noRows) lent (callsOf (afterLine noPlan first) [] more) premises .slots in
+    let lent : length (tableOf n noRows) ≡ n = omega (arith, length-take n noRows, length-replicate 32 noNode, ring-size n (fitting (cableOf n k) r .ring)) in
+    let slots = distance-throughout (cableOf n k) r (tableOf n noRows) lent (callsOf (afterLine noPlan first) [] more) premises .slots in
     rw is (first-tells n k first opens, each (cableOf n k) (startOf n k) (afterLine noPlan first) [] more (reached-first n k first opens) slots .0)

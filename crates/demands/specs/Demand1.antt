@@ -110,7 +110,7 @@ FeedsBy numbers p part out f =
 
 -- By which numbers a call of the bench may be refused, in the order of its tests.
 abbrev pub numbersFor : Command → List ℕ
-numbersFor (command.SetUp n k) = 1 ∷ 2 ∷ 4 ∷ []
+numbersFor (command.SetUp cable) = 1 ∷ 2 ∷ 14 ∷ 4 ∷ []
 numbersFor (command.Slot lost missed) = 4 ∷ 3 ∷ 13 ∷ 5 ∷ 9 ∷ []
 numbersFor (command.Off a) = 4 ∷ 3 ∷ 13 ∷ []
 numbersFor (command.Restart a) = 4 ∷ 3 ∷ 11 ∷ []
@@ -125,14 +125,14 @@ pub record Demand1 : Type 0 where
   pub sponsored : (cable : Cable) (set x j : ℕ) → EndsBy (1 ∷ 2 ∷ 3 ∷ []) (ofLookup (sponsoredOf cable set x j))
   pub decided : (cable : Cable) (set x : ℕ) → EndsBy (1 ∷ 2 ∷ 3 ∷ []) (ofLookup (decidedOf cable set x))
   -- the message; the reader writes to no byte
-  pub read : (k : ℕ) (bytes : List ℕ) → EndsBy (2 ∷ 6 ∷ 7 ∷ 8 ∷ []) (ofReading (readOf k bytes))
-  pub write : (k acknowledgements : ℕ) (returnBit : Bool) (out : List ℕ)
-      → WritesBy (2 ∷ 8 ∷ 9 ∷ []) out (writeOf k acknowledgements returnBit out)
+  pub read : (k m : ℕ) (bytes : List ℕ) → EndsBy (2 ∷ 14 ∷ 6 ∷ 7 ∷ 8 ∷ []) (ofReading (readOf k m bytes .reading))
+  pub write : (k m acknowledgements : ℕ) (returnBit : Bool) (jobs : ℕ) (out : List ℕ)
+      → WritesBy (2 ∷ 14 ∷ 8 ∷ 9 ∷ []) out (writeOf k m acknowledgements returnBit jobs out)
   -- the node record; set-up is given none, and sending returns none
-  pub set-up : (cable : Cable) (own : ℕ) → EndsBy (1 ∷ 2 ∷ 3 ∷ []) (ofAnswer (setUpOf cable own .answer))
+  pub set-up : (cable : Cable) (own : ℕ) → EndsBy (1 ∷ 2 ∷ 14 ∷ 3 ∷ []) (ofAnswer (setUpOf cable own .answer))
   pub slot : (bytes : List ℕ) (v : Node) → StepsBy (4 ∷ 5 ∷ []) v (slotOf bytes v)
   pub step : (heard : Reading) (v : Node) → StepsBy (4 ∷ 5 ∷ []) v (stepOf heard v)
-  pub send : (v : Node) (out : List ℕ) → WritesBy (4 ∷ 5 ∷ 10 ∷ 9 ∷ []) out (sendOf v out)
+  pub send : (v : Node) (jobs : ℕ) (out : List ℕ) → WritesBy (4 ∷ 5 ∷ 8 ∷ 10 ∷ 9 ∷ []) out (sendOf v jobs out)
   pub off : (v : Node) → StepsBy (4 ∷ []) v (offOf v)
   pub restart : (v : Node) → StepsBy (4 ∷ 11 ∷ []) v (restartOf v)
   -- the bench: set-up, slot, off, restart and a look; `out` are the lent bytes

@@ -7,9 +7,8 @@ use mathlib.Core.List.{List, _++_}
 use lib.ListN.{length, getD, take, drop}
 use Rattle.ring.specs.Ring.{sender}
 use Rattle.message.specs.declared.Reading.{Reading}
-use Rattle.message.specs.declared.Reading.the-variants.{Heard}
 use Rattle.message.specs.declared.Written.the-variants.{Bytes}
-use Rattle.message.specs.Message.{readOf, writeOf}
+use Rattle.message.specs.Message.{heard, readOf, writeOf}
 use Rattle.node_record.specs.declared.Node.{Node}
 use Rattle.node_record.specs.Soundness.{sound, limit}
 use Rattle.node_changes.specs.Changes.{counted}
@@ -40,22 +39,22 @@ pub record Demand2 : Type 0 where
   pub unsound : (heard : Reading) (v : Node) → sound v ≡ false → stepOf heard v ≡ refused 4 v
   pub at-limit : (heard : Reading) (v : Node) → sound v ≡ true → limit ≤ v .slots → stepOf heard v ≡ refused 5 v
   -- what is heard is what the reader finds in the bytes that are handed over
-  pub by-bytes : (bytes : List ℕ) (v : Node) → slotOf bytes v ≡ stepOf (readOf (v .cable .k) bytes) v
+  pub by-bytes : (bytes : List ℕ) (v : Node) → slotOf bytes v ≡ stepOf (readOf (v .cable .k) (v .cable .m) bytes .reading) v
   -- a slot that runs on the bench is this slot of each record, and none is refused
   pub on-bench : (lost : Bool) (missed room : ℕ) (ledger : Ledger) (t : Table) → slotWith lost missed room ledger t .answer ≡ Done
       → (i : ℕ) → 1 ≤ i → i ≤ nodeCount t
       → stepOf (bench.heardBy lost missed t i) (recordOf t i) ≡ done (recordOf (keptOf (Slot lost missed) room ledger t .table) i)
-  -- and what its message is heard as there is what the reader finds in the bytes that the sender sends
-  pub heard-on-bench : (t : Table) (out : List ℕ) (count : ℕ) (after : List ℕ) → sendOf (recordOf t (speaker t)) out ≡ (Bytes count, after)
-      → readOf (recordOf t (speaker t) .cable .k) (take count after) ≡ bench.spoken t
+  -- and what its message is heard as there is what the reader finds in the bytes that the sender sends, whatever job byte it is given
+  pub heard-on-bench : (t : Table) (jobs : ℕ) (out : List ℕ) (count : ℕ) (after : List ℕ) → sendOf (recordOf t (speaker t)) jobs out ≡ (Bytes count, after)
+      → readOf (recordOf t (speaker t) .cable .k) (recordOf t (speaker t) .cable .m) (take count after) .reading ≡ bench.spoken t
   -- nothing, where the sender has none to send
-  pub silent-on-bench : (t : Table) (out : List ℕ) → tableSound t ≡ true → sendOf (recordOf t (speaker t)) out ≡ unsent 10 out
+  pub silent-on-bench : (t : Table) (jobs : ℕ) (out : List ℕ) → tableSound t ≡ true → sendOf (recordOf t (speaker t)) jobs out ≡ unsent 10 out
       → bench.spoken t ≡ bench.unheard
-  -- "a message written is read back as the same"
-  pub read-back : (k acknowledgements : ℕ) (returnBit : Bool) (out : List ℕ) (count : ℕ) (after : List ℕ)
-      → writeOf k acknowledgements returnBit out ≡ (Bytes count, after)
-      → readOf k (take count after) ≡ Heard acknowledgements returnBit
+  -- "a message written is read back as the same", the job byte, too
+  pub read-back : (k m acknowledgements : ℕ) (returnBit : Bool) (jobs : ℕ) (out : List ℕ) (count : ℕ) (after : List ℕ)
+      → writeOf k m acknowledgements returnBit jobs out ≡ (Bytes count, after)
+      → readOf k m (take count after) ≡ heard acknowledgements returnBit jobs
   -- "each readable message is the one that would be written": where there is room the writer writes it for what it reads as, and leaves what stands after it
-  pub written-read : (k acknowledgements : ℕ) (returnBit : Bool) (bytes out : List ℕ)
-      → AreBytes bytes → readOf k bytes ≡ Heard acknowledgements returnBit → length bytes ≤ length out
-      → writeOf k acknowledgements returnBit out ≡ (Bytes (length bytes), bytes ++ drop (length bytes) out)
+  pub written-read : (k m acknowledgements : ℕ) (returnBit : Bool) (jobs : ℕ) (bytes out : List ℕ)
+      → AreBytes bytes → readOf k m bytes ≡ heard acknowledgements returnBit jobs → length bytes ≤ length out
+      → writeOf k m acknowledgements returnBit jobs out ≡ (Bytes (length bytes), bytes ++ drop (length bytes) out)

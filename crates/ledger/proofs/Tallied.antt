@@ -15,8 +15,8 @@ use Rattle.nodeset.specs.Sums.{num}
 use Rattle.nodeset.specs.Sets.{within}
 use Rattle.nodeset.proofs.Tests.{by-cases, both, all}
 use Rattle.ring.specs.declared.Cable.{Cable}
-use Rattle.ring.specs.Ring.{ringSize, sponsorCount, nodeNumber}
-use Rattle.ring.proofs.Ranges.{ring-size}
+use Rattle.ring.specs.Ring.{nodeNumber, cableFits}
+use Rattle.ring.proofs.Ranges.{ring-size, fitting}
 use Rattle.node_record.specs.declared.Node.{Node}
 use Rattle.node_record.specs.declared.State.{State}
 use Rattle.node_record.specs.declared.State.the-variants.{Member, Listening, Following, Knocking, Out}
@@ -257,12 +257,12 @@ told-number : (c : Command) (t : Table) (called : Called) → numberTold (outcom
 told-number c t called = go c (called .answer)
   where
     go : (k : Command) (a : Answer) → numberTold (outcomeOf k t (record { table = called .table; answer = a })) ≡ numberIn a
-    go (command.SetUp n m) Done = refl
+    go (command.SetUp cable) Done = refl
     go (command.Off a) Done = refl
     go (command.Restart a) Done = refl
     go (command.Slot lost missed) Done = refl
     go (command.Look lost) Done = refl
-    go (command.SetUp n m) (Refused r) = refl
+    go (command.SetUp cable) (Refused r) = refl
     go (command.Off a) (Refused r) = refl
     go (command.Restart a) (Refused r) = refl
     go (command.Slot lost missed) (Refused r) = refl
@@ -288,7 +288,7 @@ call-not-13 (restart a) t =
 
 -- ---- a run
 
-module _ (cable : Cable) (ring : ringSize (cable .n) ≡ true) (sponsors : sponsorCount cable ≡ true) (lent : Table) (one-each : length lent ≡ cable .n) where
+module _ (cable : Cable) (fits : cableFits cable ≡ true) (lent : Table) (one-each : length lent ≡ cable .n) where
   abbrev start : Table
   start = setUpOf cable lent .table
 
@@ -296,10 +296,10 @@ module _ (cable : Cable) (ring : ringSize (cable .n) ≡ true) (sponsors : spons
   n = cable .n
 
   pos : 1 ≤ cable .n
-  pos = omega (arith, ring-size (cable .n) ring)
+  pos = omega (arith, ring-size (cable .n) (fitting cable fits .ring))
 
   begins : Placed cable 0 start
-  begins = start-placed cable ring sponsors lent one-each
+  begins = start-placed cable fits lent one-each
 
   in-order : (cs : List Call) → tableSound (tableAfter start cs) ≡ true
   in-order cs = never-unsound cable pos start begins cs
@@ -315,7 +315,7 @@ module _ (cable : Cable) (ring : ringSize (cable .n) ≡ true) (sponsors : spons
   counts : (cs : List Call) (i : ℕ) → 1 ≤ i → i ≤ cable .n → Counts cs i
   unfolding tableAfter timesLeft timesJoined
   counts [] i h l =
-      record { balance = rw (start-record cable ring sponsors lent one-each i h l) refl; few = omega arith }
+      record { balance = rw (start-record cable fits lent one-each i h l) refl; few = omega arith }
   counts (c ∷ cs) i h l =
       let r = counts cs i h l in
       let t = tableAfter start cs in
@@ -331,9 +331,9 @@ module _ (cable : Cable) (ring : ringSize (cable .n) ≡ true) (sponsors : spons
     entries : (i : ℕ) → i ≤ n → 1 ≤ i
         → getD (benchAfter (record { table = start; ledger = zeros n }) cs .ledger) (i - 1) [] ≡ figures (timesLeft start cs i) (timesJoined start cs i) (lastLeaving start cs i)
 
-  fits : (cs : List Call) → Kept cs → ledgerFits (nodeCount (tableAfter start cs)) (slotsOf (tableAfter start cs)) (benchAfter (record { table = start; ledger = zeros n }) cs .ledger) ≡ true
+  ledger-fits : (cs : List Call) → Kept cs → ledgerFits (nodeCount (tableAfter start cs)) (slotsOf (tableAfter start cs)) (benchAfter (record { table = start; ledger = zeros n }) cs .ledger) ≡ true
   unfolding ledgerFits
-  fits cs k = all (eq-eqb _ _ (k .size ∙ sym (long cs))) (all-fit _ _ each)
+  ledger-fits cs k = all (eq-eqb _ _ (k .size ∙ sym (long cs))) (all-fit _ _ each)
     where
       each : (j : ℕ) → j < length (benchAfter (record { table = start; ledger = zeros n }) cs .ledger) → countsFit (slotsOf (tableAfter start cs)) (getD (benchAfter (record { table = start; ledger = zeros n }) cs .ledger) j []) ≡ true
       each j h =
@@ -353,7 +353,7 @@ module _ (cable : Cable) (ring : ringSize (cable .n) ≡ true) (sponsors : spons
       let k = kept-run cs in
       let b = benchAfter (record { table = start; ledger = zeros n }) cs in
       let t = tableAfter start cs in
-      let called : calledWith (commandOf c) (roomOf c) (b .ledger) (b .table) ≡ callOf c t = ap (calledWith (commandOf c) (roomOf c) (b .ledger)) (k .tables) ∙ with-fitting c (b .ledger) t (in-order cs) (fits cs k) in
+      let called : calledWith (commandOf c) (roomOf c) (b .ledger) (b .table) ≡ callOf c t = ap (calledWith (commandOf c) (roomOf c) (b .ledger)) (k .tables) ∙ with-fitting c (b .ledger) t (in-order cs) (ledger-fits cs k) in
       let ledger-is : ledgerWith (commandOf c) (b .table) (calledWith (commandOf c) (roomOf c) (b .ledger) (b .table)) (b .ledger) ≡ ledgerWith (commandOf c) t (callOf c t) (b .ledger) =
       ap (λ (x : Called). ledgerWith (commandOf c) (b .table) x (b .ledger)) called ∙ ap (λ (x : Table). ledgerWith (commandOf c) x (callOf c t) (b .ledger)) (k .tables) in
       record {
@@ -370,7 +370,7 @@ module _ (cable : Cable) (ring : ringSize (cable .n) ≡ true) (sponsors : spons
 
 pub ledger-tallies : LedgerTallies
 unfolding keptOf
-ledger-tallies cable ring sponsors lent one-each cs = record {
+ledger-tallies cable fits lent one-each cs = record {
   tables = k .tables;
   size = k .size;
   entries = k .entries;
@@ -379,12 +379,12 @@ ledger-tallies cable ring sponsors lent one-each cs = record {
       (sym (ap (λ (x : Called). numberIn (x .answer)) (called c)) ∙ sym (told-number (commandOf c) _ _) ∙ ap numberTold e);
 }
   where
-    k : Kept cable ring sponsors lent one-each cs
-    k = kept-run cable ring sponsors lent one-each cs
+    k : Kept cable fits lent one-each cs
+    k = kept-run cable fits lent one-each cs
 
     called : (c : Call) → let b = benchAfter (record { table = setUpOf cable lent .table; ledger = zeros (cable .n) }) cs in
         calledWith (commandOf c) (roomOf c) (b .ledger) (b .table) ≡ callOf c (tableAfter (setUpOf cable lent .table) cs)
     called c =
         let b = benchAfter (record { table = setUpOf cable lent .table; ledger = zeros (cable .n) }) cs in
         ap (calledWith (commandOf c) (roomOf c) (b .ledger)) (k .tables)
-        ∙ with-fitting c (b .ledger) (tableAfter (setUpOf cable lent .table) cs) (in-order cable ring sponsors lent one-each cs) (fits cable ring sponsors lent one-each cs k)
+        ∙ with-fitting c (b .ledger) (tableAfter (setUpOf cable lent .table) cs) (in-order cable fits lent one-each cs) (ledger-fits cable fits lent one-each cs k)

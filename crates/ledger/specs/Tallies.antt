@@ -8,7 +8,7 @@ use lib.ListN.{length, getD}
 use Rattle.nodeset.specs.Sums.{num}
 use Rattle.refusal.specs.Causes.{cause}
 use Rattle.ring.specs.declared.Cable.{Cable}
-use Rattle.ring.specs.Ring.{ringSize, sponsorCount}
+use Rattle.ring.specs.Ring.{cableFits}
 use Rattle.bench.specs.declared.Outcome.the-variants.{Refused}
 use Rattle.bench.specs.Table.{Table, recordOf}
 use Rattle.bench.specs.Calls.{setUpOf}
@@ -59,6 +59,6 @@ pub record Tallied (cable : Cable) (start : Table) (cs : List Call) : Type 0 whe
 
 abbrev pub LedgerTallies : Type 0
 LedgerTallies =
-    (cable : Cable) → ringSize (cable .n) ≡ true → sponsorCount cable ≡ true
+    (cable : Cable) → cableFits cable ≡ true
     → (lent : Table) → length lent ≡ cable .n
     → (cs : List Call) → Tallied cable (setUpOf cable lent .table) cs

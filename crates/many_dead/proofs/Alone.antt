@@ -12,7 +12,7 @@ use Rattle.nodeset.specs.Sets.{has}
 use Rattle.nodeset.proofs.Bits.{has-none}
 use Rattle.nodeset.proofs.Tests.{both}
 use Rattle.ring.specs.declared.Cable.{Cable}
-use Rattle.ring.specs.Ring.{cableOf, sponsorCount, sender}
+use Rattle.ring.specs.Ring.{cableOf, cableFits, sender}
 use Rattle.node_record.specs.declared.Node.{Node}
 use Rattle.node_record.specs.declared.State.{State}
 use Rattle.node_record.specs.declared.State.the-variants.{Member, Out}
@@ -104,11 +104,11 @@ abbrev four : ℕ → Table
 four k = setUpOf (cableOf 4 k) (noNode ∷ noNode ∷ noNode ∷ noNode ∷ []) .table
 
 -- the claim at the end of a plan on four nodes in which i and j stay on
-ends-well : (runOf : Table → List Call → Table) → ManyDeadFor runOf → (k : ℕ) → sponsorCount (cableOf 4 k) ≡ true → (cs : List Call) → every quietCall cs ≡ true
+ends-well : (runOf : Table → List Call → Table) → ManyDeadFor runOf → (k : ℕ) → cableFits (cableOf 4 k) ≡ true → (cs : List Call) → every quietCall cs ≡ true
     → (i j : ℕ) → i ≢ j → StaysOn 4 i cs → StaysOn 4 j cs → Survives (cableOf 4 k) (runOf (four k)) cs
 unfolding EverySequence
 ends-well runOf claim k fits cs quiet i j two on-i on-j =
-    at-end (Survives (cableOf 4 k) (runOf (four k))) cs (claim (cableOf 4 k) refl fits (noNode ∷ noNode ∷ noNode ∷ noNode ∷ []) refl cs
+    at-end (Survives (cableOf 4 k) (runOf (four k))) cs (claim (cableOf 4 k) fits (noNode ∷ noNode ∷ noNode ∷ noNode ∷ []) refl cs
     (only-offs (cableOf 4 k) (runOf (four k)) cs quiet, record { a = i; b = j; first = on-i; second = on-j; two = two }))
 
 still-listed : has (recordOf (runBefore (four 3) (reverse lingers)) 3 .set) (sender 4 2) ≡ true

@@ -14,8 +14,8 @@ use Rattle.nodeset.proofs.Tests.{by-cases, chosen, otherwise}
 use Rattle.nodeset.proofs.Laws.{has-full}
 use Rattle.nodeset.proofs.Counts.{size-le}
 use Rattle.ring.specs.declared.Cable.{Cable}
-use Rattle.ring.specs.Ring.{ringSize, sponsorCount, nodeNumber, sender, sponsors, sponsored}
-use Rattle.ring.proofs.Ranges.{ring-size, sponsor-count}
+use Rattle.ring.specs.Ring.{nodeNumber, sender, sponsors, sponsored, cableFits}
+use Rattle.ring.proofs.Ranges.{ring-size, sponsor-count, fitting}
 use Rattle.ring.proofs.Senders.{sender-range, sender-period, its-slot}
 use Rattle.message.specs.declared.Reading.{Reading}
 use Rattle.message.specs.declared.Reading.the-variants as reading
@@ -377,26 +377,26 @@ restart-leaves x t =
     last : Called
     last = ifPassed (isOut (recordOf t x .state)) 11 t (done (tableAfterRestart x t))
 
-module _ (cable : Cable) (ring : ringSize (cable .n) ≡ true) (sponsored : sponsorCount cable ≡ true) (lent : Table) (one-each : length lent ≡ cable .n) where
+module _ (cable : Cable) (fits : cableFits cable ≡ true) (lent : Table) (one-each : length lent ≡ cable .n) where
   open Cable cable using (n, k)
 
   abbrev start : Table
   start = setUpOf cable lent .table
 
   begins : Placed cable 0 start
-  begins = start-placed cable ring sponsored lent one-each
+  begins = start-placed cable fits lent one-each
 
   n-pos : 1 ≤ cable .n
-  n-pos = omega (arith, ring-size (cable .n) ring)
+  n-pos = omega (arith, ring-size (cable .n) (fitting cable fits .ring))
 
   n-most : cable .n ≤ 32
-  n-most = ring-size (cable .n) ring .1
+  n-most = ring-size (cable .n) (fitting cable fits .ring) .1
 
   k-pos : 1 ≤ cable .k
-  k-pos = omega (arith, sponsor-count cable sponsored)
+  k-pos = omega (arith, sponsor-count cable (fitting cable fits .sponsors))
 
   k-lt : cable .k < cable .n
-  k-lt = omega (arith, sponsor-count cable sponsored)
+  k-lt = omega (arith, sponsor-count cable (fitting cable fits .sponsors))
 
   -- something was sent in slot q; the first n are those of the round before the start
   abbrev sentIn : List Call → ℕ → Bool
@@ -512,9 +512,9 @@ module _ (cable : Cable) (ring : ringSize (cable .n) ≡ true) (sponsored : spon
       len = run-length cable n-pos start begins [];
       at = refl;
       lists = let z : n ≡ 0 + n = omega arith in subst (λ (x : ℕ). Lists cable n-pos n-most k-pos (sentIn []) x (full n) (full n)) z (lists-start cable n-pos n-most k-pos (sentIn []) (λ q h. early [] q h));
-      nodes = λ i h l. subst (Stands cable n-pos n-most k-pos k-lt 0 (full n) (full n) i) (sym (start-record cable ring sponsored lent one-each i h l)) (start-stands cable n-pos n-most k-pos k-lt i h l);
+      nodes = λ i h l. subst (Stands cable n-pos n-most k-pos k-lt 0 (full n) (full n) i) (sym (start-record cable fits lent one-each i h l)) (start-stands cable n-pos n-most k-pos k-lt i h l);
     });
-    on = λ i o. ap (λ (v : Node). isMember (v .state)) (start-record cable ring sponsored lent one-each i (o .pos) (o .le));
+    on = λ i o. ap (λ (v : Node). isMember (v .state)) (start-record cable fits lent one-each i (o .pos) (o .le));
   }
 
   run : (cs : List Call) → OnlyOffs cable (tableAfter start) cs → TwoStayOn n cs → Run cs
@@ -586,4 +586,4 @@ module _ (cable : Cable) (ring : ringSize (cable .n) ≡ true) (sponsored : spon
 
 pub many-dead : ManyDead
 unfolding EverySequence
-many-dead cable ring sponsored lent one-each cs (oo, tw) = (at-start cable ring sponsored lent one-each, each cable ring sponsored lent one-each cs oo tw)
+many-dead cable fits lent one-each cs (oo, tw) = (at-start cable fits lent one-each, each cable fits lent one-each cs oo tw)

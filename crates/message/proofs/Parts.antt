@@ -6,9 +6,9 @@ use mathlib.Core.List.{List, _++_, append-assoc}
 use mathlib.Core.Bool.{Bool, cond}
 use native.Mathlib.Omega.{arith}
 use native.Mathlib.Nat.{add-sub-cancel-left}
-use lib.ListN.{length, take, drop, length-drop}
+use lib.ListN.{length, take, drop, length-append, length-drop}
 use lib.Seq.{length-take-le, drop-drop, take-at, drop-at}
-use Rattle.message.specs.Message.{sectionOf, acknowledgementSection, returnSection, messageOf, bytesFor, lengthOne, lengthOf}
+use Rattle.message.specs.Message.{sectionOf, acknowledgementSection, returnSection, jobSection, twoSections, messageOf, bytesFor, lengthOne, lengthTwo, lengthOf}
 use Rattle.message.proofs.Bytes.{length-bytesOf}
 
 pub length-section : (count size bits : ℕ) → length (sectionOf count size bits) ≡ 1 + size
@@ -22,32 +22,46 @@ first-put k a n out part e room is =
     ap (λ (l : List ℕ). l ++ drop n out) (is ∙ ap (λ (m : ℕ). sectionOf k m a) size)
     ∙ ap (λ (m : ℕ). acknowledgementSection k a ++ drop m out) e
 
--- section two is put after section one
-pub second-put : (k n : ℕ) (b : Bool) (out part : List ℕ) → n ≡ lengthOne k → lengthOf k ≤ length out
-    → part ≡ sectionOf 1 (length (take (n + 2 - n) (drop n out)) - 1) (cond b 1 0)
-    → take n out ++ (part ++ drop (n + 2 - n) (drop n out)) ≡ take (lengthOne k) out ++ (returnSection b ++ drop (lengthOf k) out)
-second-put k n b out part e room is =
+-- a section of one byte after its count is put from place n on
+pub byte-put : (count bits n : ℕ) (out part : List ℕ) → n + 2 ≤ length out → part ≡ sectionOf count (length (take (n + 2 - n) (drop n out)) - 1) bits
+    → take n out ++ (part ++ drop (n + 2 - n) (drop n out)) ≡ take n out ++ (sectionOf count 1 bits ++ drop (n + 2) out)
+byte-put count bits n out part room is =
     let two : n + 2 - n ≡ 2 = add-sub-cancel-left n 2 in
     let size : length (take (n + 2 - n) (drop n out)) - 1 ≡ 1 =
     rw two (omega (arith, length-take-le 2 (drop n out) (omega (arith, length-drop n out)))) in
-    let whole : part ≡ returnSection b = is ∙ ap (λ (m : ℕ). sectionOf 1 m (cond b 1 0)) size in
+    let whole : part ≡ sectionOf count 1 bits = is ∙ ap (λ (m : ℕ). sectionOf count m bits) size in
     let rest : drop (n + 2 - n) (drop n out) ≡ drop (n + 2) out = rw two (drop-drop 2 n out) in
     ap (λ (l : List ℕ). take n out ++ (l ++ drop (n + 2 - n) (drop n out))) whole
-    ∙ ap (λ (l : List ℕ). take n out ++ (returnSection b ++ l)) rest
-    ∙ ap (λ (m : ℕ). take m out ++ (returnSection b ++ drop (m + 2) out)) e
+    ∙ ap (λ (l : List ℕ). take n out ++ (sectionOf count 1 bits ++ l)) rest
 
--- both sections are the message
-pub both-put : (k a : ℕ) (b : Bool) (out : List ℕ)
-    → take (lengthOne k) (acknowledgementSection k a ++ drop (lengthOne k) out)
-    ++ (returnSection b ++ drop (lengthOf k) (acknowledgementSection k a ++ drop (lengthOne k) out))
-    ≡ messageOf k a b ++ drop (lengthOf k) out
-unfolding messageOf
-both-put k a b out =
-    let one = acknowledgementSection k a in
-    let n = lengthOne k in
-    let front : take n (one ++ drop n out) ≡ one = take-at one (drop n out) n (length-section k (bytesFor k) a) in
-    let back : drop (n + 2) (one ++ drop n out) ≡ drop (n + 2) out =
-    sym (drop-drop 2 n (one ++ drop n out)) ∙ ap (drop 2) (drop-at one (drop n out) n (length-section k (bytesFor k) a)) ∙ drop-drop 2 n out in
-    ap (λ (l : List ℕ). l ++ (returnSection b ++ drop (n + 2) (one ++ drop n out))) front
-    ∙ ap (λ (l : List ℕ). one ++ (returnSection b ++ l)) back
-    ∙ sym (append-assoc one (returnSection b) (drop (n + 2) out))
+-- what is put after the n bytes in front stands after them
+put-after : (n : ℕ) (front more out : List ℕ) → length front ≡ n
+    → take n (front ++ drop n out) ++ (more ++ drop (n + 2) (front ++ drop n out)) ≡ (front ++ more) ++ drop (n + 2) out
+put-after n front more out long =
+    let before : take n (front ++ drop n out) ≡ front = take-at front (drop n out) n long in
+    let back : drop (n + 2) (front ++ drop n out) ≡ drop (n + 2) out =
+    sym (drop-drop 2 n (front ++ drop n out)) ∙ ap (drop 2) (drop-at front (drop n out) n long) ∙ drop-drop 2 n out in
+    ap (λ (l : List ℕ). l ++ (more ++ drop (n + 2) (front ++ drop n out))) before
+    ∙ ap (λ (l : List ℕ). front ++ (more ++ l)) back
+    ∙ sym (append-assoc front more (drop (n + 2) out))
+
+pub length-two : (k a : ℕ) (b : Bool) → length (twoSections k a b) ≡ lengthTwo k
+unfolding twoSections
+length-two k a b =
+    omega (arith, length-append (acknowledgementSection k a) (returnSection b), length-section k (bytesFor k) a, length-section 1 1 (cond b 1 0))
+
+-- the three sections are the message: `one`, `two`, `three` are the lent bytes after each of them
+pub all-put : (k m a : ℕ) (b : Bool) (j : ℕ) (out one two three : List ℕ)
+    → one ≡ acknowledgementSection k a ++ drop (lengthOne k) out
+    → two ≡ take (lengthOne k) one ++ (returnSection b ++ drop (lengthTwo k) one)
+    → three ≡ take (lengthTwo k) two ++ (jobSection m j ++ drop (lengthOf k) two)
+    → three ≡ messageOf k m a b j ++ drop (lengthOf k) out
+unfolding messageOf twoSections
+all-put k m a b j out one two three e₁ e₂ e₃ =
+    let both : two ≡ twoSections k a b ++ drop (lengthTwo k) out =
+    e₂
+    ∙ ap (λ (l : List ℕ). take (lengthOne k) l ++ (returnSection b ++ drop (lengthTwo k) l)) e₁
+    ∙ put-after (lengthOne k) (acknowledgementSection k a) (returnSection b) out (length-section k (bytesFor k) a) in
+    e₃
+    ∙ ap (λ (l : List ℕ). take (lengthTwo k) l ++ (jobSection m j ++ drop (lengthOf k) l)) both
+    ∙ put-after (lengthTwo k) (twoSections k a b) (jobSection m j) out (length-two k a b)

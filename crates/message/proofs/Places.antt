@@ -2,13 +2,13 @@
 -- Assumes nothing.
 use Prim.Native.Nat.{ℕ, zero, suc, _+_, _-_, _*_, _/_, _%_, _^_, _<_}
 use mathlib.Core.Path.{_≡_, sym, ap, _∙_}
-use mathlib.Core.List.{_++_}
+use mathlib.Core.List.{List, _++_, append-assoc}
 use mathlib.Core.Bool.{Bool}
 use native.Mathlib.Omega.{arith}
 use native.Mathlib.Nat.{div-one}
 use lib.ListN.{getD, List·getD-append}
 use lib.Pow.{field, mod-mod-pow, shr-shr}
-use Rattle.message.specs.Message.{bytesFor, bytesOf, messageOf, returnSection}
+use Rattle.message.specs.Message.{bytesFor, bytesOf, jobSection, messageOf, returnSection, twoSections}
 use Rattle.message.proofs.Bytes.{length-bytesOf}
 
 -- byte j of a number
@@ -31,14 +31,15 @@ low-bit x r h =
     ∙ mod-mod-pow (x / 2 ^ r) (7 - r) 1
 
 -- The acknowledgement that document 01 calls bit i + 1 is bit i % 8 of the byte i / 8 after the count.
-pub bit-place : (k a : ℕ) (b : Bool) (i : ℕ) → i < k → getD (messageOf k a b) (suc (i / 8)) 0 / 2 ^ (i % 8) % 2 ≡ a / 2 ^ i % 2
-unfolding messageOf
-bit-place k a b i h =
-    let j = i / 8 in
-    let inside : j < bytesFor k = omega arith in
-    let whole : 8 * j + i % 8 ≡ i = omega arith in
-    let byte : getD (bytesOf (bytesFor k) a ++ returnSection b) j 0 ≡ a / 2 ^ (8 * j) % 256 =
-    List·getD-append (bytesOf (bytesFor k) a) (returnSection b) 0 j (omega (arith, length-bytesOf (bytesFor k) a)) ∙ byte-at (bytesFor k) a j inside in
+pub bit-place : (k m a : ℕ) (b : Bool) (j i : ℕ) → i < k → getD (messageOf k m a b j) (suc (i / 8)) 0 / 2 ^ (i % 8) % 2 ≡ a / 2 ^ i % 2
+unfolding messageOf twoSections
+bit-place k m a b j i h =
+    let q = i / 8 in
+    let inside : q < bytesFor k = omega arith in
+    let whole : 8 * q + i % 8 ≡ i = omega arith in
+    let byte : getD ((bytesOf (bytesFor k) a ++ returnSection b) ++ jobSection m j) q 0 ≡ a / 2 ^ (8 * q) % 256 =
+    ap (λ (l : List ℕ). getD l q 0) (append-assoc (bytesOf (bytesFor k) a) (returnSection b) (jobSection m j))
+    ∙ List·getD-append (bytesOf (bytesFor k) a) (returnSection b ++ jobSection m j) 0 q (omega (arith, length-bytesOf (bytesFor k) a)) ∙ byte-at (bytesFor k) a q inside in
     ap (λ (x : ℕ). x / 2 ^ (i % 8) % 2) byte
-    ∙ low-bit (a / 2 ^ (8 * j)) (i % 8) (omega arith)
-    ∙ ap (λ (x : ℕ). x % 2) (shr-shr a (8 * j) (i % 8) ∙ ap (λ (e : ℕ). a / 2 ^ e) whole)
+    ∙ low-bit (a / 2 ^ (8 * q)) (i % 8) (omega arith)
+    ∙ ap (λ (x : ℕ). x % 2) (shr-shr a (8 * q) (i % 8) ∙ ap (λ (e : ℕ). a / 2 ^ e) whole)

@@ -1,24 +1,25 @@
--- What is written is read back, and each readable message is the one that is written for what it reads as: for every k from 2 to 31 at once,
+-- What is written is read back, and each readable message is the one that is written for what it reads as: for every k from 2 to 31 and m from 0 to 8 at once,
 -- from one law for any section (`found`, `rebuilt`). Assumes nothing.
 use Prim.Native.Nat.{ℕ, _+_, _*_, _%_, _^_, _≤_, _<_}
-use mathlib.Core.Path.{_≡_, refl, sym, ap, _∙_}
-use mathlib.Core.List.{List, [], _∷_, _++_}
-use mathlib.Core.Bool.{Bool, true, false, cond}
+use mathlib.Core.Path.{_≡_, refl, sym, ap, ap₂, _∙_}
+use mathlib.Core.List.{List, [], _∷_, _++_, append-assoc}
+use mathlib.Core.Bool.{Bool, true, false, cond, _&&_}
 use native.Mathlib.Omega.{arith}
 use native.Mathlib.Nat.{lt-of-lt-of-le, min-le-left, min-le-right}
 use lib.ListN.{length, getD, take, drop, length-append, length-drop, length-take, take-append-drop}
-use lib.Seq.{length-take-le, take-all, take-at, drop-at, getD-take}
+use lib.Seq.{length-take-le, take-all, take-at, drop-at, drop-drop, getD-take}
 use lib.Dec.{eqb, ltb, leb}
 use lib.Pow.{pow-mono}
-use borrow.Author.Tests.{eq-eqb, lt-ltb, ltb-true, le-leb, eqb-true, eqb-false}
-use Rattle.message.specs.declared.Reading.{Reading}
+use borrow.Author.Tests.{eq-eqb, lt-ltb, ltb-true, le-leb, leb-true, eqb-true, eqb-false}
+use Rattle.ring.specs.Ring.{jobCount}
+use Rattle.message.specs.declared.Received.{Received}
 use Rattle.message.specs.declared.Reading.the-variants.{Heard}
 use Rattle.message.specs.declared.Section.{Section}
 use Rattle.message.specs.declared.Written.the-variants.{Bytes as Written}
-use Rattle.message.specs.Message.{Outcome, acknowledgementSection, bitsIn, bytesFor, bytesOf, ifRead, ifWritten, inRange, lengthOf, lengthOne, little, messageOf, partOne, partTwo, readOf, returnSection, saidBy, sectionIn, sectionOf, writeOf}
+use Rattle.message.specs.Message.{Outcome, acknowledgementSection, bitsIn, bytesFor, bytesOf, heard, ifRead, ifWritten, inRange, jobSection, lengthOf, lengthOne, lengthTwo, little, messageOf, partOne, partThree, partTwo, readOf, returnSection, saidBy, twoSections, sectionIn, sectionOf, writeOf}
 use Rattle.message.proofs.Bytes.{Bytes, bytes-tail, bytes-drop, little-bytesOf, bytesOf-little}
-use Rattle.message.proofs.Parts.{length-section}
-use Rattle.message.proofs.Tests.{bit-small, in-range}
+use Rattle.message.proofs.Parts.{length-section, length-two}
+use Rattle.message.proofs.Tests.{both, bit-small, in-range}
 
 -- ---- one section
 
@@ -39,18 +40,25 @@ rebuilt count size (x ∷ rest) long h is =
 
 -- ---- the message
 
-pub length-message : (k a : ℕ) (b : Bool) → length (messageOf k a b) ≡ lengthOf k
+pub length-message : (k m a : ℕ) (b : Bool) (j : ℕ) → length (messageOf k m a b j) ≡ lengthOf k
 unfolding messageOf
-length-message k a b =
-    omega (arith, length-append (acknowledgementSection k a) (returnSection b), length-section k (bytesFor k) a, length-section 1 1 (cond b 1 0))
+length-message k m a b j = omega (arith, length-append (twoSections k a b) (jobSection m j), length-two k a b, length-section m 1 j)
 
-first-part : (k a : ℕ) (b : Bool) → partOne k (messageOf k a b) ≡ acknowledgementSection k a
-unfolding messageOf
-first-part k a b = take-at (acknowledgementSection k a) (returnSection b) (lengthOne k) (length-section k (bytesFor k) a)
+first-part : (k m a : ℕ) (b : Bool) (j : ℕ) → partOne k (messageOf k m a b j) ≡ acknowledgementSection k a
+unfolding messageOf twoSections
+first-part k m a b j =
+    ap (take (lengthOne k)) (append-assoc (acknowledgementSection k a) (returnSection b) (jobSection m j))
+    ∙ take-at (acknowledgementSection k a) (returnSection b ++ jobSection m j) (lengthOne k) (length-section k (bytesFor k) a)
 
-second-part : (k a : ℕ) (b : Bool) → partTwo k (messageOf k a b) ≡ returnSection b
+second-part : (k m a : ℕ) (b : Bool) (j : ℕ) → partTwo k (messageOf k m a b j) ≡ returnSection b
+unfolding messageOf twoSections bytesOf
+second-part k m a b j =
+    ap (λ (l : List ℕ). take 2 (drop (lengthOne k) l)) (append-assoc (acknowledgementSection k a) (returnSection b) (jobSection m j))
+    ∙ ap (take 2) (drop-at (acknowledgementSection k a) (returnSection b ++ jobSection m j) (lengthOne k) (length-section k (bytesFor k) a))
+
+third-part : (k m a : ℕ) (b : Bool) (j : ℕ) → partThree k (messageOf k m a b j) ≡ jobSection m j
 unfolding messageOf bytesOf
-second-part k a b = ap (take 2) (drop-at (acknowledgementSection k a) (returnSection b) (lengthOne k) (length-section k (bytesFor k) a))
+third-part k m a b j = ap (take 2) (drop-at (twoSections k a b) (jobSection m j) (lengthTwo k) (length-two k a b))
 
 bit-back : (b : Bool) → eqb (cond b 1 0 % 2) 1 ≡ b
 bit-back true = refl
@@ -60,65 +68,99 @@ bit-back false = refl
 abbrev right : ℕ → Section
 right bits = record { counted = true; clear = true; bits = bits }
 
-said-right : (a : ℕ) (b : Bool) → saidBy (right a) (right (cond b 1 0)) ≡ Heard a b
+said-right : (a : ℕ) (b : Bool) (j : ℕ) → j < 256 → saidBy (right a) (right (cond b 1 0)) (right j) ≡ heard a b j
 unfolding saidBy
-said-right a b = ap (Heard a) (bit-back b)
+said-right a b j h = let whole : j % 256 ≡ j = omega arith in ap₂ (heard a) (bit-back b) whole
+
+-- m jobs fit a byte
+pub jobs-fit : (m j : ℕ) → m ≤ 8 → j < 2 ^ m → j < 256
+jobs-fit m j h l = lt-of-lt-of-le l (pow-mono h)
 
 -- What is written is read back.
-pub read-written : (k a : ℕ) (b : Bool) → 2 ≤ k → k ≤ 31 → a < 2 ^ k → readOf k (messageOf k a b) ≡ Heard a b
+pub read-written : (k m a : ℕ) (b : Bool) (j : ℕ) → 2 ≤ k → k ≤ 31 → m ≤ 8 → a < 2 ^ k → j < 2 ^ m → readOf k m (messageOf k m a b j) ≡ heard a b j
 unfolding readOf
-read-written k a b low high h =
-    let bytes = messageOf k a b in
-    let one : sectionIn k (partOne k bytes) ≡ right a = ap (sectionIn k) (first-part k a b) ∙ found k (bytesFor k) a h (omega arith) in
-    let two : sectionIn 1 (partTwo k bytes) ≡ right (cond b 1 0) = ap (sectionIn 1) (second-part k a b) ∙ found 1 1 (cond b 1 0) (bit-small b) (omega arith) in
-    simp (le-leb 2 k low, le-leb k 31 high, eq-eqb (length bytes) (lengthOf k) (length-message k a b))
-    (ap (λ (s : Section). saidBy s (sectionIn 1 (partTwo k bytes))) one ∙ ap (saidBy (right a)) two ∙ said-right a b)
+read-written k m a b j low high few h l =
+    let bytes = messageOf k m a b j in
+    let one : sectionIn k (partOne k bytes) ≡ right a = ap (sectionIn k) (first-part k m a b j) ∙ found k (bytesFor k) a h (omega arith) in
+    let two : sectionIn 1 (partTwo k bytes) ≡ right (cond b 1 0) = ap (sectionIn 1) (second-part k m a b j) ∙ found 1 1 (cond b 1 0) (bit-small b) (omega arith) in
+    let three : sectionIn m (partThree k bytes) ≡ right j = ap (sectionIn m) (third-part k m a b j) ∙ found m 1 j l (omega arith) in
+    simp (le-leb 2 k low, le-leb k 31 high, le-leb m 8 few, eq-eqb (length bytes) (lengthOf k) (length-message k m a b j))
+    (ap (λ (s : Section). saidBy s (sectionIn 1 (partTwo k bytes)) (sectionIn m (partThree k bytes))) one
+    ∙ ap (λ (s : Section). saidBy (right a) s (sectionIn m (partThree k bytes))) two
+    ∙ ap (saidBy (right a) (right (cond b 1 0))) three
+    ∙ said-right a b j (jobs-fit m j few l))
 
 -- what passes a test of the reader
-passed : (t : Bool) (number : ℕ) (answer : Reading) (a : ℕ) (b : Bool) → ifRead t number answer ≡ Heard a b → (t ≡ true) × (answer ≡ Heard a b)
-passed true number answer a b e = (refl, e)
-passed false number answer a b e = let z : _≡_ {A = ℕ} 0 1 = cc in absurd (omega arith)
+passed : (t : Bool) (number : ℕ) (answer : Received) (a : ℕ) (b : Bool) (j : ℕ) → ifRead t number answer ≡ heard a b j → (t ≡ true) × (answer ≡ heard a b j)
+passed true number answer a b j e = (refl, e)
+passed false number answer a b j e =
+    let readings = ap (λ (r : Received). r .reading) e in
+    let z : _≡_ {A = ℕ} 0 1 = cc in
+    absurd (omega arith)
 
 -- the tests that a readable message passes
-pub record Passed (k : ℕ) (bytes : List ℕ) (a : ℕ) (b : Bool) : Type 0 where
+pub record Passed (k m : ℕ) (bytes : List ℕ) (a : ℕ) (b : Bool) (j : ℕ) : Type 0 where
   pub low : 2 ≤ k
   pub high : k ≤ 31
+  pub few : m ≤ 8
   pub sized : length bytes ≡ lengthOf k
   pub count-one : getD (partOne k bytes) 0 0 ≡ k
   pub count-two : getD (partTwo k bytes) 0 0 ≡ 1
+  pub count-three : getD (partThree k bytes) 0 0 ≡ m
   pub clear-one : bitsIn (partOne k bytes) < 2 ^ k
   pub clear-two : bitsIn (partTwo k bytes) < 2 ^ 1
+  pub clear-three : bitsIn (partThree k bytes) < 2 ^ m
   pub one : bitsIn (partOne k bytes) ≡ a
   pub two : eqb (bitsIn (partTwo k bytes) % 2) 1 ≡ b
+  pub three : bitsIn (partThree k bytes) ≡ j
 
-pub passed-all : (k a : ℕ) (b : Bool) (bytes : List ℕ) → readOf k bytes ≡ Heard a b → Passed k bytes a b
+pub passed-all : (k m a : ℕ) (b : Bool) (j : ℕ) (bytes : List ℕ) → readOf k m bytes ≡ heard a b j → Passed k m bytes a b j
 unfolding readOf saidBy
-passed-all k a b bytes e =
-    let p1 = passed _ _ _ a b e in
-    let p2 = passed _ _ _ a b (p1 .1) in
-    let p3 = passed _ _ _ a b (p2 .1) in
-    let p4 = passed _ _ _ a b (p3 .1) in
-    let p5 = passed _ _ _ a b (p4 .1) in
-    let p6 = passed _ _ _ a b (p5 .1) in
+passed-all k m a b j bytes e =
+    let p1 = passed _ _ _ a b j e in
+    let p2 = passed _ _ _ a b j (p1 .1) in
+    let p3 = passed _ _ _ a b j (p2 .1) in
+    let p4 = passed _ _ _ a b j (p3 .1) in
+    let p5 = passed _ _ _ a b j (p4 .1) in
     let r = in-range k (p1 .0) in
-    let last : Heard (bitsIn (partOne k bytes)) (eqb (bitsIn (partTwo k bytes) % 2) 1) ≡ Heard a b = p6 .1 in
+    let few = leb-true m 8 (p2 .0) in
+    let c₁ = both (eqb (getD (partOne k bytes) 0 0) k) _ (p4 .0) in
+    let c₂ = both (eqb (getD (partTwo k bytes) 0 0) 1) _ (c₁ .1) in
+    let d₁ = both (ltb (bitsIn (partOne k bytes)) (2 ^ k)) _ (p5 .0) in
+    let d₂ = both (ltb (bitsIn (partTwo k bytes)) (2 ^ 1)) _ (d₁ .1) in
+    let last : heard (bitsIn (partOne k bytes)) (eqb (bitsIn (partTwo k bytes) % 2) 1) (bitsIn (partThree k bytes) % 256) ≡ heard a b j = p5 .1 in
+    let said : Heard (bitsIn (partOne k bytes)) (eqb (bitsIn (partTwo k bytes) % 2) 1) ≡ Heard a b = ap (λ (r : Received). r .reading) last in
+    let jobs : bitsIn (partThree k bytes) % 256 ≡ j = ap (λ (r : Received). r .jobs) last in
+    let clear = ltb-true (bitsIn (partThree k bytes)) (2 ^ m) (d₂ .1) in
+    let byte = jobs-fit m (bitsIn (partThree k bytes)) few clear in
     record {
       low = r .0;
       high = r .1;
-      sized = eqb-true (length bytes) (lengthOf k) (p2 .0);
-      count-one = eqb-true (getD (partOne k bytes) 0 0) k (p3 .0);
-      count-two = eqb-true (getD (partTwo k bytes) 0 0) 1 (p4 .0);
-      clear-one = ltb-true (bitsIn (partOne k bytes)) (2 ^ k) (p5 .0);
-      clear-two = ltb-true (bitsIn (partTwo k bytes)) (2 ^ 1) (p6 .0);
-      one = cc last;
-      two = cc last;
+      few = few;
+      sized = eqb-true (length bytes) (lengthOf k) (p3 .0);
+      count-one = eqb-true (getD (partOne k bytes) 0 0) k (c₁ .0);
+      count-two = eqb-true (getD (partTwo k bytes) 0 0) 1 (c₂ .0);
+      count-three = eqb-true (getD (partThree k bytes) 0 0) m (c₂ .1);
+      clear-one = ltb-true (bitsIn (partOne k bytes)) (2 ^ k) (d₁ .0);
+      clear-two = ltb-true (bitsIn (partTwo k bytes)) (2 ^ 1) (d₂ .0);
+      clear-three = clear;
+      one = cc said;
+      two = cc said;
+      three = omega arith;
     }
 
--- What is heard is in range: k is 2 to 31, and no acknowledgement is past k.
-pub heard-range : (k a : ℕ) (b : Bool) (bytes : List ℕ) → readOf k bytes ≡ Heard a b → (2 ≤ k) × (k ≤ 31) × (a < 2 ^ k)
-heard-range k a b bytes e =
-    let p = passed-all k a b bytes e in
-    (p .low, p .high, rw (sym (p .one)) (p .clear-one))
+-- What is heard is in range: k is 2 to 31, m is 0 to 8, no acknowledgement is past k and no job past m.
+pub record InRange (k m a j : ℕ) : Type 0 where
+  pub low : 2 ≤ k
+  pub high : k ≤ 31
+  pub few : m ≤ 8
+  pub within : a < 2 ^ k
+  pub counted : j < 2 ^ m
+
+pub heard-range : (k m a : ℕ) (b : Bool) (j : ℕ) (bytes : List ℕ) → readOf k m bytes ≡ heard a b j → InRange k m a j
+heard-range k m a b j bytes e =
+    let p = passed-all k m a b j bytes e in
+    record { low = p .low; high = p .high; few = p .few; within = rw (sym (p .one)) (p .clear-one); counted = rw (sym (p .three)) (p .clear-three) }
 
 bytes-take : (n : ℕ) (l : List ℕ) → Bytes l → Bytes (take n l)
 bytes-take n l h i below =
@@ -132,27 +174,39 @@ bit-is x true small e = let o : x % 2 ≡ 1 = eqb-true (x % 2) 1 e in omega arit
 bit-is x false small e = let o : x % 2 ≡ 1 → ⊥ = eqb-false (x % 2) 1 e in omega arith
 
 -- the sections of a readable message are those that are written
-one-is : (k a : ℕ) (b : Bool) (bytes : List ℕ) → Bytes bytes → Passed k bytes a b → partOne k bytes ≡ acknowledgementSection k a
-one-is k a b bytes h p =
+one-is : (k m a : ℕ) (b : Bool) (j : ℕ) (bytes : List ℕ) → Bytes bytes → Passed k m bytes a b j → partOne k bytes ≡ acknowledgementSection k a
+one-is k m a b j bytes h p =
     let long = length-take-le (lengthOne k) bytes (omega (arith, p .sized)) in
     rebuilt k (bytesFor k) (partOne k bytes) long (bytes-take (lengthOne k) bytes h) (p .count-one) ∙ ap (sectionOf k (bytesFor k)) (p .one)
 
-two-is : (k a : ℕ) (b : Bool) (bytes : List ℕ) → Bytes bytes → Passed k bytes a b → drop (lengthOne k) bytes ≡ returnSection b
-two-is k a b bytes h p =
-    let rest = drop (lengthOne k) bytes in
-    let long : length rest ≡ 2 = omega (arith, length-drop (lengthOne k) bytes, p .sized) in
-    let all : take 2 rest ≡ rest = take-all 2 rest (omega arith) in
-    let part = rebuilt 1 1 (take 2 rest) (ap length all ∙ long) (bytes-take 2 rest (bytes-drop (lengthOne k) bytes h)) (p .count-two) in
-    sym all ∙ part ∙ ap (sectionOf 1 1) (bit-is (bitsIn (take 2 rest)) b (p .clear-two) (p .two))
+-- a section of one byte that holds its count
+byte-is : (count start : ℕ) (bytes : List ℕ) → Bytes bytes → start + 2 ≤ length bytes → getD (take 2 (drop start bytes)) 0 0 ≡ count
+    → take 2 (drop start bytes) ≡ sectionOf count 1 (bitsIn (take 2 (drop start bytes)))
+byte-is count start bytes h room is =
+    let long = length-take-le 2 (drop start bytes) (omega (arith, length-drop start bytes)) in
+    rebuilt count 1 (take 2 (drop start bytes)) long (bytes-take 2 (drop start bytes) (bytes-drop start bytes h)) is
+
+two-is : (k m a : ℕ) (b : Bool) (j : ℕ) (bytes : List ℕ) → Bytes bytes → Passed k m bytes a b j → partTwo k bytes ≡ returnSection b
+two-is k m a b j bytes h p =
+    byte-is 1 (lengthOne k) bytes h (omega (arith, p .sized)) (p .count-two) ∙ ap (sectionOf 1 1) (bit-is (bitsIn (partTwo k bytes)) b (p .clear-two) (p .two))
+
+three-is : (k m a : ℕ) (b : Bool) (j : ℕ) (bytes : List ℕ) → Bytes bytes → Passed k m bytes a b j → drop (lengthTwo k) bytes ≡ jobSection m j
+three-is k m a b j bytes h p =
+    let rest = drop (lengthTwo k) bytes in
+    let all : take 2 rest ≡ rest = take-all 2 rest (omega (arith, length-drop (lengthTwo k) bytes, p .sized)) in
+    sym all ∙ byte-is m (lengthTwo k) bytes h (omega (arith, p .sized)) (p .count-three) ∙ ap (sectionOf m 1) (p .three)
 
 -- Readable bytes are the message of what they read as.
-pub message-read : (k a : ℕ) (b : Bool) (bytes : List ℕ) → Bytes bytes → readOf k bytes ≡ Heard a b → bytes ≡ messageOf k a b
-unfolding messageOf
-message-read k a b bytes h e =
-    let p = passed-all k a b bytes e in
+pub message-read : (k m a : ℕ) (b : Bool) (j : ℕ) (bytes : List ℕ) → Bytes bytes → readOf k m bytes ≡ heard a b j → bytes ≡ messageOf k m a b j
+unfolding messageOf twoSections
+message-read k m a b j bytes h e =
+    let p = passed-all k m a b j bytes e in
     sym (take-append-drop (lengthOne k) bytes)
-    ∙ ap (λ (l : List ℕ). l ++ drop (lengthOne k) bytes) (one-is k a b bytes h p)
-    ∙ ap (λ (l : List ℕ). acknowledgementSection k a ++ l) (two-is k a b bytes h p)
+    ∙ ap (λ (l : List ℕ). l ++ drop (lengthOne k) bytes) (one-is k m a b j bytes h p)
+    ∙ ap (λ (l : List ℕ). acknowledgementSection k a ++ l) (sym (take-append-drop 2 (drop (lengthOne k) bytes)))
+    ∙ ap (λ (l : List ℕ). acknowledgementSection k a ++ (l ++ drop 2 (drop (lengthOne k) bytes))) (two-is k m a b j bytes h p)
+    ∙ ap (λ (l : List ℕ). acknowledgementSection k a ++ (returnSection b ++ l)) (drop-drop 2 (lengthOne k) bytes ∙ three-is k m a b j bytes h p)
+    ∙ sym (append-assoc (acknowledgementSection k a) (returnSection b) (jobSection m j))
 
 -- ---- what the writer does
 
@@ -166,49 +220,47 @@ put false number out outcome n after e =
     absurd (omega arith)
 
 -- what holds where bytes were written
-pub record Put (k a : ℕ) (b : Bool) (out : List ℕ) (n : ℕ) (after : List ℕ) : Type 0 where
-  pub low : 2 ≤ k
-  pub high : k ≤ 31
-  pub within : a < 2 ^ k
+pub record Put (k m a : ℕ) (b : Bool) (j : ℕ) (out : List ℕ) (n : ℕ) (after : List ℕ) : Type 0 where
+  pub ranged : InRange k m a j
   pub told : lengthOf k ≡ n
-  pub left : messageOf k a b ++ drop (lengthOf k) out ≡ after
+  pub left : messageOf k m a b j ++ drop (lengthOf k) out ≡ after
 
-pub put-all : (k a : ℕ) (b : Bool) (out : List ℕ) (n : ℕ) (after : List ℕ) → writeOf k a b out ≡ (Written n, after) → Put k a b out n after
+pub put-all : (k m a : ℕ) (b : Bool) (j : ℕ) (out : List ℕ) (n : ℕ) (after : List ℕ) → writeOf k m a b j out ≡ (Written n, after) → Put k m a b j out n after
 unfolding writeOf
-put-all k a b out n after e =
+put-all k m a b j out n after e =
     let p1 = put (inRange k) 2 out _ n after e in
-    let p2 = put (ltb a (2 ^ k)) 8 out _ n after (p1 .1) in
-    let p3 = put (leb (lengthOf k) (length out)) 9 out _ n after (p2 .1) in
+    let p2 = put (jobCount m) 14 out _ n after (p1 .1) in
+    let p3 = put (ltb a (2 ^ k) && ltb j (2 ^ m)) 8 out _ n after (p2 .1) in
+    let p4 = put (leb (lengthOf k) (length out)) 9 out _ n after (p3 .1) in
     let r = in-range k (p1 .0) in
-    let answer : Written (lengthOf k) ≡ Written n = ap (λ (o : Outcome). o .0) (p3 .1) in
+    let w = both (ltb a (2 ^ k)) (ltb j (2 ^ m)) (p3 .0) in
+    let answer : Written (lengthOf k) ≡ Written n = ap (λ (o : Outcome). o .0) (p4 .1) in
     record {
-      low = r .0;
-      high = r .1;
-      within = ltb-true a (2 ^ k) (p2 .0);
+      ranged = record { low = r .0; high = r .1; few = leb-true m 8 (p2 .0); within = ltb-true a (2 ^ k) (w .0); counted = ltb-true j (2 ^ m) (w .1) };
       told = cc answer;
-      left = ap (λ (o : Outcome). o .1) (p3 .1);
+      left = ap (λ (o : Outcome). o .1) (p4 .1);
     }
 
--- The writer is not refused where k is in range, no acknowledgement is past k and there is room.
-pub puts : (k a : ℕ) (b : Bool) (out : List ℕ) → 2 ≤ k → k ≤ 31 → a < 2 ^ k → lengthOf k ≤ length out
-    → writeOf k a b out ≡ (Written (lengthOf k), messageOf k a b ++ drop (lengthOf k) out)
+-- The writer is not refused where all is in range and there is room.
+pub puts : (k m a : ℕ) (b : Bool) (j : ℕ) (out : List ℕ) → InRange k m a j → lengthOf k ≤ length out
+    → writeOf k m a b j out ≡ (Written (lengthOf k), messageOf k m a b j ++ drop (lengthOf k) out)
 unfolding writeOf
-puts k a b out low high h room =
-    simp (le-leb 2 k low, le-leb k 31 high, lt-ltb a (2 ^ k) h, le-leb (lengthOf k) (length out) room)
+puts k m a b j out r room =
+    simp (le-leb 2 k (r .low), le-leb k 31 (r .high), le-leb m 8 (r .few), lt-ltb a (2 ^ k) (r .within), lt-ltb j (2 ^ m) (r .counted), le-leb (lengthOf k) (length out) room)
 
 -- Each readable message is the one that the writer writes for what it reads as, where there is room; what stood after it stands there still.
-pub written-read : (k a : ℕ) (b : Bool) (bytes out : List ℕ) → Bytes bytes → readOf k bytes ≡ Heard a b → length bytes ≤ length out
-    → writeOf k a b out ≡ (Written (length bytes), bytes ++ drop (length bytes) out)
-written-read k a b bytes out h e room =
-    let r = heard-range k a b bytes e in
-    let long : length bytes ≡ lengthOf k = passed-all k a b bytes e .sized in
-    let is = message-read k a b bytes h e in
-    let wrote = puts k a b out (r .0) (r .1) (r .2) (omega arith) in
+pub written-read : (k m a : ℕ) (b : Bool) (j : ℕ) (bytes out : List ℕ) → Bytes bytes → readOf k m bytes ≡ heard a b j → length bytes ≤ length out
+    → writeOf k m a b j out ≡ (Written (length bytes), bytes ++ drop (length bytes) out)
+written-read k m a b j bytes out h e room =
+    let long : length bytes ≡ lengthOf k = passed-all k m a b j bytes e .sized in
+    let is = message-read k m a b j bytes h e in
+    let wrote = puts k m a b j out (heard-range k m a b j bytes e) (omega arith) in
     cc
 
 -- What the writer leaves in the lent bytes is read back.
-pub read-back : (k a : ℕ) (b : Bool) (out : List ℕ) (n : ℕ) (after : List ℕ) → writeOf k a b out ≡ (Written n, after) → readOf k (take n after) ≡ Heard a b
-read-back k a b out n after e =
-    let p = put-all k a b out n after e in
-    let front = take-at (messageOf k a b) (drop (lengthOf k) out) n (length-message k a b ∙ p .told) in
-    ap (λ (l : List ℕ). readOf k (take n l)) (sym (p .left)) ∙ ap (readOf k) front ∙ read-written k a b (p .low) (p .high) (p .within)
+pub read-back : (k m a : ℕ) (b : Bool) (j : ℕ) (out : List ℕ) (n : ℕ) (after : List ℕ) → writeOf k m a b j out ≡ (Written n, after) → readOf k m (take n after) ≡ heard a b j
+read-back k m a b j out n after e =
+    let p = put-all k m a b j out n after e in
+    let r = p .ranged in
+    let front = take-at (messageOf k m a b j) (drop (lengthOf k) out) n (length-message k m a b j ∙ p .told) in
+    ap (λ (l : List ℕ). readOf k m (take n l)) (sym (p .left)) ∙ ap (readOf k m) front ∙ read-written k m a b j (r .low) (r .high) (r .few) (r .within) (r .counted)

@@ -2,7 +2,7 @@
 -- Assumes nothing.
 use Prim.Native.Nat.{ℕ, _/_, _^_, _≤_, _<_}
 use mathlib.Core.Path.{_≡_, refl, sym, _∙_}
-use mathlib.Core.Bool.{Bool, true, false, cond, and-eq-true-iff}
+use mathlib.Core.Bool.{Bool, true, false, cond, _&&_, and-eq-true-iff}
 use native.Mathlib.Omega.{arith}
 use native.Mathlib.Decide.{decLt}
 use native.Mathlib.Nat.{div-eq-of-lt, le-div-iff-mul-le}
@@ -21,6 +21,10 @@ shifted-out bits count = go (decLt bits (2 ^ count))
     go (no h) =
         let some : 1 ≤ bits / 2 ^ count = le-div-iff-mul-le (pow-pos count) .1 (omega arith) in
         ne-eqb (bits / 2 ^ count) 0 (λ e. omega arith) ∙ sym (le-ltb bits (2 ^ count) (omega arith))
+
+-- a test of two holds where both do
+pub both : (a b : Bool) → (a && b) ≡ true → (a ≡ true) × (b ≡ true)
+both a b e = and-eq-true-iff a b .0 e
 
 -- a k in range, as numbers
 pub in-range : (k : ℕ) → inRange k ≡ true → (2 ≤ k) × (k ≤ 31)

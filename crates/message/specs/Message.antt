@@ -1,13 +1,15 @@
--- Document 01, "The message": the bytes of a message, what reading finds in bytes, and what writing leaves.
+-- Document 01, "The message", with the third section of request h: the bytes of a message, what reading finds in bytes, and what writing leaves.
 -- A section is its count and then the bits that are counted. Acknowledgements are a number whose lowest bit is bit 1 of the document.
 use Prim.Native.Nat.{ℕ, zero, suc, _+_, _*_, _/_, _%_, _^_}
 use mathlib.Core.List.{List, [], _∷_, _++_}
 use mathlib.Core.Bool.{Bool, true, false, cond, _&&_}
 use lib.ListN.{length, getD, take, drop}
 use lib.Dec.{eqb, ltb, leb}
+use Rattle.refusal.specs.declared.Refusal.{Refusal}
 use Rattle.refusal.specs.Causes.{cause}
-use Rattle.message.specs.declared.Reading.{Reading}
+use Rattle.ring.specs.Ring.{jobCount}
 use Rattle.message.specs.declared.Reading.the-variants as reading
+use Rattle.message.specs.declared.Received.{Received}
 use Rattle.message.specs.declared.Section.{Section}
 use Rattle.message.specs.declared.Written.{Written}
 use Rattle.message.specs.declared.Written.the-variants as written
@@ -35,17 +37,29 @@ acknowledgementSection k acknowledgements = sectionOf k (bytesFor k) acknowledge
 abbrev pub returnSection : Bool → List ℕ
 returnSection returnBit = sectionOf 1 1 (cond returnBit 1 0)
 
--- the sections in their order
-unfoldable pub messageOf : ℕ → ℕ → Bool → List ℕ
-messageOf k acknowledgements returnBit = acknowledgementSection k acknowledgements ++ returnSection returnBit
+-- Request h: "The message gains a third section: the number of jobs m, 0 to 8, then one byte with a bit per job, lowest first, present also for m = 0."
+abbrev pub jobSection : ℕ → ℕ → List ℕ
+jobSection m jobs = sectionOf m 1 jobs
+
+-- document 01's message: its two sections in their order
+unfoldable pub twoSections : ℕ → ℕ → Bool → List ℕ
+twoSections k acknowledgements returnBit = acknowledgementSection k acknowledgements ++ returnSection returnBit
+
+-- the message: with the third
+unfoldable pub messageOf : ℕ → ℕ → ℕ → Bool → ℕ → List ℕ
+messageOf k m acknowledgements returnBit jobs = twoSections k acknowledgements returnBit ++ jobSection m jobs
 
 -- the length of section one
 abbrev pub lengthOne : ℕ → ℕ
 lengthOne k = 1 + bytesFor k
 
--- the length of a message: "Length for k = 8 is 4 bytes, for k = 9 it is 5."
+-- the length of two sections: "Length for k = 8 is 4 bytes, for k = 9 it is 5."
+abbrev pub lengthTwo : ℕ → ℕ
+lengthTwo k = lengthOne k + 2
+
+-- the length of a message: "The length that 6 tests grows by two bytes."
 abbrev pub lengthOf : ℕ → ℕ
-lengthOf k = lengthOne k + 2
+lengthOf k = lengthTwo k + 2
 
 -- ---- reading
 
@@ -55,6 +69,9 @@ partOne k bytes = take (lengthOne k) bytes
 
 abbrev pub partTwo : ℕ → List ℕ → List ℕ
 partTwo k bytes = take 2 (drop (lengthOne k) bytes)
+
+abbrev pub partThree : ℕ → List ℕ → List ℕ
+partThree k bytes = take 2 (drop (lengthTwo k) bytes)
 
 -- the number that bytes hold, lowest byte first
 unfoldable pub little : List ℕ → ℕ
@@ -74,33 +91,32 @@ sectionIn count part =
 abbrev pub inRange : ℕ → Bool
 inRange k = leb 2 k && leb k 31
 
--- the answers: what is heard, or the refusal with this number
-abbrev pub heard : ℕ → Bool → Reading
-heard acknowledgements returnBit = reading.Heard acknowledgements returnBit
+-- the answers: what is heard, "reading back gives" the job byte, "too"; or the refusal with this number
+abbrev pub heard : ℕ → Bool → ℕ → Received
+heard acknowledgements returnBit jobs = record { reading = reading.Heard acknowledgements returnBit; jobs = jobs }
 
-abbrev pub unread : ℕ → Reading
-unread number = reading.Refused (cause number)
+abbrev pub unread : Refusal → Received
+unread cause = record { reading = reading.Refused cause; jobs = 0 }
 
 -- the answer where a test holds, and the refusal where it does not
-abbrev pub ifRead : Bool → ℕ → Reading → Reading
+abbrev pub ifRead : Bool → ℕ → Received → Received
 ifRead true number answer = answer
-ifRead false number answer = unread number
+ifRead false number answer = unread (cause number)
 
 -- what the sections say: 7 is tested for each of them, then 8 for each of them
-unfoldable pub saidBy : Section → Section → Reading
-saidBy one two =
-    ifRead (one .counted) 7
-    (ifRead (two .counted) 7
-    (ifRead (one .clear) 8
-    (ifRead (two .clear) 8
-    (heard (one .bits) (eqb (two .bits % 2) 1)))))
+unfoldable pub saidBy : Section → Section → Section → Received
+saidBy one two three =
+    ifRead (one .counted && (two .counted && three .counted)) 7
+    (ifRead (one .clear && (two .clear && three .clear)) 8
+    (heard (one .bits) (eqb (two .bits % 2) 1) (three .bits % 256)))
 
--- what is read in bytes. The causes are tested in the order of the table: 2, 6, 7, 8.
-unfoldable pub readOf : ℕ → List ℕ → Reading
-readOf k bytes =
+-- what is read in bytes. The causes are tested in their order: 2, 14 ("Job count above 8 .. in reader or writer: 14, after 2"), 6, 7, 8.
+unfoldable pub readOf : ℕ → ℕ → List ℕ → Received
+readOf k m bytes =
     ifRead (inRange k) 2
+    (ifRead (jobCount m) 14
     (ifRead (eqb (length bytes) (lengthOf k)) 6
-    (saidBy (sectionIn k (partOne k bytes)) (sectionIn 1 (partTwo k bytes))))
+    (saidBy (sectionIn k (partOne k bytes)) (sectionIn 1 (partTwo k bytes)) (sectionIn m (partThree k bytes)))))
 
 -- ---- writing
 
@@ -120,11 +136,16 @@ abbrev pub ifWritten : Bool → ℕ → List ℕ → Outcome → Outcome
 ifWritten true number out outcome = outcome
 ifWritten false number out outcome = (unwritten number, out)
 
+-- no bit of a job byte is past m: "a spare bit, also in a given job byte"
+abbrev pub jobsWithin : ℕ → ℕ → Bool
+jobsWithin m jobs = ltb jobs (2 ^ m)
+
 -- the message, its length told, and "The writer leaves lent bytes after its message untouched."
--- The causes are tested in the order of the table: 2, 8, 9.
-unfoldable pub writeOf : ℕ → ℕ → Bool → List ℕ → Outcome
-writeOf k acknowledgements returnBit out =
+-- The causes are tested in their order: 2, 14, 8, 9.
+unfoldable pub writeOf : ℕ → ℕ → ℕ → Bool → ℕ → List ℕ → Outcome
+writeOf k m acknowledgements returnBit jobs out =
     ifWritten (inRange k) 2 out
-    (ifWritten (ltb acknowledgements (2 ^ k)) 8 out
+    (ifWritten (jobCount m) 14 out
+    (ifWritten (ltb acknowledgements (2 ^ k) && jobsWithin m jobs) 8 out
     (ifWritten (leb (lengthOf k) (length out)) 9 out
-    (wrote (lengthOf k), messageOf k acknowledgements returnBit ++ drop (lengthOf k) out)))
+    (wrote (lengthOf k), messageOf k m acknowledgements returnBit jobs ++ drop (lengthOf k) out))))

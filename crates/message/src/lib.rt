@@ -3,17 +3,25 @@
 use refusal::Refusal;
 ghost use mathlib.Core.Path.{_≡_};
 ghost use mathlib.Core.List.{_++_};
-ghost use Prim.Native.Nat.{_+_, _-_, _≤_, _<_};
+ghost use Prim.Native.Nat.{_+_, _-_, _^_, _≤_, _<_};
+ghost use mathlib.Core.Bool.{_&&_};
+ghost use lib.Dec.{ltb};
 ghost use lib.ListN.{length, take, drop};
-ghost use Rattle.message.specs.Message.{acknowledgementSection, bitsIn, inRange, lengthOf, lengthOne, partOne, partTwo, readOf, returnSection, saidBy, sectionIn, sectionOf, writeOf};
+ghost use Rattle.message.specs.Message.{acknowledgementSection, bitsIn, inRange, jobsWithin, lengthOf, lengthOne, messageOf, partOne, readOf, saidBy, sectionIn, sectionOf, unread, writeOf};
 
-// What is read from bytes: what a message says, or why the bytes are no message.
+// What a message says of the members, or why the bytes are no message.
 pub enum Reading {
     Heard {
         acknowledgements: u32,
         return_bit: bool,
     },
     Refused(Refusal),
+}
+
+// What is read from bytes: that, and the job byte, 0 where the bytes are no message.
+pub struct Received {
+    pub reading: Reading,
+    pub jobs: u8,
 }
 
 // What came of writing: the number of bytes, or why none was written.
@@ -80,48 +88,62 @@ fn acknowledgements_in(k: u32, bytes: &[u8]) -> Section
     section_in(k, &bytes[..end])
 }
 
-// Section two of bytes, the return bit. Requires bytes as long as a message for k.
-fn return_in(k: u32, bytes: &[u8]) -> Section
-    requires { ⌜ (k ≤ 31) × (lengthOf k ≤ length (now bytes)) ⌝ }
-    ensures { λ r. ⌜ r ≡ sectionIn 1 (partTwo k (now (bytes .entry))) ⌝ }
+// The section of one byte after its count that begins at start. Requires a count below 32, and bytes so long.
+fn byte_section_in(count: u32, start: usize, bytes: &[u8]) -> Section
+    requires { ⌜ (count < 32) × (start + 2 ≤ length (now bytes)) ⌝ }
+    ensures { λ r. ⌜ r ≡ sectionIn count (take 2 (drop start (now (bytes .entry)))) ⌝ }
 {
-    let start = length_one(k);
-    section_in(1, &bytes[start..start + 2])
+    section_in(count, &bytes[start..start + 2])
+}
+
+// The answer where bytes are no message.
+fn unread(cause: Refusal) -> Received
+    ensures { λ r. ⌜ r ≡ unread cause ⌝ }
+{
+    Received {
+        reading: Reading::Refused(cause),
+        jobs: 0,
+    }
 }
 
 // What the sections of a message say.
-fn said_by(one: Section, two: Section) -> Reading
-    ensures { λ r. ⌜ r ≡ saidBy one two ⌝ }
+fn said_by(one: Section, two: Section, three: Section) -> Received
+    ensures { λ r. ⌜ r ≡ saidBy one two three ⌝ }
 {
-    if !one.counted {
-        return Reading::Refused(Refusal::SectionCount);
+    if !(one.counted & (two.counted & three.counted)) {
+        return unread(Refusal::SectionCount);
     }
-    if !two.counted {
-        return Reading::Refused(Refusal::SectionCount);
+    if !(one.clear & (two.clear & three.clear)) {
+        return unread(Refusal::SpareBit);
     }
-    if !one.clear {
-        return Reading::Refused(Refusal::SpareBit);
-    }
-    if !two.clear {
-        return Reading::Refused(Refusal::SpareBit);
-    }
-    Reading::Heard {
+    let reading = Reading::Heard {
         acknowledgements: one.bits,
         return_bit: two.bits % 2 == 1,
+    };
+    Received {
+        reading,
+        jobs: (three.bits % 256) as u8,
     }
 }
 
-// Reads a message for k. It takes any bytes, and refuses by 2, 6, 7 and 8, in this order.
-pub fn read(k: u32, bytes: &[u8]) -> Reading
-    ensures { λ r. ⌜ r ≡ readOf k (now (bytes .entry)) ⌝ }
+// Reads a message for k and m. It takes any bytes, and refuses by 2, 14, 6, 7 and 8, in this order.
+pub fn read(k: u32, m: u32, bytes: &[u8]) -> Received
+    ensures { λ r. ⌜ r ≡ readOf k m (now (bytes .entry)) ⌝ }
 {
     if !in_range(k) {
-        return Reading::Refused(Refusal::SponsorCount);
+        return unread(Refusal::SponsorCount);
     }
-    if bytes.len() != length_one(k) + 2 {
-        return Reading::Refused(Refusal::MessageLength);
+    if !ring::is_job_count(m) {
+        return unread(Refusal::JobCount);
     }
-    said_by(acknowledgements_in(k, bytes), return_in(k, bytes))
+    let start = length_one(k);
+    if bytes.len() != start + 4 {
+        return unread(Refusal::MessageLength);
+    }
+    let one = acknowledgements_in(k, bytes);
+    let two = byte_section_in(1, start, bytes);
+    let three = byte_section_in(m, start + 2, bytes);
+    said_by(one, two, three)
 }
 
 // Fills part with a section: the count, then the bits in the bytes that are left. Requires a count that fits a byte, and room for it.
@@ -148,30 +170,67 @@ fn put_acknowledgements(k: u32, acknowledgements: u32, out: &mut [u8])
     put_section(k, acknowledgements, &mut out[..end]);
 }
 
-// Writes section two to its place in out. Requires room for a message for k.
-fn put_return(k: u32, return_bit: bool, out: &mut [u8])
-    requires { ⌜ (k ≤ 31) × (lengthOf k ≤ length (now out)) ⌝ }
-    ensures { λ _. ⌜ now (out .exit) ≡ take (lengthOne k) (now (out .entry)) ++ (returnSection «return_bit» ++ drop (lengthOf k) (now (out .entry))) ⌝ }
+// Writes a section of one byte after its count from start on. Requires a count that fits a byte, and room for it.
+fn put_byte_section(count: u32, bits: u32, start: usize, out: &mut [u8])
+    requires { ⌜ (count < 256) × (start + 2 ≤ length (now out)) ⌝ }
+    ensures { λ _. ⌜ now (out .exit) ≡ take start (now (out .entry)) ++ (sectionOf count 1 bits ++ drop (start + 2) (now (out .entry))) ⌝ }
 {
-    let start = length_one(k);
-    put_section(1, return_bit as u32, &mut out[start..start + 2]);
+    put_section(count, bits, &mut out[start..start + 2]);
 }
 
-// Writes a message for k to the start of out, and leaves the bytes after it. It refuses by 2, 8 and 9, in this order, and then writes nothing.
-pub fn write(k: u32, acknowledgements: u32, return_bit: bool, out: &mut [u8]) -> Written
-    ensures { λ r. ⌜ (r, now (out .exit)) ≡ writeOf k acknowledgements «return_bit» (now (out .entry)) ⌝ }
+// Whether the job byte has no bit past m.
+pub fn jobs_within(m: u32, jobs: u8) -> bool
+    ensures { λ r. ⌜ r ≡ jobsWithin m jobs ⌝ }
+{
+    if 8 <= m {
+        return true;
+    }
+    jobs as u32 >> m == 0
+}
+
+// Whether no acknowledgement is past k and no job past m. Requires k at most 31.
+fn no_spare_bit(k: u32, m: u32, acknowledgements: u32, jobs: u8) -> bool
+    requires { ⌜ k ≤ 31 ⌝ }
+    ensures { λ r. ⌜ r ≡ (ltb acknowledgements (2 ^ k) && jobsWithin m jobs) ⌝ }
+{
+    (acknowledgements >> k == 0) & jobs_within(m, jobs)
+}
+
+// Writes the sections one after the other. Requires counts in range, and room for the message.
+fn put_message(k: u32, m: u32, acknowledgements: u32, return_bit: bool, jobs: u8, out: &mut [u8])
+    requires { ⌜ (k ≤ 31) × ((m ≤ 8) × (lengthOf k ≤ length (now out))) ⌝ }
+    ensures { λ _. ⌜ now (out .exit) ≡ messageOf k m acknowledgements «return_bit» jobs ++ drop (lengthOf k) (now (out .entry)) ⌝ }
+{
+    let start = length_one(k);
+    put_acknowledgements(k, acknowledgements, out);
+    put_byte_section(1, return_bit as u32, start, out);
+    put_byte_section(m, jobs as u32, start + 2, out);
+}
+
+// Writes a message for k and m to the start of out, and leaves the bytes after it. It refuses by 2, 14, 8 and 9, in this order, and then writes nothing.
+pub fn write(
+    k: u32,
+    m: u32,
+    acknowledgements: u32,
+    return_bit: bool,
+    jobs: u8,
+    out: &mut [u8],
+) -> Written
+    ensures { λ r. ⌜ (r, now (out .exit)) ≡ writeOf k m acknowledgements «return_bit» jobs (now (out .entry)) ⌝ }
 {
     if !in_range(k) {
         return Written::Refused(Refusal::SponsorCount);
     }
-    if acknowledgements >> k != 0 {
+    if !ring::is_job_count(m) {
+        return Written::Refused(Refusal::JobCount);
+    }
+    if !no_spare_bit(k, m, acknowledgements, jobs) {
         return Written::Refused(Refusal::SpareBit);
     }
-    let length = length_one(k) + 2;
+    let length = length_one(k) + 4;
     if out.len() < length {
         return Written::Refused(Refusal::OutputShort);
     }
-    put_acknowledgements(k, acknowledgements, out);
-    put_return(k, return_bit, out);
+    put_message(k, m, acknowledgements, return_bit, jobs, out);
     Written::Bytes(length)
 }

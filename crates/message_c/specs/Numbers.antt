@@ -6,14 +6,18 @@ use mathlib.Core.Bool.{cond}
 use Rattle.refusal.specs.Causes.{numberOf}
 use Rattle.message.specs.declared.Reading.{Reading}
 use Rattle.message.specs.declared.Reading.the-variants as reading
+use Rattle.message.specs.declared.Received.{Received}
 use Rattle.message.specs.declared.Written.{Written}
 use Rattle.message.specs.declared.Written.the-variants as written
 use Rattle.message.specs.Message.{Outcome}
 
--- the acknowledgements, and the return bit above their 32 bits
-abbrev pub readingNumber : Reading → ℕ
-readingNumber (reading.Heard acknowledgements returnBit) = 2 ^ 33 + cond returnBit 1 0 * 2 ^ 32 + acknowledgements
-readingNumber (reading.Refused cause) = numberOf cause
+-- the acknowledgements, the return bit above their 32 bits and the job byte above it
+abbrev pub readingNumber : ℕ → Reading → ℕ
+readingNumber jobs (reading.Heard acknowledgements returnBit) = 2 ^ 41 + jobs * 2 ^ 33 + cond returnBit 1 0 * 2 ^ 32 + acknowledgements
+readingNumber jobs (reading.Refused cause) = numberOf cause
+
+abbrev pub receivedNumber : Received → ℕ
+receivedNumber received = readingNumber (received .jobs) (received .reading)
 
 -- the number of bytes
 abbrev pub writtenNumber : Written → ℕ

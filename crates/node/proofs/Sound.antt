@@ -8,10 +8,10 @@ use native.Mathlib.Omega.{arith}
 use lib.Dec.{leb}
 use borrow.Author.Tests.{le-leb, leb-false}
 use Rattle.refusal.specs.declared.Refusal.{Refusal}
-use Rattle.refusal.specs.declared.Refusal.the-variants.{RingSize, SponsorCount, NodeNumber}
+use Rattle.refusal.specs.declared.Refusal.the-variants.{RingSize, SponsorCount, JobCount, NodeNumber}
 use Rattle.nodeset.proofs.Tests.{by-cases}
 use Rattle.ring.specs.declared.Cable.{Cable}
-use Rattle.ring.specs.Ring.{ringSize, sponsorCount, nodeNumber, sender}
+use Rattle.ring.specs.Ring.{ringSize, sponsorCount, jobCount, nodeNumber, sender}
 use Rattle.ring.proofs.Ranges.{ring-size}
 use Rattle.ring.proofs.Senders.{sender-range}
 use Rattle.message.specs.declared.Reading.{Reading}
@@ -35,8 +35,7 @@ counted-sound v e h =
     let c = clauses v e in
     sound-by (counted v)
     (record {
-      ring = c .ring;
-      sponsors = c .sponsors;
+      choices = c .choices;
       own = c .own;
       slots = le-leb (v .slots + 1) limit (omega arith);
       sets = c .sets;
@@ -59,12 +58,12 @@ step-sound heard v e =
   where
     done-slot : v .slots < limit → sound (afterSlot (sender (v .cable .n) (v .slots + 1)) heard (counted v)) ≡ true
     done-slot l =
-        let three : 3 ≤ v .cable .n = ring-size (v .cable .n) (clauses v e .ring) .0 in
+        let three : 3 ≤ v .cable .n = ring-size (v .cable .n) (clauses v e .choices .ring) .0 in
         let r = sender-range (v .cable .n) (omega arith) (v .slots + 1) in
         after-slot-sound (sender (v .cable .n) (v .slots + 1)) heard (counted v) (r .0) (r .1) (counted-sound v e l)
 
 pub slot-sound : (bytes : List ℕ) (v : Node) → sound v ≡ true → sound (slotOf bytes v .node) ≡ true
-slot-sound bytes v e = step-sound (readOf (v .cable .k) bytes) v e
+slot-sound bytes v e = step-sound (readOf (v .cable .k) (v .cable .m) bytes .reading) v e
 
 -- ---- off, restart and set-up
 
@@ -81,12 +80,13 @@ refused-not-done r e = let z : _≡_ {A = ℕ} 0 1 = cc in omega arith
 
 pub set-up-sound : (cable : Cable) (own : ℕ) → setUpOf cable own .answer ≡ Done → sound (setUpOf cable own .node) ≡ true
 unfolding setUpOf
-set-up-sound cable own e = go (ringSize (cable .n)) (sponsorCount cable) (nodeNumber (cable .n) own) refl refl refl e
+set-up-sound cable own e = go (ringSize (cable .n)) (sponsorCount cable) (jobCount (cable .m)) (nodeNumber (cable .n) own) refl refl refl refl e
   where
-    go : (a b c : Bool) → ringSize (cable .n) ≡ a → sponsorCount cable ≡ b → nodeNumber (cable .n) own ≡ c
-        → cond a (cond b (cond c (done (starting cable own)) (refused 3 noNode)) (refused 2 noNode)) (refused 1 noNode) .answer ≡ Done
-        → sound (cond a (cond b (cond c (done (starting cable own)) (refused 3 noNode)) (refused 2 noNode)) (refused 1 noNode) .node) ≡ true
-    go true true true p q r e = starting-sound cable own p q r
-    go true true false p q r e = absurd (refused-not-done NodeNumber e)
-    go true false c p q r e = absurd (refused-not-done SponsorCount e)
-    go false b c p q r e = absurd (refused-not-done RingSize e)
+    go : (a b c d : Bool) → ringSize (cable .n) ≡ a → sponsorCount cable ≡ b → jobCount (cable .m) ≡ c → nodeNumber (cable .n) own ≡ d
+        → cond a (cond b (cond c (cond d (done (starting cable own)) (refused 3 noNode)) (refused 14 noNode)) (refused 2 noNode)) (refused 1 noNode) .answer ≡ Done
+        → sound (cond a (cond b (cond c (cond d (done (starting cable own)) (refused 3 noNode)) (refused 14 noNode)) (refused 2 noNode)) (refused 1 noNode) .node) ≡ true
+    go true true true true p q r t e = starting-sound cable own (record { ring = p; sponsors = q; jobs = r }) t
+    go true true true false p q r t e = absurd (refused-not-done NodeNumber e)
+    go true true false d p q r t e = absurd (refused-not-done JobCount e)
+    go true false c d p q r t e = absurd (refused-not-done SponsorCount e)
+    go false b c d p q r t e = absurd (refused-not-done RingSize e)

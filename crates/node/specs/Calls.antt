@@ -7,11 +7,11 @@ use mathlib.Core.Bool.{Bool, false, cond, _&&_}
 use lib.Dec.{eqb, leb}
 use Rattle.refusal.specs.Causes.{cause}
 use Rattle.ring.specs.declared.Cable.{Cable}
-use Rattle.ring.specs.Ring.{cableOf, ringSize, sponsorCount, nodeNumber, sender}
+use Rattle.ring.specs.Ring.{cableOf, ringSize, sponsorCount, jobCount, nodeNumber, sender}
 use Rattle.message.specs.declared.Reading.{Reading}
 use Rattle.message.specs.declared.Written.{Written}
 use Rattle.message.specs.declared.Written.the-variants as written
-use Rattle.message.specs.Message.{readOf, writeOf}
+use Rattle.message.specs.Message.{readOf, jobsWithin, writeOf}
 use Rattle.node_record.specs.declared.Node.{Node}
 use Rattle.node_record.specs.declared.State.the-variants.{Out}
 use Rattle.node_record.specs.States.{isOut, leavingCause}
@@ -19,7 +19,7 @@ use Rattle.node_record.specs.Soundness.{sound, limit}
 use Rattle.node.specs.declared.Stepped.{Stepped}
 use Rattle.node.specs.declared.Answer.the-variants.{Done, Refused}
 use Rattle.node_changes.specs.Changes.{noWindow, starting, outFor, fresh, counted}
-use Rattle.node_sending.specs.Sending.{sends, bitsSent, returnSent}
+use Rattle.node_sending.specs.Sending.{sends, bitsSent, returnSent, jobsSent}
 use Rattle.node_slot.specs.Slot.{afterSlot}
 
 -- ---- the answers
@@ -36,7 +36,7 @@ refused number v = record { node = v; answer = Refused (cause number) }
 abbrev pub unsent : ℕ → List ℕ → Written × List ℕ
 unsent number out = (written.Refused (cause number), out)
 
--- ---- set-up
+-- ---- set-up: 1, 2, 14 and 3
 
 -- The record that comes with a refused set-up.
 abbrev pub noNode : Node
@@ -46,7 +46,9 @@ unfoldable pub setUpOf : Cable → ℕ → Stepped
 setUpOf cable own =
     cond (ringSize (cable .n))
     (cond (sponsorCount cable)
+    (cond (jobCount (cable .m))
     (cond (nodeNumber (cable .n) own) (done (starting cable own)) (refused 3 noNode))
+    (refused 14 noNode))
     (refused 2 noNode))
     (refused 1 noNode)
 
@@ -61,7 +63,7 @@ stepOf heard v =
 
 -- The slot in which these bytes are heard; no bytes where nothing is.
 abbrev pub slotOf : List ℕ → Node → Stepped
-slotOf bytes v = stepOf (readOf (v .cable .k) bytes) v
+slotOf bytes v = stepOf (readOf (v .cable .k) (v .cable .m) bytes .reading) v
 
 -- ---- sending
 
@@ -69,12 +71,14 @@ slotOf bytes v = stepOf (readOf (v .cable .k) bytes) v
 abbrev pub itsTurn : Node → Bool
 itsTurn v = eqb (sender (v .cable .n) (v .slots + 1)) (v .own) && sends v
 
--- What is answered, and the lent bytes afterwards.
-unfoldable pub sendOf : Node → List ℕ → Written × List ℕ
-sendOf v out =
+-- What is answered, and the lent bytes afterwards. A spare bit, "also in a given job byte, gives .. 8".
+unfoldable pub sendOf : Node → ℕ → List ℕ → Written × List ℕ
+sendOf v jobs out =
     cond (sound v)
     (cond (leb limit (v .slots)) (unsent 5 out)
-    (cond (itsTurn v) (writeOf (v .cable .k) (bitsSent v) (returnSent v) out) (unsent 10 out)))
+    (cond (jobsWithin (v .cable .m) jobs)
+    (cond (itsTurn v) (writeOf (v .cable .k) (v .cable .m) (bitsSent v) (returnSent v) (jobsSent jobs v) out) (unsent 10 out))
+    (unsent 8 out)))
     (unsent 4 out)
 
 -- ---- off and restart

@@ -30,7 +30,7 @@ pub struct Stepped {
 
 // A record of no node: it comes with a refused set-up.
 pub const NO_NODE: Node = Node {
-    cable: Cable { n: 0, k: 0 },
+    cable: Cable { n: 0, k: 0, m: 0 },
     own: 0,
     slots: 0,
     state: State::Out(Cause::SwitchedOff),
@@ -48,7 +48,7 @@ pub const NO_NODE: Node = Node {
     },
 };
 
-// The record of node `own` at the common start. Refuses by 1, 2 and 3.
+// The record of node `own` at the common start. Refuses by 1, 2, 14 and 3, in this order.
 pub fn set_up(cable: Cable, own: u32) -> Stepped
     ensures { λ r. ⌜ r ≡ setUpOf cable own ⌝ }
 {
@@ -62,6 +62,12 @@ pub fn set_up(cable: Cable, own: u32) -> Stepped
         return Stepped {
             node: NO_NODE,
             answer: Answer::Refused(Refusal::SponsorCount),
+        };
+    }
+    if !ring::is_job_count(cable.m) {
+        return Stepped {
+            node: NO_NODE,
+            answer: Answer::Refused(Refusal::JobCount),
         };
     }
     if !ring::is_node_number(cable.n, own) {
@@ -158,7 +164,9 @@ pub fn step(heard: Reading, v: Node) -> Stepped
 pub fn slot(bytes: &[u8], v: Node) -> Stepped
     ensures { λ r. ⌜ r ≡ slotOf (now (bytes .entry)) v ⌝ }
 {
-    step(message::read(v.cable.k, bytes), v)
+    let received = message::read(v.cable.k, v.cable.m, bytes);
+    let reading = received.reading;
+    step(reading, v)
 }
 
 // Whether the next slot is this node's and it sends there. An inner function: requires a ring's size.
@@ -174,10 +182,11 @@ fn its_turn(v: Node) -> bool
     (s == v.own) & node_sending::sends(v)
 }
 
-// Writes what the node sends in the next slot, if that is its own, to the start of out, and leaves
-// the bytes after it. Refuses by 4, 5, 10 and 9, in this order, and then writes nothing.
-pub fn send(v: Node, out: &mut [u8]) -> Written
-    ensures { λ r. ⌜ (r, now (out .exit)) ≡ sendOf v (now (out .entry)) ⌝ }
+// Writes what the node sends in the next slot, if that is its own, with this job byte, to the start of
+// out, and leaves the bytes after it. Refuses by 4, 5, 8, 10 and 9, in this order, and then writes
+// nothing.
+pub fn send(v: Node, jobs: u8, out: &mut [u8]) -> Written
+    ensures { λ r. ⌜ (r, now (out .exit)) ≡ sendOf v jobs (now (out .entry)) ⌝ }
 {
     if !node_record::is_sound(v) {
         return Written::Refused(Refusal::Unsound);
@@ -185,13 +194,18 @@ pub fn send(v: Node, out: &mut [u8]) -> Written
     if node_record::LIMIT <= v.slots {
         return Written::Refused(Refusal::SlotLimit);
     }
+    if !message::jobs_within(v.cable.m, jobs) {
+        return Written::Refused(Refusal::SpareBit);
+    }
     if !its_turn(v) {
         return Written::Refused(Refusal::NotItsSlot);
     }
     message::write(
         v.cable.k,
+        v.cable.m,
         node_sending::bits_sent(v),
         node_sending::return_sent(v),
+        node_sending::jobs_sent(jobs, v),
         out,
     )
 }

@@ -8,7 +8,7 @@ use run_io::block;
 use run_io::block::Block;
 
 // How many bytes a record is.
-pub const RECORD: u8 = 52;
+pub const RECORD: u8 = 56;
 
 fn state_of(number: u8) -> State {
     match number {
@@ -59,6 +59,7 @@ pub fn node_of(bytes: &Block) -> Node {
     let cable = Cable {
         n: block::word(bytes, 0),
         k: block::word(bytes, 4),
+        m: block::word(bytes, 52),
     };
     Node {
         cable,
@@ -87,6 +88,7 @@ pub fn set_node(bytes: &mut Block, node: Node) {
     let window = node.listening;
     block::set_word(bytes, 0, node.cable.n);
     block::set_word(bytes, 4, node.cable.k);
+    block::set_word(bytes, 52, node.cable.m);
     block::set_word(bytes, 8, node.own);
     block::set_long_word(bytes, 12, node.slots);
     bytes[20] = number_of(state);

@@ -34,8 +34,9 @@ fn kept(record: &mut Block, stepped: Stepped) -> u32
 fn set_up(arguments: &Block) -> Stepped {
     let n = block::word(arguments, 0);
     let k = block::word(arguments, 4);
-    let own = block::word(arguments, 8);
-    node::set_up(Cable { n, k }, own)
+    let m = block::word(arguments, 8);
+    let own = block::word(arguments, 12);
+    node::set_up(Cable { n, k, m }, own)
 }
 
 // The first bytes, all if there are not so many.
@@ -51,17 +52,20 @@ fn slot(node: Node, heard: &[u8], length: u8) -> Stepped {
     node::slot(part(heard, length as usize), node)
 }
 
-fn send_into(node: Node, out: &mut [u8], room: usize) -> Written {
+fn send_into(node: Node, jobs: u8, out: &mut [u8], room: usize) -> Written {
     if room <= out.len() {
-        node::send(node, &mut out[0..room])
+        node::send(node, jobs, &mut out[0..room])
     } else {
         Written::Bytes(0)
     }
 }
 
-// Sends into the first `room` bytes of `out`.
+// Sends into the first `room` bytes of `out`. The job byte stands in the first of them, which is then one
+// of the buffer's.
 fn send(record: &Block, out: &mut Block, room: u8) -> Outcome {
-    let written = send_into(bytes::node_of(record), out, room as usize);
+    let jobs = out[0];
+    out[0] = 0xA5;
+    let written = send_into(bytes::node_of(record), jobs, out, room as usize);
     match written {
         Written::Bytes(n) => Outcome { number: 0, sent: n },
         Written::Refused(refusal) => Outcome {

@@ -15,8 +15,8 @@ use Rattle.nodeset.proofs.Bits.{has-none}
 use Rattle.nodeset.proofs.Laws.{full-lt, has-full}
 use Rattle.nodeset.proofs.Subsets.{has-subset}
 use Rattle.ring.specs.declared.Cable.{Cable}
-use Rattle.ring.specs.Ring.{ringSize, sponsorCount, nodeNumber}
-use Rattle.ring.proofs.Ranges.{ring-size, node-number}
+use Rattle.ring.specs.Ring.{nodeNumber}
+use Rattle.ring.proofs.Ranges.{Fits, ring-size, node-number}
 use Rattle.node_record.specs.declared.Node.{Node}
 use Rattle.node_record.specs.declared.Cause.{Cause}
 use Rattle.node_record.specs.States.{isMember}
@@ -24,15 +24,14 @@ use Rattle.node_record.specs.Soundness.{limit, sound}
 use Rattle.node_record.proofs.Facts.{clauses, sound-by, exactly-by}
 use Rattle.node_changes.specs.Changes.{starting, outFor, listeningAfter, fresh, followingWith, leave}
 
--- n, k, own number and slot count in range
+-- the choices, own number and slot count in range
 pub record InRange (cable : Cable) (own slots : ℕ) : Type 0 where
-  pub ring : ringSize (cable .n) ≡ true
-  pub sponsors : sponsorCount cable ≡ true
+  pub choices : Fits cable
   pub own-in : nodeNumber (cable .n) own ≡ true
   pub slots-in : leb slots limit ≡ true
 
 pub in-range : (v : Node) → sound v ≡ true → InRange (v .cable) (v .own) (v .slots)
-in-range v e = let c = clauses v e in record { ring = c .ring; sponsors = c .sponsors; own-in = c .own; slots-in = c .slots }
+in-range v e = let c = clauses v e in record { choices = c .choices; own-in = c .own; slots-in = c .slots }
 
 -- a set is a part of itself
 subset-self : (s : ℕ) → subset s s ≡ true
@@ -51,8 +50,7 @@ unfolding has
 out-sound cause v r =
     sound-by (outFor cause v)
     (record {
-      ring = r .ring;
-      sponsors = r .sponsors;
+      choices = r .choices;
       own = r .own-in;
       slots = r .slots-in;
       sets = all (none-within (v .cable .n)) (all (none-within (v .cable .n)) (subset-self 0));
@@ -73,8 +71,7 @@ unfolding has
 listening-sound last v r l two absent =
     sound-by (listeningAfter last v)
     (record {
-      ring = r .ring;
-      sponsors = r .sponsors;
+      choices = r .choices;
       own = r .own-in;
       slots = r .slots-in;
       sets = all (none-within (v .cable .n)) (all (none-within (v .cable .n)) (subset-self 0));
@@ -86,7 +83,7 @@ listening-sound last v r l two absent =
       yes = refl;
       window =
           all
-          (all (lt-ltb 0 (v .cable .n) (omega (arith, ring-size (v .cable .n) (r .ring))))
+          (all (lt-ltb 0 (v .cable .n) (omega (arith, ring-size (v .cable .n) (r .choices .ring))))
           (all (none-within (v .cable .n))
           (all (le-leb (v .cable .k) (v .cable .k) (le-refl (v .cable .k)))
           (all (eq-eqb (v .cable .k) (v .cable .k) refl)
@@ -115,8 +112,7 @@ unfolding has
 following-sound set v r l two absent =
     sound-by (followingWith set v)
     (record {
-      ring = r .ring;
-      sponsors = r .sponsors;
+      choices = r .choices;
       own = r .own-in;
       slots = r .slots-in;
       sets = all (lt-ltb set (2 ^ v .cable .n) l) (all (lt-ltb set (2 ^ v .cable .n) l) (subset-self set));
@@ -130,20 +126,19 @@ following-sound set v r l two absent =
       enough = le-leb 2 (size (v .cable .n) set) two;
     })
 
-pub starting-sound : (cable : Cable) (own : ℕ) → ringSize (cable .n) ≡ true → sponsorCount cable ≡ true → nodeNumber (cable .n) own ≡ true → sound (starting cable own) ≡ true
+pub starting-sound : (cable : Cable) (own : ℕ) → Fits cable → nodeNumber (cable .n) own ≡ true → sound (starting cable own) ≡ true
 unfolding has
-starting-sound cable own h i j =
+starting-sound cable own f j =
     let n = cable .n in
     let x = node-number n own j in
     sound-by (starting cable own)
     (record {
-      ring = h;
-      sponsors = i;
+      choices = f;
       own = j;
       slots = refl;
       sets = all (lt-ltb (full n) (2 ^ n) (full-lt n)) (all (lt-ltb (full n) (2 ^ n) (full-lt n)) (subset-self (full n)));
       returning = all (le-leb 0 n (omega arith)) refl;
-      ownIn = exactly-by true (has (full n) own) (sym (has-full n own (x .0) (x .1) (omega (arith, ring-size n h))));
+      ownIn = exactly-by true (has (full n) own) (sym (has-full n own (x .0) (x .1) (omega (arith, ring-size n (f .ring)))));
       knock = exactly-by false (eqb 0 own) (sym (not-own n own j));
       empty = refl;
       heard = refl;

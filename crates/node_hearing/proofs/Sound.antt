@@ -94,8 +94,7 @@ window-sound w v e l h =
     let c = clauses v e in
     sound-by (withWindow w v)
     (record {
-      ring = c .ring;
-      sponsors = c .sponsors;
+      choices = c .choices;
       own = c .own;
       slots = c .slots;
       sets = c .sets;
@@ -127,7 +126,7 @@ unfolding listeningBy goesOn
 listening-slot-sound s heard v a b d e l =
     let c = clauses v e in
     let w = overheard s heard (v .listening) in
-    let r = overheard-ranges (v .cable) (v .own) s heard (v .listening) (ring-size (v .cable .n) (c .ring) .1) a b d (ranges (v .cable) (v .own) (v .listening) (window-listening v (c .window) l)) in
+    let r = overheard-ranges (v .cable) (v .own) s heard (v .listening) (ring-size (v .cable .n) (c .choices .ring) .1) a b d (ranges (v .cable) (v .own) (v .listening) (window-listening v (c .window) l)) in
     by-cases (ltb (w .done) (v .cable .n))
     (λ t. rw t (window-sound w v e l (in-window (v .cable) (v .own) w (ltb-true (w .done) (v .cable .n) t) r)))
     (λ t. rw t (window-end-sound w v e r))

@@ -3,14 +3,14 @@ use mathlib.Core.Path.{_≡_, refl, sym, ap}
 use mathlib.Core.Bool.{Bool, true, false, _||_, true≢false}
 use lib.Dec.{leb}
 use Rattle.nodeset.proofs.Tests.{both, all, or-else}
-use Rattle.ring.specs.Ring.{ringSize, sponsorCount, nodeNumber}
+use Rattle.ring.specs.Ring.{nodeNumber}
+use Rattle.ring.proofs.Ranges.{Fits, fitting, fits-by}
 use Rattle.node_record.specs.declared.Node.{Node}
 use Rattle.node_record.specs.States.{isListening}
 use Rattle.node_record.specs.Soundness.{limit, implies, exactly, setsSound, returningSound, ownSound, knockSound, emptySound, heardSound, yesSound, windowInRange, windowEmpty, windowSound, enoughSound, sound}
 
 pub record Clauses (v : Node) : Type 0 where
-  pub ring : ringSize (v .cable .n) ≡ true
-  pub sponsors : sponsorCount (v .cable) ≡ true
+  pub choices : Fits (v .cable)
   pub own : nodeNumber (v .cable .n) (v .own) ≡ true
   pub slots : leb (v .slots) limit ≡ true
   pub sets : setsSound v ≡ true
@@ -37,12 +37,10 @@ clauses v e =
     let c₉ = both _ _ (c₈ .1) in
     let n₁ = both _ _ (c₁ .0) in
     let n₂ = both _ _ (n₁ .1) in
-    let n₃ = both _ _ (n₂ .1) in
     record {
-      ring = n₁ .0;
-      sponsors = n₂ .0;
-      own = n₃ .0;
-      slots = n₃ .1;
+      choices = fitting (v .cable) (n₁ .0);
+      own = n₂ .0;
+      slots = n₂ .1;
       sets = c₂ .0;
       returning = c₃ .0;
       ownIn = c₄ .0;
@@ -57,7 +55,7 @@ clauses v e =
 pub sound-by : (v : Node) → Clauses v → sound v ≡ true
 unfolding sound
 sound-by v c =
-    all (all (c .ring) (all (c .sponsors) (all (c .own) (c .slots))))
+    all (all (fits-by (v .cable) (c .choices)) (all (c .own) (c .slots)))
     (all (c .sets) (all (c .returning) (all (c .ownIn) (all (c .knock) (all (c .empty) (all (c .heard) (all (c .yes) (all (c .window) (c .enough)))))))))
 
 -- ---- tests with a condition

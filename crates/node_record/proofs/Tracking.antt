@@ -10,8 +10,8 @@ use lib.Pow.{pow-mono}
 use Rattle.nodeset.specs.Sets.{has, within, subset, size}
 use Rattle.nodeset.proofs.Tests.{both, all, or-right}
 use Rattle.nodeset.proofs.Subsets.{subset-has, has-subset}
-use Rattle.ring.specs.Ring.{ringSize, sponsorCount, nodeNumber}
-use Rattle.ring.proofs.Ranges.{ring-size}
+use Rattle.ring.specs.Ring.{nodeNumber}
+use Rattle.ring.proofs.Ranges.{Fits, ring-size}
 use Rattle.node_record.specs.declared.Node.{Node}
 use Rattle.node_record.specs.declared.State.{State}
 use Rattle.node_record.specs.declared.State.the-variants.{Member, Listening, Following, Knocking, Out}
@@ -28,8 +28,7 @@ tracks Knocking = true
 tracks (Out cause) = false
 
 pub record Tracking (v : Node) : Type 0 where
-  pub ring : ringSize (v .cable .n) ≡ true
-  pub sponsors : sponsorCount (v .cable) ≡ true
+  pub choices : Fits (v .cable)
   pub own : nodeNumber (v .cable .n) (v .own) ≡ true
   pub slots : leb (v .slots) limit ≡ true
   pub tracking : tracks (v .state) ≡ true
@@ -83,10 +82,9 @@ sound-tracking v e t =
     let m = both (within (v .cable .n) (v .present)) (subset (v .present) (v .set)) (s .1) in
     let r = both (leb (v .returning) (v .cable .n)) (not (has (v .set) (v .returning))) (c .returning) in
     let marks : v .present < 2 ^ v .cable .n = ltb-true (v .present) (2 ^ v .cable .n) (m .0) in
-    let word : 2 ^ v .cable .n ≤ 2 ^ 32 = pow-mono {i = v .cable .n} {j = 32} (ring-size (v .cable .n) (c .ring) .1) in
+    let word : 2 ^ v .cable .n ≤ 2 ^ 32 = pow-mono {i = v .cable .n} {j = 32} (ring-size (v .cable .n) (c .choices .ring) .1) in
     record {
-      ring = c .ring;
-      sponsors = c .sponsors;
+      choices = c .choices;
       own = c .own;
       slots = c .slots;
       tracking = t;
@@ -112,8 +110,7 @@ pub tracking-sound : (v : Node) → Tracking v → (isMember (v .state) ≡ fals
 tracking-sound v k two =
     sound-by v
     (record {
-      ring = k .ring;
-      sponsors = k .sponsors;
+      choices = k .choices;
       own = k .own;
       slots = k .slots;
       sets = all (lt-ltb (v .set) (2 ^ v .cable .n) (k .set-in)) (all (lt-ltb (v .present) (2 ^ v .cable .n) (k .marks-in)) (has-subset (v .present) (v .set) (λ x p q h. k .marked x h)));

@@ -4,7 +4,7 @@ use mathlib.Core.Bool.{Bool, not, _&&_, _||_, Bool·beq}
 use lib.Dec.{eqb, leb, ltb}
 use Rattle.nodeset.specs.Sets.{has, within, subset, size}
 use Rattle.ring.specs.declared.Cable.{Cable}
-use Rattle.ring.specs.Ring.{ringSize, sponsorCount, nodeNumber}
+use Rattle.ring.specs.Ring.{cableFits, nodeNumber}
 use Rattle.node_record.specs.declared.Node.{Node}
 use Rattle.node_record.specs.declared.Window.{Window}
 use Rattle.node_record.specs.States.{isMember, isListening, isFollowing, isKnocking, isOut}
@@ -21,9 +21,9 @@ implies a b = not a || b
 abbrev pub exactly : Bool → Bool → Bool
 exactly a b = Bool·beq a b
 
--- "n, k and own number are in range, the slot count is at most the limit"
+-- "n, k and own number are in range, the slot count is at most the limit"; "The record keeps m and later choices of set-up", and "a kept choice out of range" is refused, too (document 02, h)
 abbrev pub numbersSound : Node → Bool
-numbersSound v = ringSize (v .cable .n) && (sponsorCount (v .cable) && (nodeNumber (v .cable .n) (v .own) && leb (v .slots) limit))
+numbersSound v = cableFits (v .cable) && (nodeNumber (v .cable .n) (v .own) && leb (v .slots) limit)
 
 -- "set and marks hold only numbers 1 to n, each marked node is in the set"
 abbrev pub setsSound : Node → Bool

@@ -114,9 +114,7 @@ fn numbers_sound(v: Node) -> bool
     ensures { λ r. ⌜ r ≡ numbersSound v ⌝ }
 {
     let cable = v.cable;
-    ring::is_ring_size(cable.n)
-        & (ring::is_sponsor_count(cable)
-            & (ring::is_node_number(cable.n, v.own) & (v.slots <= LIMIT)))
+    ring::cable_fits(cable) & (ring::is_node_number(cable.n, v.own) & (v.slots <= LIMIT))
 }
 
 // Marks that are in the set hold only numbers that the set holds.

@@ -2,9 +2,9 @@
 // go to standard output. Numbers are lowest byte first; input that ends within a command counts as
 // followed by zeros.
 //
-//   U n k own      set-up
+//   U n k m own    set-up
 //   S size bytes   one slot, with these bytes heard
-//   T size         sending, into a buffer of so many bytes, each 0xA5
+//   T size jobs    sending, with this job byte, into a buffer of so many bytes, each 0xA5
 //   F              off
 //   R              restart
 //   L record       the record becomes this one; no answer
@@ -59,8 +59,9 @@ fn head(input: &mut [u8; 4096], left: Unread) -> Command {
 // How many bytes follow the letter and the size.
 fn body(letter: u8, size: u8) -> u8 {
     match letter {
-        b'U' => 12,
+        b'U' => 16,
         b'S' => size,
+        b'T' => 1,
         b'L' => bytes::RECORD,
         _ => 0,
     }

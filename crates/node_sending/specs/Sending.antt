@@ -24,3 +24,7 @@ bitsSent v = cond (isMember (v .state)) (markBits (sponsorsIn v) v) 0
 -- "the return bit is 1 if returning is not 0. A knock carries .. return bit 0."
 abbrev pub returnSent : Node → Bool
 returnSent v = isMember (v .state) && not (eqb (v .returning) 0)
+
+-- "Sending .. is given the sender's job byte"; "A knock carries zero job bits" (document 02, h).
+abbrev pub jobsSent : ℕ → Node → ℕ
+jobsSent jobs v = cond (isMember (v .state)) jobs 0

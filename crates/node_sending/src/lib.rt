@@ -5,7 +5,7 @@ use node_record::is_following;
 use node_record::is_member;
 ghost use mathlib.Core.Path.{_≡_};
 ghost use Rattle.node_record.specs.Sponsoring.{sponsorsIn};
-ghost use Rattle.node_sending.specs.Sending.{sends, markBits, bitsSent, returnSent};
+ghost use Rattle.node_sending.specs.Sending.{sends, markBits, bitsSent, returnSent, jobsSent};
 
 // The acknowledgement bits of a member: its marks of those that it sponsors, which one walk back
 // takes one after the other.
@@ -51,4 +51,15 @@ pub fn return_sent(v: Node) -> bool
 {
     let state = v.state;
     is_member(state) & (v.returning != 0)
+}
+
+// The job byte that it sends there, where this one is given.
+pub fn jobs_sent(jobs: u8, v: Node) -> u8
+    ensures { λ r. ⌜ r ≡ jobsSent jobs v ⌝ }
+{
+    let state = v.state;
+    if !is_member(state) {
+        return 0;
+    }
+    jobs
 }

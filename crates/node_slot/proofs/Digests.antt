@@ -35,7 +35,7 @@ pub sound-own : (v : Node) → sound v ≡ true → (1 ≤ v .own) × (v .own �
 sound-own v e =
     let c = clauses v e in
     let own = node-number (v .cable .n) (v .own) (c .own) in
-    (own .0, omega (arith, own .1, ring-size (v .cable .n) (c .ring)))
+    (own .0, omega (arith, own .1, ring-size (v .cable .n) (c .choices .ring)))
 
 pub sound-marks : (v : Node) → sound v ≡ true → v .present < 2 ^ 32
 sound-marks v e =
@@ -43,7 +43,7 @@ sound-marks v e =
     let s = both (within (v .cable .n) (v .set)) (within (v .cable .n) (v .present) && subset (v .present) (v .set)) (c .sets) in
     let m = both (within (v .cable .n) (v .present)) (subset (v .present) (v .set)) (s .1) in
     let marks : v .present < 2 ^ v .cable .n = ltb-true (v .present) (2 ^ v .cable .n) (m .0) in
-    let word : 2 ^ v .cable .n ≤ 2 ^ 32 = pow-mono {i = v .cable .n} {j = 32} (ring-size (v .cable .n) (c .ring) .1) in
+    let word : 2 ^ v .cable .n ≤ 2 ^ 32 = pow-mono {i = v .cable .n} {j = 32} (ring-size (v .cable .n) (c .choices .ring) .1) in
     omega arith
 
 -- ---- the slot

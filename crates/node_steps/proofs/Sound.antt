@@ -34,7 +34,7 @@ use Rattle.node_steps.proofs.Answers.{told-by}
 use Rattle.node_steps.specs.Inner.{readReturn, readMarked, departing, insideSlot, outsideSlot, slotByCases}
 
 numbers : (v : Node) → Tracking v → InRange (v .cable) (v .own) (v .slots)
-numbers v k = record { ring = k .ring; sponsors = k .sponsors; own-in = k .own; slots-in = k .slots }
+numbers v k = record { choices = k .choices; own-in = k .own; slots-in = k .slots }
 
 -- ---- marks within a set
 
@@ -114,10 +114,9 @@ heard-knocking false false c f e = e
 
 marked-tracks : (s : ℕ) (heard : Reading) (v : Node) → has (v .set) s ≡ true → Tracking v → Tracking (readMarked s heard v)
 marked-tracks s heard v e k =
-    let m = marks-after s heard v (ring-size (v .cable .n) (k .ring) .1) (k .set-in) e (record { lt = k .marks-in; within = k .marked }) in
+    let m = marks-after s heard v (ring-size (v .cable .n) (k .choices .ring) .1) (k .set-in) e (record { lt = k .marks-in; within = k .marked }) in
     record {
-      ring = k .ring;
-      sponsors = k .sponsors;
+      choices = k .choices;
       own = k .own;
       slots = k .slots;
       tracking = k .tracking;
@@ -148,8 +147,7 @@ knock-tracks v e k =
     let f = tracks-following (v .state) e in
     let absent : has (v .set) (v .own) ≡ false = sym (k .ownIn) ∙ f .0 in
     record {
-      ring = k .ring;
-      sponsors = k .sponsors;
+      choices = k .choices;
       own = k .own;
       slots = k .slots;
       tracking = refl;
@@ -170,8 +168,7 @@ note-tracks : (s : ℕ) (v : Node) → s ≤ v .cable .n → s ≢ v .own → ha
 note-tracks s v l d e z k =
     let none : isKnocking (v .state) ≡ false = k .knock ∙ ne-eqb (v .returning) (v .own) (λ q. omega (arith, node-number (v .cable .n) (v .own) (k .own))) in
     record {
-      ring = k .ring;
-      sponsors = k .sponsors;
+      choices = k .choices;
       own = k .own;
       slots = k .slots;
       tracking = k .tracking;
@@ -203,8 +200,7 @@ noted-tracks s heard v l e k =
 departed-tracks : (m : ℕ) (v : Node) → has (v .present) m ≡ false → m ≢ v .own → Tracking v → Tracking (withSet (without (v .set) m) v)
 departed-tracks m v off d k =
     record {
-      ring = k .ring;
-      sponsors = k .sponsors;
+      choices = k .choices;
       own = k .own;
       slots = k .slots;
       tracking = k .tracking;
@@ -248,8 +244,7 @@ knocking-no-member (Out cause) e = refl
 refollow-tracks : (v : Node) → isKnocking (v .state) ≡ true → v .«return_heard» ≡ false → Tracking v → Tracking (withReturning Following 0 v)
 refollow-tracks v e f k =
     record {
-      ring = k .ring;
-      sponsors = k .sponsors;
+      choices = k .choices;
       own = k .own;
       slots = k .slots;
       tracking = refl;
@@ -298,8 +293,7 @@ joined-tracks v e k =
     let r = node-number (v .cable .n) (v .returning) e in
     let l = on-list-tracks (v .state) (k .tracking) in
     record {
-      ring = k .ring;
-      sponsors = k .sponsors;
+      choices = k .choices;
       own = k .own;
       slots = k .slots;
       tracking = l .0;
@@ -318,7 +312,7 @@ joined-tracks v e k =
     there : has (with (v .set) (v .returning)) (v .returning) ≡ true
     there =
         let r = node-number (v .cable .n) (v .returning) e in
-        has-with (v .set) (v .returning) (r .0) (omega (arith, r .1, ring-size (v .cable .n) (k .ring)))
+        has-with (v .set) (v .returning) (r .0) (omega (arith, r .1, ring-size (v .cable .n) (k .choices .ring)))
 
     kept : (x : ℕ) → has (with (v .present) (v .returning)) x ≡ true → Dec (v .returning ≡ x) → has (with (v .set) (v .returning)) x ≡ true
     kept x h (yes p) = ap (has (with (v .set) (v .returning))) (sym p) ∙ there
@@ -349,7 +343,7 @@ joined-enough v e k two m =
     (λ t. absurd (true≢false (sym (ap isMember (on-list-member (v .state) t)) ∙ m)))
     (λ t.
     let h : 2 ≤ size (v .cable .n) (v .set) = two (sym (ap isMember (on-list-stays (v .state) t)) ∙ m) in
-    omega (arith, size-with (v .cable .n) (v .set) (v .returning) (r .0) (r .1) (omega (arith, r .1, ring-size (v .cable .n) (k .ring))) (k .outside)))
+    omega (arith, size-with (v .cable .n) (v .set) (v .returning) (r .0) (r .1) (omega (arith, r .1, ring-size (v .cable .n) (k .choices .ring))) (k .outside)))
 
 join-sound : (s : ℕ) (v : Node) → joins s v ≡ true → Tracking v → (isMember (v .state) ≡ false → 2 ≤ size (v .cable .n) (v .set)) → sound (join v) ≡ true
 unfolding join

@@ -6,7 +6,8 @@ use mathlib.Core.Bool.{Bool, true, false, _&&_}
 use mathlib.Core.List.{List}
 use Rattle.refusal.specs.declared.Refusal.{Refusal}
 use Rattle.refusal.specs.declared.Refusal.the-variants.{PlanLine, RingSize, SponsorCount}
-use Rattle.ring.specs.Ring.{cableOf, ringSize, sponsorCount}
+use Rattle.ring.specs.Ring.{cableOf, ringSize, sponsorCount, cableFits}
+use Rattle.ring.proofs.Ranges.{fits-by}
 use Rattle.plan_line.specs.declared.Opening.{Opening}
 use Rattle.plan_line.specs.declared.Opening.the-variants as opening
 use Rattle.plan_line.specs.Words.{after, before, isNumber, valueOf}
@@ -15,7 +16,7 @@ use Rattle.plan_line.specs.Plan.{ifOpened, numbersOf, openingOf, ringOf,
 -- ---- line one
 
 abbrev pub RingIn : Opening → Type 0
-RingIn (opening.Ring n k) = (ringSize n ≡ true) × (sponsorCount (cableOf n k) ≡ true)
+RingIn (opening.Ring n k) = cableFits (cableOf n k) ≡ true
 RingIn (opening.Refused cause) = Unit {0}
 
 if-opened : (b : Bool) (cause : Refusal) (o : Opening) → (b ≡ true → RingIn o) → RingIn (ifOpened b cause o)
@@ -28,7 +29,7 @@ opened line =
     if-opened (shortEnough line) PlanLine (numbersOf (before line) (after line)) (λ _.
     if-opened (isNumber (before line) && isNumber (after line)) PlanLine (ringOf n k) (λ _.
     if-opened (ringSize n) RingSize (ifOpened (sponsorCount (cableOf n k)) SponsorCount (opening.Ring n k)) (λ size.
-    if-opened (sponsorCount (cableOf n k)) SponsorCount (opening.Ring n k) (λ count. (size, count)))))
+    if-opened (sponsorCount (cableOf n k)) SponsorCount (opening.Ring n k) (λ count. fits-by (cableOf n k) (record { ring = size; sponsors = count; jobs = refl })))))
   where
     n : ℕ
     n = valueOf (before line)

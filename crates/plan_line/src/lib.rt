@@ -283,7 +283,7 @@ fn ring_of(n: u32, k: u32) -> Opening
     if !ring::is_ring_size(n) {
         return Opening::Refused(Refusal::RingSize);
     }
-    if !ring::is_sponsor_count(Cable { n, k }) {
+    if !ring::is_sponsor_count(Cable { n, k, m: 0 }) {
         return Opening::Refused(Refusal::SponsorCount);
     }
     Opening::Ring(n, k)

@@ -10,7 +10,8 @@ use lib.ListN.{length, take, drop, drop-of-length-le, length-take, length-replic
 use lib.Seq.{take-all}
 use borrow.Author.Tests.{le-ltb, lt-ltb}
 use Rattle.refusal.specs.declared.Refusal.the-variants.{PlanLine}
-use Rattle.ring.proofs.Ranges.{ring-size}
+use Rattle.ring.proofs.Ranges.{ring-size, fitting}
+use Rattle.ring.specs.Ring.{cableOf}
 use Rattle.node_record.specs.declared.Node.{Node}
 use Rattle.node.specs.Calls.{noNode}
 use Rattle.bench.specs.Table.{Table, tableSound}
@@ -90,7 +91,7 @@ with-both L n {rows} {rows′} {o} {o′} e = ap (λ (l : Rows). planWith L n l 
 
 -- line one
 first-is : (L : ℕ) (o : Opening) → RingIn o → planWith L (openedBy o .n) (left (sizeOf (openedBy o .n)) noRows (openingAct o)) (said (sizeOf (openedBy o .n)) noRows (openingAct o)) ≡ planOpened L (openedBy o)
-first-is L (opening.Ring n k) r = with-both L n (on-bench n noRows (openingAct (opening.Ring n k)) (length-replicate 32 noNode) (omega (arith, ring-size n (r .0))) (line.opened n noRows n k))
+first-is L (opening.Ring n k) r = with-both L n (on-bench n noRows (openingAct (opening.Ring n k)) (length-replicate 32 noNode) (omega (arith, ring-size n (fitting (cableOf n k) r .ring))) (line.opened n noRows (cableOf n k)))
 first-is L (opening.Refused cause) r = with-both L 0 (line.refused 1 noRows cause)
 
 -- a later line

@@ -11,8 +11,8 @@ use lib.ListN.{length, take, drop, drop-of-length-le, length-take, length-replic
 use lib.Seq.{take-all, take-at}
 use borrow.Author.Tests.{ne-eqb, ltb-false}
 use Rattle.nodeset.proofs.Tests.{by-cases}
-use Rattle.ring.specs.Ring.{cableOf, ringSize, sponsorCount}
-use Rattle.ring.proofs.Ranges.{ring-size}
+use Rattle.ring.specs.Ring.{cableOf, cableFits}
+use Rattle.ring.proofs.Ranges.{ring-size, fitting}
 use Rattle.node.specs.Calls.{noNode}
 use Rattle.bench.specs.Table.{Table, recordOf, slotsOf, tableSound}
 use Rattle.bench.specs.Outcomes.{endedOf}
@@ -91,19 +91,22 @@ module _ (n : ℕ) (rows : Rows) (sound : tableSound (tableOf n rows) ≡ true) 
 
 -- ---- line one
 
-module _ (n k : ℕ) (ring : ringSize n ≡ true) (sponsors : sponsorCount (cableOf n k) ≡ true) where
+module _ (n k : ℕ) (fits : cableFits (cableOf n k) ≡ true) where
+  in-ring : (3 ≤ n) × (n ≤ 32)
+  in-ring = ring-size n (fitting (cableOf n k) fits .ring)
+
   one-each : length (tableOf n noRows) ≡ n
-  one-each = omega (arith, length-take n noRows, length-replicate 32 noNode, ring-size n ring)
+  one-each = omega (arith, length-take n noRows, length-replicate 32 noNode, in-ring)
 
   start : Placed (cableOf n k) 0 (startOf n k)
-  start = start-placed (cableOf n k) ring sponsors (tableOf n noRows) one-each
+  start = start-placed (cableOf n k) fits (tableOf n noRows) one-each
 
   pub opened-table : tableOf n (openedBy (opening.Ring n k) .rows) ≡ startOf n k
   unfolding by-value.callOf endedOf
   opened-table = table-replaced n noRows (startOf n k) (start .length-is ∙ sym one-each)
 
   start-sound : tableSound (startOf n k) ≡ true
-  start-sound = placed-sound (cableOf n k) 0 (startOf n k) (omega (arith, ring-size n ring)) start
+  start-sound = placed-sound (cableOf n k) 0 (startOf n k) (omega (arith, in-ring)) start
 
 -- ---- a plan
 
@@ -162,7 +165,7 @@ first-line p l begun going = simp (going, begun)
 opened-sound : (L : ℕ) (o : Opening) → RingIn o → planSound (planOpened L (openedBy o)) ≡ true
 unfolding planSound
 opened-sound L (opening.Ring n k) r =
-    sound-table (planOpened L (openedBy (opening.Ring n k))) (ap tableSound (opened-table n k (r .0) (r .1)) ∙ start-sound n k (r .0) (r .1))
+    sound-table (planOpened L (openedBy (opening.Ring n k))) (ap tableSound (opened-table n k r) ∙ start-sound n k r)
 opened-sound L (opening.Refused cause) r = refl
 
 pub sound-line : (p : Plan) (l : List ℕ) → planSound p ≡ true → planSound (afterLine p l) ≡ true

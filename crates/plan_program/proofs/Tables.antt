@@ -84,7 +84,7 @@ module _ (n k : ℕ) (first : List ℕ) (opens : Opens n k first) where
   reached-first = record {
     opened = ap (λ (p : Plan). eqb (p .lines) 0) begun ∙ next-line-some 0;
     sound = sound-line noPlan first refl;
-    table = ap (λ (p : Plan). tableOf (p .n) (p .rows)) begun ∙ opened-table n k (ring .0) (ring .1);
+    table = ap (λ (p : Plan). tableOf (p .n) (p .rows)) begun ∙ opened-table n k ring;
   }
 
 pub same-tables : SameTables

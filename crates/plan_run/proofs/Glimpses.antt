@@ -15,6 +15,7 @@ use Rattle.nodeset.proofs.Tests.{by-cases}
 use Rattle.ring.specs.Ring.{nodeNumber, ringSize, sender}
 use Rattle.ring.proofs.Ranges.{node-number, ring-size}
 use Rattle.ring.proofs.Senders.{sender-range}
+use Rattle.ring.specs.declared.Cable.{Cable}
 use Rattle.node_record.specs.declared.Node.{Node}
 use Rattle.node_record.specs.States.{isOut}
 use Rattle.node.specs.Calls.{noNode}
@@ -99,7 +100,7 @@ module _ (t : Table) (sound : tableSound t ≡ true) where
         ∙ sym (said t sound .out a named)
 
   same-order : (c : Command) → orderOf c (glimpseOf t (askedBy c)) (length t) 64 true ≡ orderOf c (surveyOf t) (length t) 64 true
-  same-order (command.SetUp n k) = refl
+  same-order (command.SetUp cable) = refl
   same-order (command.Off a) = rw (fine-same 0, n-same 0) refl
   same-order (command.Restart a) =
       let by : Bool → Order = λ b. ifGood (fineTable (surveyOf t) (length t)) Unsound (ifGood (nodeNumber (surveyOf t .cable .n) a) NodeNumber (ifGood b NotOut (order.Restart a))) in
@@ -143,9 +144,9 @@ module _ (n : ℕ) (rows : Rows) where
   unfolding orderOn
   refused cause = (ap (λ (l : Rows). l ++ drop n rows) (still cause 0 t) ∙ take-append-drop n rows, refl)
 
-  pub opened : (m k : ℕ) → Does n rows (act.Call (command.SetUp m k))
+  pub opened : (cable : Cable) → Does n rows (act.Call (command.SetUp cable))
   unfolding orderOn
-  opened m k = called (command.SetUp m k) refl
+  opened cable = called (command.SetUp cable) refl
 
   pub later : tableSound t ≡ true → (a : Act) → Does n rows a
   unfolding orderOn

@@ -2,6 +2,7 @@
 use Prim.Native.Nat.{ℕ}
 use mathlib.Core.Bool.{true}
 use lib.ListN.{length}
+use Rattle.ring.specs.Ring.{cableOf}
 use Rattle.bench.specs.Table.{Table}
 use Rattle.bench.specs.declared.Command.{Command}
 use Rattle.bench.specs.declared.Command.the-variants as command
@@ -20,12 +21,12 @@ use Rattle.plan_run.specs.declared.Act.the-variants as act
 
 -- What line one has the bench do.
 abbrev pub openingAct : Opening → Act
-openingAct (opening.Ring n k) = act.Call (command.SetUp n k)
+openingAct (opening.Ring n k) = act.Call (command.SetUp (cableOf n k))
 openingAct (opening.Refused cause) = act.Refuse cause
 
 -- The node that a command asks about: the one to be restarted.
 abbrev pub askedBy : Command → ℕ
-askedBy (command.SetUp n k) = 0
+askedBy (command.SetUp cable) = 0
 askedBy (command.Off a) = 0
 askedBy (command.Restart a) = a
 askedBy (command.Slot lost missed) = 0

@@ -6,6 +6,7 @@ use mathlib.Core.List.{List}
 use lib.ListN.{replicate}
 use Rattle.refusal.specs.declared.Refusal.{Refusal}
 use Rattle.node.specs.Calls.{noNode}
+use Rattle.ring.specs.Ring.{cableOf}
 use Rattle.bench.specs.declared.Command.the-variants as command
 use Rattle.bench.specs.declared.Outcome.the-variants as outcome
 use Rattle.bench_by_value.specs.declared.Ran.{Ran}
@@ -51,7 +52,7 @@ openedAs n r = record { n = n; rows = r .rows; outcome = r .outcome }
 
 -- "Line one: n, space, k."
 abbrev pub openedBy : Opening → Opened
-openedBy (opening.Ring n k) = openedAs n (callOf n (command.SetUp n k) 64 noRows)
+openedBy (opening.Ring n k) = openedAs n (callOf n (command.SetUp (cableOf n k)) 64 noRows)
 openedBy (opening.Refused cause) = openedAs 0 (refused noRows cause)
 
 unfoldable pub openedOf : List ℕ → Opened

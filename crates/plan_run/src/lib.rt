@@ -10,6 +10,7 @@ use node_record::Node;
 use plan_line::Line;
 use plan_line::Opening;
 use refusal::Refusal;
+use ring::Cable;
 ghost use mathlib.Core.Path.{_≡_};
 ghost use Prim.Native.Nat.{_≤_};
 ghost use lib.ListN.{length};
@@ -66,7 +67,7 @@ pub fn first_act(line: &[u8]) -> Act
 {
     let opening = plan_line::opening_of(line);
     match opening {
-        Opening::Ring(n, k) => Act::Call(Command::SetUp(n, k)),
+        Opening::Ring(n, k) => Act::Call(Command::SetUp(Cable { n, k, m: 0 })),
         Opening::Refused(cause) => Act::Refuse(cause),
     }
 }
@@ -87,7 +88,7 @@ fn asked_by(command: Command) -> u32
     ensures { λ r. ⌜ r ≡ askedBy command ⌝ }
 {
     match command {
-        Command::SetUp(_, _) => 0,
+        Command::SetUp(_) => 0,
         Command::Off(_) => 0,
         Command::Restart(a) => a,
         Command::Slot(_, _) => 0,

@@ -42,7 +42,7 @@ module _ (a b c d e : Node) where
   start = setUpOf cable lent .table
 
   begins : Placed cable 0 start
-  begins = start-placed cable refl refl lent refl
+  begins = start-placed cable refl lent refl
 
   pub departed : shown (tableAfter start (reverse departure))
       ≡ (Member, 0b11101) ∷ (Out Unconfirmed, 0) ∷ (Member, 0b11101) ∷ (Member, 0b11101) ∷ (Member, 0b11101) ∷ []
@@ -69,4 +69,4 @@ module _ (a b c d e : Node) where
   -- so demand 3 speaks of it
   pub claims-follow : Claims cable start (reverse return)
   unfolding EverySequence
-  claims-follow = demand3 cable refl refl lent refl (reverse return) premises-met
+  claims-follow = demand3 cable refl lent refl (reverse return) premises-met

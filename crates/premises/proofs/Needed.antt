@@ -7,8 +7,8 @@ use native.Mathlib.Omega.{arith}
 use lib.Dec.{lit≤}
 use lib.ListN.{length}
 use Rattle.ring.specs.declared.Cable.{Cable}
-use Rattle.ring.specs.Ring.{cableOf, ringSize, sponsorCount}
-use Rattle.ring.proofs.Ranges.{ring-size}
+use Rattle.ring.specs.Ring.{cableOf, cableFits}
+use Rattle.ring.proofs.Ranges.{ring-size, fitting}
 use Rattle.node_record.specs.declared.Node.{Node}
 use Rattle.nodeset.proofs.Tests.{both}
 use Rattle.node.specs.Calls.{noNode}
@@ -40,17 +40,17 @@ each-of-four cable start cs h all-heard = h .all-heard
 
 -- ---- what a run that bites has to show
 
-module _ (cable : Cable) (ring : ringSize (cable .n) ≡ true) (sponsors : sponsorCount cable ≡ true) (lent : Table) (one-each : length lent ≡ cable .n) (cs : List Call) where
+module _ (cable : Cable) (fits : cableFits cable ≡ true) (lent : Table) (one-each : length lent ≡ cable .n) (cs : List Call) where
   open Cable cable using (n)
 
   abbrev start : Table
   start = setUpOf cable lent .table
 
   pos : 1 ≤ n
-  pos = omega (arith, ring-size n ring)
+  pos = omega (arith, ring-size n (fitting cable fits .ring))
 
   begins : Placed cable 0 start
-  begins = start-placed cable ring sponsors lent one-each
+  begins = start-placed cable fits lent one-each
 
   -- tests of three premises
   abbrev tests : Premise → Premise → Premise → Bool
@@ -77,8 +77,7 @@ module _ (cable : Cable) (ring : ringSize (cable .n) ≡ true) (sponsors : spons
   -- the lists differ where the bench tells a distance that is not 0
   bites-agree : (p : Premise) (d : ℕ) → other-tests p ≡ true → test p cable start cs ≡ false → greatest n (tableAfter start cs) ≡ suc d → Bites p Agree cable lent cs
   bites-agree p d o f e = record {
-    ring = ring;
-    sponsors = sponsors;
+    fits = fits;
     one-each = one-each;
     others = others-by p o;
     broken = by-failed-test cable pos start begins cs p f;
@@ -89,8 +88,7 @@ module _ (cable : Cable) (ring : ringSize (cable .n) ≡ true) (sponsors : spons
   bites-in-time : (p : Premise) (s : ℕ) → other-tests p ≡ true → test p cable start cs ≡ false → LostOrSilent cable start s cs → s + (n - 1) ≤ slotsOf (tableAfter start cs) → decidingRan cable start s cs ≡ false
       → Bites p InTime cable lent cs
   bites-in-time p s o f x l e = record {
-    ring = ring;
-    sponsors = sponsors;
+    fits = fits;
     one-each = one-each;
     others = others-by p o;
     broken = by-failed-test cable pos start begins cs p f;
@@ -105,19 +103,19 @@ module _ (a b c d : Node) where
 
   pub failures-bite : Bites few-failures Agree (cableOf 4 2) four (reverse twoMiss)
   unfolding computed every noted scan
-  failures-bite = bites-agree (cableOf 4 2) refl refl four refl (reverse twoMiss) few-failures 0 refl refl refl
+  failures-bite = bites-agree (cableOf 4 2) refl four refl (reverse twoMiss) few-failures 0 refl refl refl
 
   pub list-bites : Bites list-kept Agree (cableOf 4 3) four (reverse threeLeft)
   unfolding computed every noted scan
-  list-bites = bites-agree (cableOf 4 3) refl refl four refl (reverse threeLeft) list-kept 0 refl refl refl
+  list-bites = bites-agree (cableOf 4 3) refl four refl (reverse threeLeft) list-kept 0 refl refl refl
 
   pub list-bites-in-time : Bites list-kept InTime (cableOf 4 3) four (reverse noThird)
   unfolding computed every noted scan next onwards isDeciding decidingRan
-  list-bites-in-time = bites-in-time (cableOf 4 3) refl refl four refl (reverse noThird) list-kept 2 refl refl (lit≤ tt, lit≤ tt, refl, refl) (lit≤ tt) refl
+  list-bites-in-time = bites-in-time (cableOf 4 3) refl four refl (reverse noThird) list-kept 2 refl refl (lit≤ tt, lit≤ tt, refl, refl) (lit≤ tt) refl
 
   pub hearing-bites : Bites all-heard Agree (cableOf 4 2) four (reverse missesTwice)
   unfolding computed every noted scan
-  hearing-bites = bites-agree (cableOf 4 2) refl refl four refl (reverse missesTwice) all-heard 0 refl refl refl
+  hearing-bites = bites-agree (cableOf 4 2) refl four refl (reverse missesTwice) all-heard 0 refl refl refl
 
 module _ (a b c d e : Node) where
   abbrev five : Table
@@ -125,13 +123,13 @@ module _ (a b c d e : Node) where
 
   pub outside-bites : Bites one-outside Agree (cableOf 5 2) five (reverse twoKnocks)
   unfolding computed every noted scan
-  outside-bites = bites-agree (cableOf 5 2) refl refl five refl (reverse twoKnocks) one-outside 1 refl refl refl
+  outside-bites = bites-agree (cableOf 5 2) refl five refl (reverse twoKnocks) one-outside 1 refl refl refl
 
 -- ---- demand 3 does not hold without any of them
 
 refuted : (p : Premise) (cable : Cable) (lent : Table) (cs : List Call) → Bites p Agree cable lent cs → Without p → ⊥
 unfolding EverySequence
-refuted p cable lent cs b w = b .fails (at-end (Agree cable (setUpOf cable lent .table)) cs (w cable (b .ring) (b .sponsors) lent (b .one-each) cs (b .others) .agree))
+refuted p cable lent cs b w = b .fails (at-end (Agree cable (setUpOf cable lent .table)) cs (w cable (b .fits) lent (b .one-each) cs (b .others) .agree))
 
 pub needed : EachNeeded
 needed few-failures = refuted few-failures _ _ _ (failures-bite noNode noNode noNode noNode)
@@ -167,5 +165,5 @@ between-needed w =
     let o = noNode in
     let start = setUpOf (cableOf 5 3) (o ∷ o ∷ o ∷ o ∷ o ∷ []) .table in
     let m = meets-before o o o o o in
-    let same = at-end (λ cs. tableAfter start cs ≡ runBefore start cs) (reverse twoAtOnce) (w (cableOf 5 3) refl refl (o ∷ o ∷ o ∷ o ∷ o ∷ []) refl (reverse twoAtOnce) (record { few-failures = m few-failures; one-outside = m one-outside; list-kept = m list-kept; all-heard = m all-heard })) in
+    let same = at-end (λ cs. tableAfter start cs ≡ runBefore start cs) (reverse twoAtOnce) (w (cableOf 5 3) refl (o ∷ o ∷ o ∷ o ∷ o ∷ []) refl (reverse twoAtOnce) (record { few-failures = m few-failures; one-outside = m one-outside; list-kept = m list-kept; all-heard = m all-heard })) in
     true≢false (sym (ap (λ (t : Table). isMember (recordOf t 2 .state)) same ∙ was-member o o o o o) ∙ has-left o o o o o)

@@ -7,7 +7,7 @@ use mathlib.Core.List.{List}
 use lib.ListN.{length}
 use Rattle.nodeset.specs.Sums.{sum, num}
 use Rattle.ring.specs.declared.Cable.{Cable}
-use Rattle.ring.specs.Ring.{ringSize, sponsorCount}
+use Rattle.ring.specs.Ring.{cableFits}
 use Rattle.bench.specs.Table.{Table}
 use Rattle.bench.specs.Calls.{setUpOf}
 use Rattle.bench.specs.Runs.{Call, tableAfter, entryOn}
@@ -40,8 +40,7 @@ Others all-heard cable start cs = Holds few-failures cable start cs × Holds one
 -- ---- a run that breaks just this premise, and with it this claim of the table that it ends in
 
 pub record Bites (p : Premise) (Claim : Cable → Table → List Call → Type 0) (cable : Cable) (lent : Table) (cs : List Call) : Type 0 where
-  pub ring : ringSize (cable .n) ≡ true
-  pub sponsors : sponsorCount cable ≡ true
+  pub fits : cableFits cable ≡ true
   pub one-each : length lent ≡ cable .n
   pub others : Others p cable (setUpOf cable lent .table) cs
   pub broken : Holds p cable (setUpOf cable lent .table) cs → ⊥

@@ -3,7 +3,7 @@ use Prim.Native.Nat.{ℕ}
 use mathlib.Core.Bool.{cond}
 use lib.Dec.{eqb}
 use Rattle.refusal.specs.declared.Refusal.{Refusal}
-use Rattle.refusal.specs.declared.Refusal.the-variants.{RingSize, SponsorCount, NodeNumber, Unsound, SlotLimit, MessageLength, SectionCount, SpareBit, OutputShort, NotItsSlot, NotOut, PlanLine, LedgerUnfit}
+use Rattle.refusal.specs.declared.Refusal.the-variants.{RingSize, SponsorCount, NodeNumber, Unsound, SlotLimit, MessageLength, SectionCount, SpareBit, OutputShort, NotItsSlot, NotOut, PlanLine, LedgerUnfit, JobCount}
 
 abbrev pub numberOf : Refusal → ℕ
 -- "n not 3 to 32"
@@ -32,6 +32,8 @@ numberOf NotOut = 11
 numberOf PlanLine = 12
 -- "a ledger whose length is not n, or with a count above the slot count plus one" (document 02, request a)
 numberOf LedgerUnfit = 13
+-- "Job count above 8 at set-up, in reader or writer" (request h)
+numberOf JobCount = 14
 
 -- The cause with this number, so that a definition can name a refusal as document 01 does. (proofs/Numbers: its number is this one. No
 -- definition asks for a number that is none.)
@@ -48,4 +50,5 @@ cause number =
     (cond (eqb number 9) OutputShort
     (cond (eqb number 10) NotItsSlot
     (cond (eqb number 11) NotOut
-    (cond (eqb number 12) PlanLine LedgerUnfit)))))))))))
+    (cond (eqb number 12) PlanLine
+    (cond (eqb number 13) LedgerUnfit JobCount))))))))))))

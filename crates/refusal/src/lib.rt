@@ -17,6 +17,7 @@ pub enum Refusal {
     NotOut,
     PlanLine,
     LedgerUnfit,
+    JobCount,
 }
 
 // The number of the cause.
@@ -37,5 +38,6 @@ pub fn number(cause: Refusal) -> u32
         Refusal::NotOut => 11,
         Refusal::PlanLine => 12,
         Refusal::LedgerUnfit => 13,
+        Refusal::JobCount => 14,
     }
 }

@@ -1,4 +1,4 @@
--- Document 01, "The ring", in the order of its sentences. What set-up chooses for the whole cable, n and k, is one struct.
+-- Document 01, "The ring", in the order of its sentences. What set-up chooses for the whole cable is one struct: n and k, and the number of jobs m of document 02, h.
 use Prim.Native.Nat.{ℕ, zero, suc, _+_, _-_, _%_, min}
 use mathlib.Core.Bool.{Bool, false, cond, _&&_}
 use lib.Dec.{eqb, leb}
@@ -8,13 +8,13 @@ use Rattle.ring.specs.declared.Cable.{Cable}
 use Rattle.ring.specs.declared.Found.{Found}
 use Rattle.ring.specs.declared.Found.the-variants.{Member, Nobody}
 
--- The cable with these numbers.
+-- The cable with these numbers, and no jobs.
 abbrev pub cableOf : ℕ → ℕ → Cable
-cableOf n k = record { n = n; k = k }
+cableOf n k = record { n = n; k = k; m = 0 }
 
 -- The same choices.
 abbrev pub sameCable : Cable → Cable → Bool
-sameCable a b = eqb (a .n) (b .n) && eqb (a .k) (b .k)
+sameCable a b = eqb (a .n) (b .n) && (eqb (a .k) (b .k) && eqb (a .m) (b .m))
 
 -- "n nodes are numbered 1 to n, n from 3 to 32."
 abbrev pub ringSize : ℕ → Bool
@@ -26,6 +26,14 @@ nodeNumber n x = leb 1 x && leb x n
 -- "k is from 2 to n - 1."
 abbrev pub sponsorCount : Cable → Bool
 sponsorCount cable = leb 2 (cable .k) && leb (cable .k) (cable .n - 1)
+
+-- "The number of jobs m, 0 to 8" (h).
+abbrev pub jobCount : ℕ → Bool
+jobCount m = leb m 8
+
+-- Every choice is in range.
+abbrev pub cableFits : Cable → Bool
+cableFits cable = ringSize (cable .n) && (sponsorCount cable && jobCount (cable .m))
 
 -- "The sender of slot s is ((s - 1) mod n) + 1."
 unfoldable pub sender : ℕ → ℕ → ℕ

@@ -4,15 +4,16 @@ use refusal::Refusal;
 ghost use mathlib.Core.Path.{_≡_};
 ghost use Prim.Native.Nat.{_+_, _-_};
 ghost use Rattle.nodeset.specs.Sums.{num};
-ghost use Rattle.ring.specs.Ring.{sameCable, ringSize, nodeNumber, sponsorCount, ks, previous, memberBefore, sponsors, sponsored, decided};
+ghost use Rattle.ring.specs.Ring.{sameCable, ringSize, nodeNumber, sponsorCount, jobCount, cableFits, ks, previous, memberBefore, sponsors, sponsored, decided};
 ghost use Rattle.ring.specs.Answers.{senderOf, beforeOf, sponsoredOf, decidedOf};
 ghost use Rattle.ring.specs.Places.{testsOf, startAt, reach, nearestOf, foundAt};
 
-// What set-up chooses for the whole cable: how many nodes are on it, and how many others a member
-// sponsors at the most.
+// What set-up chooses for the whole cable: how many nodes are on it, how many others a member sponsors
+// at the most, and how many jobs a message reports on.
 pub struct Cable {
     pub n: u32,
     pub k: u32,
+    pub m: u32,
 }
 
 // Whose slot it is.
@@ -43,7 +44,7 @@ enum Tests {
 pub fn is_same_cable(a: Cable, b: Cable) -> bool
     ensures { λ r. ⌜ r ≡ sameCable a b ⌝ }
 {
-    (a.n == b.n) & (a.k == b.k)
+    (a.n == b.n) & ((a.k == b.k) & (a.m == b.m))
 }
 
 // Whether a ring may have n nodes.
@@ -65,6 +66,20 @@ pub fn is_sponsor_count(cable: Cable) -> bool
     ensures { λ r. ⌜ r ≡ sponsorCount cable ⌝ }
 {
     2 <= cable.k && cable.k < cable.n
+}
+
+// Whether m is 0 to 8.
+pub fn is_job_count(m: u32) -> bool
+    ensures { λ r. ⌜ r ≡ jobCount m ⌝ }
+{
+    m <= 8
+}
+
+// Whether every choice is in range.
+pub fn cable_fits(cable: Cable) -> bool
+    ensures { λ r. ⌜ r ≡ cableFits cable ⌝ }
+{
+    is_ring_size(cable.n) & (is_sponsor_count(cable) & is_job_count(cable.m))
 }
 
 // How many of c members one of them sponsors.

@@ -103,14 +103,14 @@ pub extern "C" fn ring_is_node_number(n: u32, x: u32) -> bool
 pub extern "C" fn ring_is_sponsor_count(n: u32, k: u32) -> bool
     ensures { λ r. ⌜ r ≡ sponsorCount (cableOf n k) ⌝ }
 {
-    ring::is_sponsor_count(Cable { n, k })
+    ring::is_sponsor_count(Cable { n, k, m: 0 })
 }
 
 #[no_mangle]
 pub extern "C" fn ring_ks(n: u32, k: u32, c: u32) -> u32
     ensures { λ r. ⌜ r ≡ ks (cableOf n k) c ⌝ }
 {
-    ring::ks(Cable { n, k }, c)
+    ring::ks(Cable { n, k, m: 0 }, c)
 }
 
 // Whose slot follows `done` slots: the refusal's number, or 2^33 and the node.
@@ -178,14 +178,14 @@ pub extern "C" fn ring_before(n: u32, set: u32, x: u32, j: u32) -> u64
 pub extern "C" fn ring_sponsored(n: u32, k: u32, set: u32, x: u32, j: u32) -> u64
     ensures { λ r. ⌜ r ≡ lookupNumber (sponsoredOf (cableOf n k) set x j) ⌝ }
 {
-    lookup_number(ring::sponsored(Cable { n, k }, set, x, j))
+    lookup_number(ring::sponsored(Cable { n, k, m: 0 }, set, x, j))
 }
 
 #[no_mangle]
 pub extern "C" fn ring_decided(n: u32, k: u32, set: u32, x: u32) -> u64
     ensures { λ r. ⌜ r ≡ lookupNumber (decidedOf (cableOf n k) set x) ⌝ }
 {
-    lookup_number(ring::decided(Cable { n, k }, set, x))
+    lookup_number(ring::decided(Cable { n, k, m: 0 }, set, x))
 }
 
 #[no_mangle]
@@ -199,12 +199,12 @@ pub extern "C" fn ring_before_back(n: u32, set: u32, x: u32, j: u32) -> u64
 pub extern "C" fn ring_sponsored_back(n: u32, k: u32, set: u32, x: u32, j: u32) -> u64
     ensures { λ r. ⌜ r ≡ lookupBack (sponsoredOf (cableOf n k) set x j) ⌝ }
 {
-    lookup_back(ring::sponsored(Cable { n, k }, set, x, j))
+    lookup_back(ring::sponsored(Cable { n, k, m: 0 }, set, x, j))
 }
 
 #[no_mangle]
 pub extern "C" fn ring_decided_back(n: u32, k: u32, set: u32, x: u32) -> u64
     ensures { λ r. ⌜ r ≡ lookupBack (decidedOf (cableOf n k) set x) ⌝ }
 {
-    lookup_back(ring::decided(Cable { n, k }, set, x))
+    lookup_back(ring::decided(Cable { n, k, m: 0 }, set, x))
 }

@@ -1,7 +1,7 @@
 -- The tables of worked examples hold. Assumes nothing.
 use mathlib.Core.Path.{refl}
 use mathlib.Core.List.{[], _∷_}
-use Rattle.message.specs.Message.{bytesOf, messageOf, little, saidBy, readOf, writeOf}
+use Rattle.message.specs.Message.{bytesOf, twoSections, messageOf, little, saidBy, readOf, writeOf}
 use Rattle.node_record.specs.declared.Node.{Node}
 use Rattle.bench.proofs.Computed.{computed}
 use Rattle.plan_program.proofs.Computed.{printing}
@@ -14,7 +14,7 @@ _and_ : {A B : Type 0} → A → B → A × B
 _and_ x y = (x, y)
 
 pub worked-examples : (a b c d : Node) → AllHold (examples (a ∷ b ∷ c ∷ d ∷ []))
-unfolding examples computed printing bytesOf messageOf little saidBy readOf writeOf
+unfolding examples computed printing bytesOf twoSections messageOf little saidBy readOf writeOf
 worked-examples a b c d =
     refl and refl  -- senders
     and refl and refl and refl and refl  -- {1,3,4}

@@ -64,13 +64,13 @@ examples lent =
     -- "set {2}: nobody."
     ∷ (sponsoredOf (cableOf 5 3) (these (2 ∷ [])) 2 1 gives finds found.Nobody)
     ∷ (decidedOf (cableOf 5 3) (these (2 ∷ [])) 2 gives finds found.Nobody)
-    -- "k = 2, both yes, no return: 02 03 01 00."
-    ∷ (writeOf 2 0b11 false (replicate 4 0xAA) gives (written.Bytes 4, 0x02 ∷ 0x03 ∷ 0x01 ∷ 0x00 ∷ []))
+    -- "k = 2, both yes, no return: 02 03 01 00." ("document 01's messages get 00 00 added for m = 0": document 02, h)
+    ∷ (writeOf 2 0 0b11 false 0 (replicate 6 0xAA) gives (written.Bytes 6, 0x02 ∷ 0x03 ∷ 0x01 ∷ 0x00 ∷ 0x00 ∷ 0x00 ∷ []))
     -- "k = 9, all yes, return: 09 FF 01 01 01."
-    ∷ (writeOf 9 0b1_1111_1111 true (replicate 5 0xAA) gives (written.Bytes 5, 0x09 ∷ 0xFF ∷ 0x01 ∷ 0x01 ∷ 0x01 ∷ []))
+    ∷ (writeOf 9 0 0b1_1111_1111 true 0 (replicate 7 0xAA) gives (written.Bytes 7, 0x09 ∷ 0xFF ∷ 0x01 ∷ 0x01 ∷ 0x01 ∷ 0x00 ∷ 0x00 ∷ []))
     -- "for k = 2, 02 07 01 00 is refusal 8; 02 03 02 00 is 7."
-    ∷ (refusalIn (readOf 2 (0x02 ∷ 0x07 ∷ 0x01 ∷ 0x00 ∷ [])) gives 8)
-    ∷ (refusalIn (readOf 2 (0x02 ∷ 0x03 ∷ 0x02 ∷ 0x00 ∷ [])) gives 7)
+    ∷ (refusalIn (readOf 2 0 (0x02 ∷ 0x07 ∷ 0x01 ∷ 0x00 ∷ 0x00 ∷ 0x00 ∷ []) .reading) gives 8)
+    ∷ (refusalIn (readOf 2 0 (0x02 ∷ 0x03 ∷ 0x02 ∷ 0x00 ∷ 0x00 ∷ 0x00 ∷ []) .reading) gives 7)
     -- "the listing above; node 2 is out, cause 1."
     ∷ (printed input gives listing)
     ∷ (standing (after 4 2 lent slotTwoLost) 2 gives out 1)

@@ -2,7 +2,8 @@
 //! time; it only checks first that both do the same work.
 
 use comparison::library;
-use comparison::model::message;
+use comparison::messages::all_jobs;
+use comparison::model::message::{self, Said};
 use comparison::random::Random;
 use std::hint::black_box;
 use std::time::Instant;
@@ -12,32 +13,39 @@ const MESSAGES: usize = 4096;
 const PASSES: usize = 256;
 const RUNS: usize = 21;
 
+/// All messages have eight jobs; m changes no length.
+const M: u32 = 8;
+
 /// The model behind a call of its own, as the library is.
 #[inline(never)]
-fn model_read(k: u32, bytes: &[u8]) -> Result<(u32, bool), u32> {
-    message::read(k, bytes)
+fn model_read(k: u32, m: u32, bytes: &[u8]) -> Result<Said, u32> {
+    message::read(k, m, bytes)
 }
 
 #[inline(never)]
-fn model_write(k: u32, acks: u32, ret: bool, out: &mut [u8]) -> Result<usize, u32> {
-    message::write(k, acks, ret, out)
+fn model_write(k: u32, m: u32, said: Said, out: &mut [u8]) -> Result<usize, u32> {
+    message::write(k, m, said, out)
 }
 
 /// What both sides are given: valid messages of one k, and what they say.
 struct Input {
     k: u32,
-    said: Vec<(u32, bool)>,
+    said: Vec<Said>,
     bytes: Vec<u8>,
 }
 
 impl Input {
     fn new(k: u32) -> Input {
         let mut random = Random::new(u64::from(k));
-        let said: Vec<(u32, bool)> =
-            (0..MESSAGES).map(|_| (random.number() as u32 >> (32 - k), random.bit())).collect();
+        let mut any = || Said {
+            acks: random.number() as u32 >> (32 - k),
+            return_bit: random.bit(),
+            jobs: random.byte() & all_jobs(M),
+        };
+        let said: Vec<Said> = (0..MESSAGES).map(|_| any()).collect();
         let mut bytes = vec![0; MESSAGES * message::length(k)];
-        for (&(acks, ret), out) in said.iter().zip(bytes.chunks_exact_mut(message::length(k))) {
-            message::write(k, acks, ret, out).expect("k and acknowledgements are in range");
+        for (&said, out) in said.iter().zip(bytes.chunks_exact_mut(message::length(k))) {
+            message::write(k, M, said, out).expect("k and acknowledgements are in range");
         }
         Input { k, said, bytes }
     }
@@ -48,25 +56,25 @@ impl Input {
 
     /// Both sides read each message as said, and write it.
     fn check(&self) {
-        for (&(acks, ret), bytes) in self.said.iter().zip(self.messages()) {
+        for (&said, bytes) in self.said.iter().zip(self.messages()) {
             let mut out = vec![0; bytes.len()];
-            assert_eq!(model_read(self.k, bytes), Ok((acks, ret)));
-            assert_eq!(library::read(self.k, bytes), Ok((acks, ret)));
-            assert_eq!(library::write(self.k, acks, ret, &mut out), Ok(bytes.len() as u64));
+            assert_eq!(model_read(self.k, M, bytes), Ok(said));
+            assert_eq!(library::read(self.k, M, bytes), Ok(said));
+            assert_eq!(library::write(self.k, M, said, &mut out), Ok(bytes.len() as u64));
             assert_eq!(out, bytes);
         }
     }
 
-    fn reads<A>(&self, read: impl Fn(u32, &[u8]) -> A) {
+    fn reads<A>(&self, read: impl Fn(u32, u32, &[u8]) -> A) {
         for bytes in self.messages() {
-            black_box(read(black_box(self.k), black_box(bytes)));
+            black_box(read(black_box(self.k), black_box(M), black_box(bytes)));
         }
     }
 
-    fn writes<A>(&self, write: impl Fn(u32, u32, bool, &mut [u8]) -> A) {
-        let mut out = [0; 8];
-        for &(acks, ret) in &self.said {
-            black_box(write(black_box(self.k), black_box(acks), black_box(ret), black_box(&mut out[..])));
+    fn writes<A>(&self, write: impl Fn(u32, u32, Said, &mut [u8]) -> A) {
+        let mut out = [0; 10];
+        for &said in &self.said {
+            black_box(write(black_box(self.k), black_box(M), black_box(said), black_box(&mut out[..])));
         }
     }
 }

@@ -3,7 +3,8 @@
 //! refusal and leaves both as they were.
 
 use super::ledger::{self, Figures};
-use super::node::{Node, Said, State};
+use super::message::Said;
+use super::node::{Node, State};
 use super::refusal;
 use super::ring::{self, Set};
 
@@ -12,8 +13,8 @@ pub const ROOM: usize = 64;
 
 /// What the nodes do. The bench itself is the same for all of them: a test can try other rules on it.
 pub trait Rules {
-    /// What a node says in the next slot, if it sends.
-    fn says(&self, node: &Node) -> Option<Said>;
+    /// What a node says in the next slot, if it sends; it is given this job byte.
+    fn says(&self, node: &Node, jobs: u8) -> Option<Said>;
     /// A record after the next slot, in which this was heard.
     fn step(&self, node: &Node, heard: Option<Said>) -> Node;
 }
@@ -22,8 +23,8 @@ pub trait Rules {
 pub struct Document01;
 
 impl Rules for Document01 {
-    fn says(&self, node: &Node) -> Option<Said> {
-        node.says()
+    fn says(&self, node: &Node, jobs: u8) -> Option<Said> {
+        node.says(jobs)
     }
 
     fn step(&self, node: &Node, heard: Option<Said>) -> Node {
@@ -70,18 +71,20 @@ pub enum Call {
 }
 
 /// "All start as members", a record for each node in the lent table of this length.
-pub fn set_up(n: u32, k: u32, length: usize) -> Result<Vec<Node>, u32> {
-    let first = Node::set_up(n, k, 1)?;
+pub fn set_up(n: u32, k: u32, m: u32, length: usize) -> Result<Vec<Node>, u32> {
+    let first = Node::set_up(n, k, m, 1)?;
     if length != n as usize {
         return Err(refusal::UNSOUND);
     }
     Ok((1..=n).map(|own| Node { own, ..first }).collect())
 }
 
-/// "one per node in number order, all with the same n, k and slot count", each of them sound
+/// "one per node in number order, all with the same n, k and slot count", each of them sound; "so does a kept choice
+/// .. not the same throughout the table"
 pub fn check_table(nodes: &[Node]) -> Result<(), u32> {
     let Some(first) = nodes.first() else { return Err(refusal::UNSOUND) };
-    let alike = |node: &Node| (node.n, node.k, node.slots) == (first.n, first.k, first.slots);
+    let chosen = |node: &Node| (node.n, node.k, node.m, node.slots);
+    let alike = |node: &Node| chosen(node) == chosen(first);
     let in_order = nodes.iter().zip(1..).all(|(node, number)| node.own == number);
     let whole = nodes.len() == first.n as usize && in_order;
     if whole && nodes.iter().all(|node| alike(node) && node.is_sound()) {
@@ -93,11 +96,7 @@ pub fn check_table(nodes: &[Node]) -> Result<(), u32> {
 
 /// "node number not 1 to n"
 fn check_node(nodes: &[Node], x: u32) -> Result<(), u32> {
-    if ring::is_node(nodes[0].n, x) {
-        Ok(())
-    } else {
-        Err(refusal::NODE)
-    }
+    ring::check_node(nodes[0].n, x)
 }
 
 /// 4, then 3.
@@ -201,7 +200,7 @@ pub fn look(nodes: &[Node], lost: bool) -> Result<Look, u32> {
     Ok(Look {
         slots: nodes[0].slots,
         sender,
-        fate: fate(speaker, speaker.says(), lost),
+        fate: fate(speaker, speaker.says(0), lost),
         list: list(nodes),
         distance: greatest_distance(nodes),
     })
@@ -216,7 +215,7 @@ pub fn next_sender(nodes: &[Node]) -> u32 {
 fn run_slot(rules: &impl Rules, nodes: &mut [Node], lost: bool, missed: Set) -> Slot {
     let sender = next_sender(nodes);
     let speaker = &nodes[sender as usize - 1];
-    let said = rules.says(speaker);
+    let said = rules.says(speaker, 0);
     let fate = fate(speaker, said, lost);
     // "A lost message is heard by nobody, named or not."
     let said = if lost { None } else { said };

@@ -1,9 +1,11 @@
 //! Document 01, "The node record", "One slot, for a member, following or knocking node" and
-//! "Listening", with the own mark of document 02, request e, and the repeated departure of request f. Every call
-//! takes a record and gives the next one, or the number of the refusal: a refused record stays as it was.
+//! "Listening", with the own mark of document 02, request e, the repeated departure of request f and the jobs of
+//! request h. Every call takes a record and gives the next one, or the number of the refusal: a refused record stays
+//! as it was.
 
+use super::message::{self, Said};
+use super::refusal;
 use super::ring::{self, Set};
-use super::{message, refusal};
 
 /// "The out state carries its cause"
 #[derive(Clone, Copy, PartialEq, Eq, Hash, Debug)]
@@ -49,6 +51,8 @@ pub struct Node {
     pub listening: ListeningData,
     /// Request e: "one more mark for "yes heard""
     pub yes_heard: bool,
+    /// Request h: "The record keeps m"
+    pub m: u32,
 }
 
 /// A clause of the soundness sentence and whether a record keeps it.
@@ -58,7 +62,7 @@ pub struct Clause {
 }
 
 /// "A record is sound if ..": its clauses in the document's order, what "The node record" and "Listening"
-/// say of the values, and request e's clause.
+/// say of the values, and the clauses of requests e and h.
 #[rustfmt::skip]
 pub const CLAUSES: &[Clause] = &[
     Clause { says: "n in range", kept: |r| ring::is_size(r.n) },
@@ -87,6 +91,7 @@ pub const CLAUSES: &[Clause] = &[
     Clause { says: "listening data zero or no in every other state", kept: |r| r.listens() || r.listening == ListeningData::default() },
     Clause { says: "following and knocking need two members", kept: |r| !r.returns() || r.set.count() >= 2 },
     Clause { says: "yes heard only in the member state", kept: |r| !r.yes_heard || r.state == State::Member },
+    Clause { says: "m in range", kept: |r| r.m <= message::MOST_JOBS },
 ];
 
 /// A node must leave: with a cause, or because too few members remain.
@@ -95,13 +100,12 @@ pub enum Leaving {
     TooFewMembers,
 }
 
-/// What a readable message says: the acknowledgements, bit 1 lowest, and the return bit.
-pub type Said = (u32, bool);
-
 impl Node {
-    /// "All start as members, set full, all marks on, returning 0."; yes heard is "cleared at set-up".
-    pub fn set_up(n: u32, k: u32, own: u32) -> Result<Node, u32> {
-        ring::check(n, Some(k), own)?;
+    /// "All start as members, set full, all marks on, returning 0."; yes heard is "cleared at set-up". "14, after 2"
+    pub fn set_up(n: u32, k: u32, m: u32, own: u32) -> Result<Node, u32> {
+        ring::check_size(n, Some(k))?;
+        message::check_m(m)?;
+        ring::check_node(n, own)?;
         Ok(Node {
             n,
             k,
@@ -114,6 +118,7 @@ impl Node {
             return_heard: false,
             listening: ListeningData::default(),
             yes_heard: false,
+            m,
         })
     }
 
@@ -188,22 +193,26 @@ impl Node {
         }
     }
 
-    /// The number of bytes written.
-    pub fn send(&self, out: &mut [u8]) -> Result<usize, u32> {
+    /// The number of bytes written. "Sending .. is given the sender's job byte": a spare bit in it is tested in table
+    /// order, before 10.
+    pub fn send(&self, jobs: u8, out: &mut [u8]) -> Result<usize, u32> {
         self.check_sound()?;
         self.check_limit()?;
-        let (acks, return_bit) = self.says().ok_or(refusal::TURN)?;
-        message::write(self.k, acks, return_bit, out)
+        message::check_jobs(self.m, jobs)?;
+        let said = self.says(jobs).ok_or(refusal::TURN)?;
+        message::write(self.k, self.m, said, out)
     }
 
     /// What this node says in the next slot, if it sends. "Members send in their own slots, bits taken
     /// from the marks before the slot; the return bit is 1 if returning is not 0. A knock carries zero
-    /// bits and return bit 0."
-    pub fn says(&self) -> Option<Said> {
+    /// bits and return bit 0." "A knock carries zero job bits."
+    pub fn says(&self, jobs: u8) -> Option<Said> {
         match self.state {
             _ if self.next_sender() != self.own => None,
-            State::Member => Some((self.acknowledgements(), self.returning != 0)),
-            State::Following if self.returning == 0 => Some((0, false)),
+            State::Member => {
+                Some(Said { acks: self.acknowledgements(), return_bit: self.returning != 0, jobs })
+            }
+            State::Following if self.returning == 0 => Some(Said { acks: 0, return_bit: false, jobs: 0 }),
             _ => None,
         }
     }
@@ -223,8 +232,8 @@ impl Node {
     pub fn slot(&self, bytes: &[u8]) -> Result<Node, u32> {
         self.check_sound()?;
         self.check_limit()?;
-        // "An unreadable message counts as not heard."
-        Ok(self.step(message::read(self.k, bytes).ok()))
+        // "An unreadable message counts as not heard."; "any other message is unheard"
+        Ok(self.step(message::read(self.k, self.m, bytes).ok()))
     }
 
     /// One slot of a sound record below the limit; `heard` is what was heard in it and could be read.
@@ -272,7 +281,7 @@ impl Node {
             self.yes_heard = false;
             return Ok(());
         }
-        let Some((acks, return_bit)) = heard else {
+        let Some(Said { acks, return_bit, .. }) = heard else {
             self.marks = self.marks.without(sender);
             return Ok(());
         };
@@ -397,7 +406,7 @@ impl Node {
     fn listen(&mut self, sender: u32, heard: Option<Said>) {
         let data = &mut self.listening;
         data.done += 1;
-        if let Some((acks, return_bit)) = heard {
+        if let Some(Said { acks, return_bit, .. }) = heard {
             data.heard = data.heard.with(sender);
             data.shortest = data.shortest.min(acks.trailing_ones());
             data.return_seen |= return_bit;

@@ -39,12 +39,12 @@ fn whole(line: &[u8]) -> Result<&[u8], u32> {
     }
 }
 
-/// "Line one: n, space, k."
+/// "Line one: n, space, k." "The bench program keeps its lines, with m = 0"
 pub fn line_one(line: &[u8]) -> Result<Vec<Node>, u32> {
     let (n, k) = parted(line);
     let n = number(n)?;
     let k = number(k.ok_or(refusal::LINE)?)?;
-    bench::set_up(n, k, n as usize)
+    bench::set_up(n, k, 0, n as usize)
 }
 
 pub fn run_line(nodes: &mut [Node], line: &[u8], out: &mut Vec<u8>) -> Result<(), u32> {

@@ -26,3 +26,5 @@ pub const NOT_OUT: u32 = 11;
 pub const LINE: u32 = 12;
 /// request a: "a ledger whose length is not n, or with a count above the slot count plus one"
 pub const LEDGER: u32 = 13;
+/// request h: "Job count above 8 at set-up, in reader or writer"
+pub const JOBS: u32 = 14;

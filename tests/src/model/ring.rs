@@ -20,18 +20,30 @@ pub fn is_node(n: u32, x: u32) -> bool {
     1 <= x && x <= n
 }
 
-/// "Checks run in table order": n, then k where one is given, then the node's number.
-pub fn check(n: u32, k: Option<u32>, x: u32) -> Result<(), u32> {
+/// "Checks run in table order": n, then k where one is given.
+pub fn check_size(n: u32, k: Option<u32>) -> Result<(), u32> {
     if !is_size(n) {
         return Err(refusal::N);
     }
     if k.is_some_and(|k| !is_sponsor_count(n, k)) {
         return Err(refusal::K);
     }
-    if !is_node(n, x) {
-        return Err(refusal::NODE);
-    }
     Ok(())
+}
+
+/// "node number not 1 to n"
+pub fn check_node(n: u32, x: u32) -> Result<(), u32> {
+    if is_node(n, x) {
+        Ok(())
+    } else {
+        Err(refusal::NODE)
+    }
+}
+
+/// n, then k where one is given, then the node's number.
+pub fn check(n: u32, k: Option<u32>, x: u32) -> Result<(), u32> {
+    check_size(n, k)?;
+    check_node(n, x)
 }
 
 /// "The sender of slot s is ((s - 1) mod n) + 1."

@@ -1,18 +1,16 @@
--- `message::write` meets its contract: at each `return` the tests that led there say which case of `writeOf` holds, and the two sections
--- that were put are the message. Assumes nothing.
+-- `message::write` meets its contract: at each `return` the tests that led there say which case of `writeOf` holds. Assumes nothing.
 use borrow.Author.Needs.{needs}
-use Prim.Native.Nat.{ℕ, _+_, _/_, _^_, _≤_}
-use mathlib.Core.Path.{_≡_, sym, ap, _∙_}
-use mathlib.Core.List.{List, _++_}
-use mathlib.Core.Bool.{true}
+use Prim.Native.Nat.{_+_, _^_, _≤_}
+use mathlib.Core.Path.{_≡_, sym, _∙_}
+use mathlib.Core.Bool.{true, _&&_}
 use native.Mathlib.Omega.{arith}
-use lib.ListN.{length, take, drop}
+use lib.ListN.{length}
 use lib.Dec.{ltb}
-use borrow.Author.Tests.{not-true, not-false, eq-eqb, ne-eqb, le-leb, lt-leb}
+use borrow.Author.Tests.{not-true, not-false, le-leb, lt-leb, leb-true}
 use denote.Ref.{now}
-use Rattle.message.specs.Message.{inRange, lengthOf, lengthOne, returnSection, writeOf}
-use Rattle.message.proofs.Tests.{in-range, shifted-out}
-use Rattle.message.proofs.Parts.{both-put}
+use Rattle.ring.specs.Ring.{jobCount}
+use Rattle.message.specs.Message.{inRange, lengthOf, writeOf}
+use Rattle.message.proofs.Tests.{in-range}
 use Rattle.message.proofs.write.Statement.{statement}
 use Rattle.message.proofs.write.Tie as tie
 
@@ -23,65 +21,67 @@ in-range-requires c κs = search needs
 ranged : (c : tie.Else1) → inRange (c .before .before .before .args .k) ≡ true
 ranged c = sym (c .before .in-range .ensures) ∙ not-false (c .before .in-range .result) (c .if1 .left)
 
--- no acknowledgement is past k after the second
-within : (c : tie.Else2) → ltb (c .before .before .before .before .args .acknowledgements) (2 ^ c .before .before .before .before .args .k) ≡ true
-within c =
-    let a = c .before .before .before .before .args in
-    sym (shifted-out (a .acknowledgements) (a .k)) ∙ eq-eqb (a .acknowledgements / 2 ^ a .k) 0 (c .if2 .left)
+-- m after the second
+few : (c : tie.Else2) → jobCount (c .before .before .before .before .before .args .m) ≡ true
+few c = sym (c .before .is-job-count .ensures) ∙ not-false (c .before .is-job-count .result) (c .if2 .left)
 
--- there is room after the third
-room : (c : tie.Else3) → lengthOf (c .before .before .before .before .before .before .args .k) ≤ length (now (c .before .before .before .before .before .before .args .out))
-room c = omega (arith, c .if3 .left, c .before .length-one .ensures)
+-- no bit is past k or m after the third
+within : (c : tie.Else3) → (ltb (c .before .before .before .before .before .before .before .args .acknowledgements) (2 ^ c .before .before .before .before .before .before .before .args .k) && ltb (c .before .before .before .before .before .before .before .args .jobs) (2 ^ c .before .before .before .before .before .before .before .args .m)) ≡ true
+within c = sym (c .before .no-spare-bit .ensures) ∙ not-false (c .before .no-spare-bit .result) (c .if3 .left)
+
+-- there is room after the fourth
+room : (c : tie.Else4) → lengthOf (c .before .before .before .before .before .before .before .before .before .args .k) ≤ length (now (c .before .before .before .before .before .before .before .before .before .args .out))
+room c = omega (arith, c .if4 .left, c .before .length-one .ensures)
 
 returns : tie.Need-returns
 unfolding writeOf
 returns c = simp (sym (c .before .in-range .ensures) ∙ not-true (c .before .in-range .result) (c .if1 .taken))
 
-shr-if2 : tie.Need-shr-if2
-shr-if2 c = omega (arith, in-range (c .before .before .before .args .k) (ranged c) .1)
+is-job-count-requires : tie.Need-is-job-count-requires
+is-job-count-requires c κs = search needs
 
 returns-2 : tie.Need-returns-2
 unfolding writeOf
 returns-2 c =
-    let a = c .before .before .before .before .args in
-    let past = sym (shifted-out (a .acknowledgements) (a .k)) ∙ ne-eqb (a .acknowledgements / 2 ^ a .k) 0 (c .if2 .taken) in
-    simp (ranged (c .before), past)
+    let many = sym (c .before .is-job-count .ensures) ∙ not-true (c .before .is-job-count .result) (c .if2 .taken) in
+    simp (ranged (c .before .before), many)
 
-length-one-requires : tie.Need-length-one-requires
-length-one-requires c κs = in-range _ (ranged (c .before)) .1
-
-add-length : tie.Need-add-length
-add-length c = search needs
+no-spare-bit-requires : tie.Need-no-spare-bit-requires
+no-spare-bit-requires c κs = in-range _ (ranged (c .before .before)) .1
 
 returns-3 : tie.Need-returns-3
 unfolding writeOf
 returns-3 c =
-    let a = c .before .before .before .before .before .before .args in
-    let short = lt-leb (lengthOf (a .k)) (length (now (a .out))) (omega (arith, c .if3 .taken, c .before .length-one .ensures)) in
-    simp (ranged (c .before .before .before), within (c .before .before), short)
+    let past = sym (c .before .no-spare-bit .ensures) ∙ not-true (c .before .no-spare-bit .result) (c .if3 .taken) in
+    simp (ranged (c .before .before .before .before), few (c .before .before), past)
 
-put-acknowledgements-requires : tie.Need-put-acknowledgements-requires
-put-acknowledgements-requires c κs = (in-range _ (ranged (c .before .before .before .before)) .1, room (c .before))
+length-one-requires : tie.Need-length-one-requires
+length-one-requires c κs = in-range _ (ranged (c .before .before .before .before)) .1
 
-put-return-requires : tie.Need-put-return-requires
-put-return-requires c κs =
-    (in-range _ (ranged (c .before .before .before .before .before .before .before .before)) .1, omega (arith, room (c .before .before .before .before .before), c .before .before .before .put-acknowledgements .kept .1 .1 .0))
-
-same-length : tie.Need-same-length
-same-length c = search needs
+add-length : tie.Need-add-length
+add-length c = search needs
 
 returns-4 : tie.Need-returns-4
 unfolding writeOf
 returns-4 c =
-    let a = c .before .before .before .before .before .before .before .before .before .before .before .before .before .before .args in
-    let n = lengthOne (a .k) in
-    let length-is : c .before .before .before .before .before .before .before .before .before .length-one .result + 2 ≡ lengthOf (a .k) = ap (λ (m : ℕ). m + 2) (c .before .before .before .before .before .before .before .before .before .length-one .ensures) in
-    let message-is =
-    c .before .before .put-return .ensures
-    ∙ ap (λ (l : List ℕ). take n l ++ (returnSection (a .return-bit) ++ drop (lengthOf (a .k)) l)) (c .before .before .before .before .before .before .put-acknowledgements .ensures)
-    ∙ both-put (a .k) (a .acknowledgements) (a .return-bit) (now (a .out)) in
-    simp (ranged (c .before .before .before .before .before .before .before .before .before .before .before), within (c .before .before .before .before .before .before .before .before .before .before), le-leb (lengthOf (a .k)) (length (now (a .out))) (room (c .before .before .before .before .before .before .before .before)))
-    (cc (length-is, message-is))
+    let a = c .before .before .before .before .before .before .before .before .before .args in
+    let short = lt-leb (lengthOf (a .k)) (length (now (a .out))) (omega (arith, c .if4 .taken, c .before .length-one .ensures)) in
+    simp (ranged (c .before .before .before .before .before .before), few (c .before .before .before .before), within (c .before .before), short)
+
+put-message-requires : tie.Need-put-message-requires
+put-message-requires c κs =
+    (in-range _ (ranged (c .before .before .before .before .before .before .before)) .1, (leb-true (c .before .before .before .before .before .before .before .before .before .before .args .m) 8 (few (c .before .before .before .before .before)), room (c .before)))
+
+same-length : tie.Need-same-length
+same-length c = search needs
+
+returns-5 : tie.Need-returns-5
+unfolding writeOf
+returns-5 c =
+    let a = c .before .before .before .before .before .before .before .before .before .before .before .before .before .args in
+    let length-is : c .before .before .before .before .before .length-one .result + 4 ≡ lengthOf (a .k) = omega (arith, c .before .before .before .before .before .length-one .ensures) in
+    simp (ranged (c .before .before .before .before .before .before .before .before .before .before), few (c .before .before .before .before .before .before .before .before), within (c .before .before .before .before .before .before), le-leb (lengthOf (a .k)) (length (now (a .out))) (room (c .before .before .before .before)))
+    (cc (length-is, c .before .before .put-message .ensures))
 
 pub write-spec : {M : Type 1} → statement M
 write-spec =
@@ -89,12 +89,13 @@ write-spec =
     (tie.spec
     in-range-requires
     returns
-    shr-if2
+    is-job-count-requires
     returns-2
+    no-spare-bit-requires
+    returns-3
     length-one-requires
     add-length
-    returns-3
-    put-acknowledgements-requires
-    put-return-requires
+    returns-4
+    put-message-requires
     same-length
-    returns-4)
+    returns-5)

@@ -1,5 +1,5 @@
 -- `message_c::message_write` meets its contract: the number that each case of the answer gives is the one that `writtenNumber` gives it. A
--- message has at most 7 bytes, so that the sum fits. Assumes nothing.
+-- message has at most 9 bytes, so that the sum fits. Assumes nothing.
 use Prim.Native.Nat.{ℕ}
 use mathlib.Core.Path.{_≡_, sym, ap, _∙_}
 use native.Mathlib.Omega.{arith}
@@ -15,8 +15,8 @@ use Rattle.message_c.proofs.message_write.Tie as tie
 
 -- what was written, where bytes were
 made : (c : tie.After-known-told)
-    → writeOf (c .before .before .before .before .before .before .before .before .args .k) (c .before .before .before .before .before .before .before .before .args .acknowledgements) (c .before .before .before .before .before .before .before .before .args .return-bit) (now (c .before .before .before .before .before .before .before .before .args .out)) ≡ (Bytes (c .before .count .given .0 .0), c .before .before .before .before .before .write .last .1 .1 .1 .0)
-made c = sym (c .before .before .before .before .before .write .ensures) ∙ ap (λ (w : Written). (w, c .before .before .before .before .before .write .last .1 .1 .1 .0)) (c .before .count .given .1)
+    → writeOf (c .before .before .before .before .before .before .before .before .args .k) (c .before .before .before .before .before .before .before .before .args .m) (c .before .before .before .before .before .before .before .before .args .acknowledgements) (c .before .before .before .before .before .before .before .before .args .return-bit) (c .before .before .before .before .before .before .before .before .args .jobs) (now (c .before .before .before .before .before .before .before .before .args .out)) ≡ (Bytes (c .before .count .given .0 .0), c .before .before .before .before .before .write .last .1 .1 .1 .1 .1 .0)
+made c = sym (c .before .before .before .before .before .write .ensures) ∙ ap (λ (w : Written). (w, c .before .before .before .before .before .write .last .1 .1 .1 .1 .1 .0)) (c .before .count .given .1)
 
 write-requires : tie.Need-write-requires
 write-requires c κs = search needs
@@ -27,8 +27,8 @@ enum-known-count c = search needs
 add-result : tie.Need-add-result
 add-result c =
     let a = c .before .before .before .before .before .before .before .before .args in
-    let p = put-all (a .k) (a .acknowledgements) (a .return-bit) (now (a .out)) (c .before .count .given .0 .0) (c .before .before .before .before .before .write .last .1 .1 .1 .0) (made c) in
-    omega (arith, p .told, p .high)
+    let p = put-all (a .k) (a .m) (a .acknowledgements) (a .return-bit) (a .jobs) (now (a .out)) (c .before .count .given .0 .0) (c .before .before .before .before .before .write .last .1 .1 .1 .1 .1 .0) (made c) in
+    omega (arith, p .told, p .ranged .high)
 
 enum-known-cause : tie.Need-enum-known-cause
 enum-known-cause c = search needs
@@ -50,7 +50,7 @@ same-length-2 c = search needs
 
 returns-2 : tie.Need-returns-2
 returns-2 c =
-    let after = c .before .before .before .before .before .before .write .last .1 .1 .1 .0 in
+    let after = c .before .before .before .before .before .before .write .last .1 .1 .1 .1 .1 .0 in
     ap (λ (n : ℕ). (n, after)) (c .number .ensures)
     ∙ ap (λ (w : Written). outcomeNumber (w, after)) (sym (c .before .before .cause .given .1))
     ∙ ap outcomeNumber (c .before .before .before .before .before .before .write .ensures)

@@ -20,26 +20,38 @@ returns-2 : tie.Need-returns-2
 unfolding setUpOf
 returns-2 c = sym (chosen _ _ (passed (c .before .before .before .is-ring-size .ensures) (c .before .before .if1 .left)) ∙ otherwise _ _ (failed (c .before .is-sponsor-count .ensures) (c .if2 .taken)))
 
-is-node-number-requires : tie.Need-is-node-number-requires
-is-node-number-requires c κs = search needs
+is-job-count-requires : tie.Need-is-job-count-requires
+is-job-count-requires c κs = search needs
 
 returns-3 : tie.Need-returns-3
 unfolding setUpOf
 returns-3 c = sym (
     chosen _ _ (passed (c .before .before .before .before .before .is-ring-size .ensures) (c .before .before .before .before .if1 .left))
     ∙ chosen _ _ (passed (c .before .before .before .is-sponsor-count .ensures) (c .before .before .if2 .left))
-    ∙ otherwise _ _ (failed (c .before .is-node-number .ensures) (c .if3 .taken)))
+    ∙ otherwise _ _ (failed (c .before .is-job-count .ensures) (c .if3 .taken)))
+
+is-node-number-requires : tie.Need-is-node-number-requires
+is-node-number-requires c κs = search needs
+
+returns-4 : tie.Need-returns-4
+unfolding setUpOf
+returns-4 c = sym (
+    chosen _ _ (passed (c .before .before .before .before .before .before .before .is-ring-size .ensures) (c .before .before .before .before .before .before .if1 .left))
+    ∙ chosen _ _ (passed (c .before .before .before .before .before .is-sponsor-count .ensures) (c .before .before .before .before .if2 .left))
+    ∙ chosen _ _ (passed (c .before .before .before .is-job-count .ensures) (c .before .before .if3 .left))
+    ∙ otherwise _ _ (failed (c .before .is-node-number .ensures) (c .if4 .taken)))
 
 starting-requires : tie.Need-starting-requires
 starting-requires c κs = search needs
 
-returns-4 : tie.Need-returns-4
+returns-5 : tie.Need-returns-5
 unfolding setUpOf
-returns-4 c = ap done (c .starting .ensures)
+returns-5 c = ap done (c .starting .ensures)
     ∙ sym (
-    chosen _ _ (passed (c .before .before .before .before .before .before .is-ring-size .ensures) (c .before .before .before .before .before .if1 .left))
-    ∙ chosen _ _ (passed (c .before .before .before .before .is-sponsor-count .ensures) (c .before .before .before .if2 .left))
-    ∙ chosen _ _ (passed (c .before .before .is-node-number .ensures) (c .before .if3 .left)))
+    chosen _ _ (passed (c .before .before .before .before .before .before .before .before .is-ring-size .ensures) (c .before .before .before .before .before .before .before .if1 .left))
+    ∙ chosen _ _ (passed (c .before .before .before .before .before .before .is-sponsor-count .ensures) (c .before .before .before .before .before .if2 .left))
+    ∙ chosen _ _ (passed (c .before .before .before .before .is-job-count .ensures) (c .before .before .before .if3 .left))
+    ∙ chosen _ _ (passed (c .before .before .is-node-number .ensures) (c .before .if4 .left)))
 
 pub set-up-spec : {M : Type 1} → statement M
 set-up-spec =
@@ -49,7 +61,9 @@ set-up-spec =
     returns
     is-sponsor-count-requires
     returns-2
-    is-node-number-requires
+    is-job-count-requires
     returns-3
+    is-node-number-requires
+    returns-4
     starting-requires
-    returns-4)
+    returns-5)

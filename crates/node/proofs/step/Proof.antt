@@ -55,7 +55,7 @@ unfolding stepOf
 returns-3 c =
     let v = c .before .before .before .before .before .before .before .args .v in
     let good = passed (c .before .before .before .before .before .before .is-sound .ensures) (c .before .before .before .before .before .if1 .left) in
-    absurd (no-refusal (v .cable .n) (v .slots + 1) _ (c .before .before .sender .result) (clauses v good .ring) (c .before .before .sender .ensures) (c .enum-told .given .1))
+    absurd (no-refusal (v .cable .n) (v .slots + 1) _ (c .before .before .sender .result) (clauses v good .choices .ring) (c .before .before .sender .ensures) (c .enum-told .given .1))
 
 add-counted : tie.Need-add-counted
 add-counted c = search needs
@@ -73,7 +73,7 @@ returns-4 c =
     let a = q .before .before .before .before .before .args in
     let v = a .v in
     let good = passed (q .before .before .before .before .is-sound .ensures) (q .before .before .before .if1 .left) in
-    let s = is-sender (v .cable .n) (v .slots + 1) _ (q .sender .result) (clauses v good .ring) (q .sender .ensures) (c .before .before .before .before .before .speaker .given .1) in
+    let s = is-sender (v .cable .n) (v .slots + 1) _ (q .sender .result) (clauses v good .choices .ring) (q .sender .ensures) (c .before .before .before .before .before .speaker .given .1) in
     ap done (by-own-digest _ _ (a .heard) v _ _ good (c .after-slot .ensures) (c .before .digest-of .ensures) s)
     ∙ sym (chosen _ _ good ∙ otherwise _ _ (lt-leb _ _ (q .before .if2 .left)))
 

@@ -147,7 +147,7 @@ fn shown_command(command: &Command) -> String {
 
 fn shown_call(call: Call) -> String {
     match call {
-        Call::SetUp { n, k } => format!("set-up n = {n}, k = {k}"),
+        Call::SetUp { n, k, m } => format!("set-up n = {n}, k = {k}, m = {m}"),
         Call::Off(x) => format!("off {x}"),
         Call::Restart(x) => format!("restart {x}"),
         Call::Slot { lost, missed } => format!("slot, lost {lost}, missed {missed:08x}"),

@@ -89,9 +89,9 @@ pub fn pairs(count: &mut Count) -> Result<(), String> {
     let mut script = Script::new();
     for n in (3..=32).flat_map(|n| [n; 40]) {
         let k = random.within(2, u64::from(n) - 1) as u32;
-        let (_, _, slots) = tables::ring(&mut random);
+        let (_, _, m, slots) = tables::ring(&mut random);
         let mut table: Vec<Node> =
-            (1..=n).map(|own| Node { slots, ..Node::set_up(n, k, own).expect("in range") }).collect();
+            (1..=n).map(|own| Node { slots, ..Node::set_up(n, k, m, own).expect("in range") }).collect();
         let sender = next_sender(&table);
         let roles: Vec<Role> = table.iter().map(|node| role(&mut random, node, sender)).collect();
         for (node, &role) in table.iter_mut().zip(&roles) {

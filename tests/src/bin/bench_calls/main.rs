@@ -42,23 +42,23 @@ const CASES: &[Case] = &[
         run: vectors::figures,
     },
     Case {
-        name: "set-up: any rows, every number of them, n and k in range and out of it",
-        meets: &[0, 1, 2, 4],
+        name: "set-up: any rows, every number of them, n, k and m in range and out of it",
+        meets: &[0, 1, 2, 4, 14],
         run: refusals::set_up,
     },
     Case {
         name: "runs: every n and k, with losses, misses, offs, restarts, looks and refused calls; tally",
-        meets: &[0, 2, 3, 4, 9, 11, 13],
+        meets: &[0, 2, 3, 4, 9, 11, 13, 14],
         run: runs::every_n_and_k,
     },
     Case {
         name: "runs: long ones of n from 3 to 9; tally",
-        meets: &[0, 2, 3, 4, 9, 11, 13],
+        meets: &[0, 2, 3, 4, 9, 11, 13, 14],
         run: runs::small_rings,
     },
     Case {
         name: "runs: 6,000 calls in which the nodes go and come back all the time; tally",
-        meets: &[0, 2, 3, 4, 9, 11, 13],
+        meets: &[0, 2, 3, 4, 9, 11, 13, 14],
         run: runs::lasting,
     },
     Case { name: "tables: any sound records, every call", meets: &[0, 11], run: tables::sound },
@@ -68,7 +68,7 @@ const CASES: &[Case] = &[
         run: tables::unsound_record,
     },
     Case {
-        name: "tables: sound records that are no table: numbers, n, k, slot count, size",
+        name: "tables: sound records that are no table: numbers, n, k, m, slot count, size",
         meets: &[0, 4],
         run: tables::no_tables,
     },

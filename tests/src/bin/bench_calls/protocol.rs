@@ -27,7 +27,7 @@ pub const HEAD: usize = 27;
 
 #[derive(Clone, Copy)]
 pub enum Call {
-    SetUp { n: u32, k: u32 },
+    SetUp { n: u32, k: u32, m: u32 },
     Off(u32),
     Restart(u32),
     Slot { lost: bool, missed: u32 },
@@ -92,10 +92,9 @@ pub fn entries_of(answer: &[u8]) -> impl Iterator<Item = Figures> + '_ {
 impl Call {
     fn push(self, out: &mut Vec<u8>, room: u8) {
         match self {
-            Call::SetUp { n, k } => {
+            Call::SetUp { n, k, m } => {
                 out.extend([b'U', room]);
-                out.extend(n.to_le_bytes());
-                out.extend(k.to_le_bytes());
+                [n, k, m].iter().for_each(|number| out.extend(number.to_le_bytes()));
             }
             Call::Off(x) => {
                 out.extend([b'F', room]);
@@ -217,7 +216,7 @@ impl Held {
         let table = &mut self.rows[..self.size];
         let ledger = &mut self.entries[..self.lent];
         match call {
-            Call::SetUp { n, k } => table.copy_from_slice(&bench::set_up(n, k, self.size)?),
+            Call::SetUp { n, k, m } => table.copy_from_slice(&bench::set_up(n, k, m, self.size)?),
             Call::Off(x) => bench::off(table, ledger, x)?,
             Call::Restart(x) => bench::restart(table, x)?,
             Call::Slot { lost, missed } => return slot(table, ledger, lost, missed, buffer),

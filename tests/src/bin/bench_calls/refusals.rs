@@ -7,14 +7,17 @@ use super::script::{any_record, no_node, Script, ENOUGH, SHORT};
 use super::tables::sound_table;
 use comparison::model::node::{Node, State};
 use comparison::model::ring::LIMIT;
+use comparison::numbers::no_job_counts;
 use comparison::random::Random;
-use comparison::records::{sound_of, spoil};
+use comparison::records::{job_count, sound_of, spoil};
 use comparison::report::Count;
 
-/// Every number of rows, for every n and k that could be one and a few that could not. Any ledger is lent.
+/// Every number of rows, for every n and k that could be one and a few that could not; m takes turns, in range and out
+/// of it. Any ledger is lent.
 pub fn set_up(count: &mut Count) -> Result<(), String> {
     let mut random = Random::new(96);
     let mut script = Script::new();
+    let counts: Vec<u32> = (0..=8).chain(no_job_counts()).collect();
     for size in (0..=36).chain([255]) {
         for row in 0..ROWS {
             let node = any_record(&mut random);
@@ -27,11 +30,35 @@ pub fn set_up(count: &mut Count) -> Result<(), String> {
             let near = n.wrapping_sub(1);
             for k in [0, 1, 2, 3, near, n, 31, 32, 256 + 2, u32::MAX] {
                 let room = if random.bit() { 0 } else { ENOUGH[random.below(6) as usize] };
-                script.push(Command::Call(Call::SetUp { n, k }, room));
+                let m = counts[random.below(counts.len() as u64) as usize];
+                count.event(set_up_causes(n, k, m, script.table().len()));
+                script.push(Command::Call(Call::SetUp { n, k, m }, room));
             }
         }
     }
+    count.needs(&SET_UP)?;
     compare(count, &script.commands)
+}
+
+/// The causes of a set-up: 1 alone or before others, those of 2, 14 and 4 that are left.
+const SET_UP: [&str; 9] = [
+    "set-up: no cause",
+    "set-up: 4",
+    "set-up: 14",
+    "set-up: 14, 4",
+    "set-up: 2",
+    "set-up: 2, 4",
+    "set-up: 2, 14",
+    "set-up: 2, 14, 4",
+    "set-up: 1",
+];
+
+fn set_up_causes(n: u32, k: u32, m: u32, size: usize) -> &'static str {
+    if !(3..=32).contains(&n) {
+        return SET_UP[8];
+    }
+    let causes = [k < 2 || k >= n, m > 8, size != n as usize];
+    SET_UP[causes.into_iter().fold(0, |bits, yes| 2 * bits + usize::from(yes))]
 }
 
 const CAUSES: [&str; 32] = [
@@ -72,9 +99,10 @@ const CAUSES: [&str; 32] = [
 /// A table for these causes, 4 and 5, in which node x is out or is not.
 fn table(random: &mut Random, (n, k, x): (u32, u32, u32), unsound: bool, at_limit: bool) -> Vec<Node> {
     let slots = if at_limit { LIMIT } else { random.below(LIMIT) };
-    let mut table = sound_table(random, (n, k, slots));
+    let m = job_count(random);
+    let mut table = sound_table(random, (n, k, m, slots));
     if random.bit() {
-        table[x as usize - 1] = sound_of(random, State::Member, (n, k, x), slots);
+        table[x as usize - 1] = sound_of(random, State::Member, (n, k, m, x), slots);
     }
     if unsound {
         let row = random.below(u64::from(n)) as usize;

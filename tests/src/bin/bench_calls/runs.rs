@@ -11,6 +11,7 @@ use comparison::model::bench;
 use comparison::model::ledger::Figures;
 use comparison::model::node::Node;
 use comparison::random::Random;
+use comparison::records::job_count;
 use comparison::report::Count;
 
 const TOLD: &[&str] = &[
@@ -38,7 +39,7 @@ fn call_of(call: bench::Call) -> Call {
     }
 }
 
-/// Sets a table of n rows up, whatever they hold; the ledger holds zeros.
+/// Sets a table of n rows up, whatever they hold; the ledger holds zeros. The cable has any number of jobs.
 fn set_up(script: &mut Script, random: &mut Random, n: u32, k: u32) {
     for row in 0..ROWS {
         let node = any_record(random);
@@ -46,20 +47,22 @@ fn set_up(script: &mut Script, random: &mut Random, n: u32, k: u32) {
     }
     script.push(Command::Size(n as u8));
     script.lend(random, &vec![Figures::default(); n as usize]);
-    script.call(random, Call::SetUp { n, k });
+    let m = job_count(random);
+    script.call(random, Call::SetUp { n, k, m });
 }
 
 /// A call that this table refuses, whatever buffer is lent; none if all nodes are out and one that is not was
 /// asked for.
 fn refused(random: &mut Random, table: &[Node]) -> Option<Call> {
-    let (n, k) = (table[0].n, table[0].k);
-    Some(match random.below(7) {
+    let Node { n, k, m, .. } = table[0];
+    Some(match random.below(8) {
         0 => Call::Off(no_node(random, n)),
         1 => Call::Restart(no_node(random, n)),
         2 | 3 => Call::Restart(one_not_out(random, table)?),
         4 if n < 32 => Call::Slot { lost: random.bit(), missed: 1 << n },
-        5 => Call::SetUp { n, k: if k < n - 1 { n } else { 1 } },
-        _ => Call::SetUp { n: if n < 32 { n + 1 } else { n - 1 }, k: 2 },
+        5 => Call::SetUp { n, k: if k < n - 1 { n } else { 1 }, m },
+        6 => Call::SetUp { n, k, m: 9 },
+        _ => Call::SetUp { n: if n < 32 { n + 1 } else { n - 1 }, k: 2, m },
     })
 }
 

@@ -6,7 +6,7 @@ use comparison::model::ledger::Figures;
 use comparison::model::node::{Node, State};
 use comparison::model::ring::LIMIT;
 use comparison::random::Random;
-use comparison::records::{disturb, sound, STATES};
+use comparison::records::{disturb, job_count, sound, STATES};
 
 /// Buffers that are long enough.
 pub const ENOUGH: [u8; 6] = [64, 65, 66, 100, 128, 255];
@@ -90,6 +90,7 @@ impl Script {
 
     /// Every call, each on the table that the one before it left.
     pub fn every_call(&mut self, random: &mut Random, n: u32, k: u32) {
+        let m = job_count(random);
         let all = if n < 32 { (1 << n) - 1 } else { u32::MAX };
         let x = random.within(1, u64::from(n)) as u32;
         let missed = all & random.number() as u32;
@@ -101,7 +102,7 @@ impl Script {
             Call::Slot { lost: false, missed },
             Call::Off(x),
             Call::Restart(x),
-            Call::SetUp { n, k },
+            Call::SetUp { n, k, m },
         ] {
             self.call(random, call);
         }

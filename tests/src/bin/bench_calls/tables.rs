@@ -11,19 +11,20 @@ use comparison::model::refusal;
 use comparison::model::ring::{Set, LIMIT};
 use comparison::random::Random;
 use comparison::record_bytes::shown_record;
-use comparison::records::{size, sound_of, Break, BREAKS, STATES};
+use comparison::records::{job_count, size, sound_of, Break, BREAKS, STATES};
 use comparison::report::Count;
 
-/// n, k and a slot count below the limit.
-pub fn ring(random: &mut Random) -> (u32, u32, u64) {
+/// n, k, m and a slot count below the limit.
+pub fn ring(random: &mut Random) -> (u32, u32, u32, u64) {
     let n = size(random);
     let k = random.within(2, u64::from(n) - 1) as u32;
+    let m = job_count(random);
     let slots = if random.bit() { random.below(3 * u64::from(n)) } else { random.below(LIMIT - 5) };
-    (n, k, slots)
+    (n, k, m, slots)
 }
 
 /// A table of sound records in any states; half of the tables have many members.
-pub fn sound_table(random: &mut Random, (n, k, slots): (u32, u32, u64)) -> Vec<Node> {
+pub fn sound_table(random: &mut Random, (n, k, m, slots): (u32, u32, u32, u64)) -> Vec<Node> {
     let members = random.bit();
     let state = |random: &mut Random| match random.below(2) {
         0 if members => State::Member,
@@ -32,7 +33,7 @@ pub fn sound_table(random: &mut Random, (n, k, slots): (u32, u32, u64)) -> Vec<N
     (1..=n)
         .map(|own| {
             let state = state(random);
-            sound_of(random, state, (n, k, own), slots)
+            sound_of(random, state, (n, k, m, own), slots)
         })
         .collect()
 }
@@ -79,10 +80,10 @@ fn no_table(
 
 /// A table with one record that is broken; none if the record does not allow it.
 fn broken_table(random: &mut Random, case: &Break, state: State) -> Option<Vec<Node>> {
-    let (n, k, slots) = ring(random);
-    let mut table = sound_table(random, (n, k, slots));
+    let (n, k, m, slots) = ring(random);
+    let mut table = sound_table(random, (n, k, m, slots));
     let own = random.within(1, u64::from(n)) as u32;
-    let mut node = sound_of(random, state, (n, k, own), slots);
+    let mut node = sound_of(random, state, (n, k, m, own), slots);
     (case.make)(random, &mut node)?;
     table[own as usize - 1] = node;
     Some(table)
@@ -115,27 +116,29 @@ const WAYS: &[&str] = &[
     "no table: one record more",
     "no table: all records of another n",
     "no table: no record",
+    "no table: other m",
 ];
 
 /// Rows that are sound by themselves and no table, in one way; none if this ring does not allow it.
 fn rows_in_way(random: &mut Random, way: usize) -> Option<Vec<Node>> {
-    let (n, k, slots) = ring(random);
-    let mut rows = sound_table(random, (n, k, slots));
+    let (n, k, m, slots) = ring(random);
+    let mut rows = sound_table(random, (n, k, m, slots));
     let (i, j) = (random.below(u64::from(n)) as usize, random.below(u64::from(n)) as usize);
     let own = i as u32 + 1;
     let state = rows[i].state;
     match way {
-        0 if own < n && k < n - 1 => rows[i] = sound_of(random, state, (n - 1, k, own), slots),
-        0 if n < 32 => rows[i] = sound_of(random, state, (n + 1, k, own), slots),
-        1 if n > 3 => rows[i] = sound_of(random, state, (n, if k > 2 { k - 1 } else { 3 }, own), slots),
-        2 => rows[i] = sound_of(random, state, (n, k, own), slots + 1),
+        0 if own < n && k < n - 1 => rows[i] = sound_of(random, state, (n - 1, k, m, own), slots),
+        0 if n < 32 => rows[i] = sound_of(random, state, (n + 1, k, m, own), slots),
+        1 if n > 3 => rows[i] = sound_of(random, state, (n, if k > 2 { k - 1 } else { 3 }, m, own), slots),
+        2 => rows[i] = sound_of(random, state, (n, k, m, own), slots + 1),
         3 if i != j => rows.swap(i, j),
         4 if i != j => rows[i] = rows[j],
         5 => drop(rows.pop()),
         6 => drop(rows.remove(0)),
         7 if n < 32 => rows.push(rows[n as usize - 1]),
-        8 if n < 32 => rows = sound_table(random, (n + 1, k, slots)).split_off(1),
+        8 if n < 32 => rows = sound_table(random, (n + 1, k, m, slots)).split_off(1),
         9 => rows.clear(),
+        10 => rows[i].m = (m + random.within(1, 8) as u32) % 9,
         _ => return None,
     }
     Some(rows)
@@ -163,8 +166,8 @@ pub fn limit(count: &mut Count) -> Result<(), String> {
     let mut random = Random::new(94);
     let mut script = Script::new();
     for i in 0..1_500 {
-        let (n, k, _) = ring(&mut random);
-        let table = sound_table(&mut random, (n, k, LIMIT - i % 3));
+        let (n, k, m, _) = ring(&mut random);
+        let table = sound_table(&mut random, (n, k, m, LIMIT - i % 3));
         script.load(&mut random, &table);
         let x = random.within(1, u64::from(n)) as u32;
         for call in [
@@ -188,15 +191,15 @@ pub fn rooms(count: &mut Count) -> Result<(), String> {
     let mut random = Random::new(95);
     let mut script = Script::new();
     for room in (0..=255).flat_map(|room| [room; 4]) {
-        let (n, k, slots) = ring(&mut random);
-        let table = sound_table(&mut random, (n, k, slots));
+        let (n, k, m, slots) = ring(&mut random);
+        let table = sound_table(&mut random, (n, k, m, slots));
         script.load(&mut random, &table);
         for call in [
             Call::Slot { lost: false, missed: 0 },
             Call::Look { lost: false },
             Call::Off(n),
             Call::Restart(n),
-            Call::SetUp { n, k },
+            Call::SetUp { n, k, m },
         ] {
             script.push(Command::Call(call, room));
         }
@@ -206,7 +209,7 @@ pub fn rooms(count: &mut Count) -> Result<(), String> {
 
 /// A table of members none of whom has marked another: all leave in the next slot if it is lost.
 pub fn all_leave(n: u32) -> Vec<Node> {
-    let member = |own| Node { marks: Set::EMPTY.with(own), ..Node::set_up(n, 2, own).expect("in range") };
+    let member = |own| Node { marks: Set::EMPTY.with(own), ..Node::set_up(n, 2, 0, own).expect("in range") };
     (1..=n).map(member).collect()
 }
 

@@ -98,7 +98,7 @@ const FOLLOWS_AS_ONE_LEAVES: Run = &[
 
 /// The model against the pairs; the commands are for the program.
 fn follow(count: &mut Count, (n, k): (u8, u32), runs: &[Run]) -> Result<(Vec<Command>, Held), String> {
-    let set_up = Call::SetUp { n: u32::from(n), k };
+    let set_up = Call::SetUp { n: u32::from(n), k, m: 0 };
     let mut commands = vec![Command::Size(n), Command::Lend(n), Command::Call(set_up, 0)];
     let mut held = Held::first();
     let mut answer = Vec::new();
@@ -208,7 +208,7 @@ pub fn lists(count: &mut Count) -> Result<(), String> {
         let mut script = Script::new();
         script.push(Command::Size(n as u8));
         script.lend(&mut random, &vec![Figures::default(); n as usize]);
-        script.call(&mut random, Call::SetUp { n, k });
+        script.call(&mut random, Call::SetUp { n, k, m: 0 });
         for &x in off {
             script.call(&mut random, Call::Off(x));
         }
@@ -283,7 +283,7 @@ fn keep(count: &mut Count, script: &mut Script, runs: &[Kept]) -> Result<(), Str
     let mut random = Random::new(99);
     script.push(Command::Size(4));
     script.lend(&mut random, &[Figures::default(); 4]);
-    script.call(&mut random, Call::SetUp { n: 4, k: 2 });
+    script.call(&mut random, Call::SetUp { n: 4, k: 2, m: 0 });
     for &(call, times, [left, joined, last]) in runs.iter().flat_map(|run| run.iter()) {
         let mut expected = [Figures::default(); 4];
         expected[1] = Figures { left, joined, last };

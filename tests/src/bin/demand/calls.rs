@@ -1,4 +1,4 @@
-//! The refusals of the bench's calls and the pairs of a slot, typed from document 01 and request a.
+//! The refusals of the bench's calls and the pairs of a slot, typed from document 01 and requests a and h.
 
 use comparison::model::bench::{self, Call, Document01, Fate, Kind};
 use comparison::model::ledger::Figures;
@@ -7,27 +7,27 @@ use comparison::model::ring::{Set, LIMIT};
 use comparison::report::Count;
 
 fn table(n: u32, k: u32) -> Vec<Node> {
-    bench::set_up(n, k, n as usize).expect("n and k are in range")
+    bench::set_up(n, k, 0, n as usize).expect("n and k are in range")
 }
 
-/// Set-up: 1, 2, then 4 for a table that has not one record per node.
+/// Set-up: 1, 2, 14, then 4 for a table that has not one record per node.
 pub fn set_up(count: &mut Count) -> Result<(), String> {
     #[rustfmt::skip]
     let sizes = [
-        (2, 9, 2, 1), (33, 0, 33, 1), (4, 1, 4, 2), (4, 4, 9, 2), (4, 2, 3, 4), (4, 2, 5, 4), (4, 2, 0, 4),
-        (3, 2, 3, 0), (4, 3, 4, 0), (32, 31, 32, 0),
+        (2, 9, 9, 2, 1), (33, 0, 0, 33, 1), (4, 1, 9, 4, 2), (4, 4, 0, 9, 2), (4, 2, 9, 4, 14), (4, 2, 9, 3, 14),
+        (4, 2, 0, 3, 4), (4, 2, 8, 5, 4), (4, 2, 0, 0, 4), (3, 2, 0, 3, 0), (4, 3, 1, 4, 0), (32, 31, 8, 32, 0),
     ];
-    for (n, k, length, expected) in sizes {
+    for (n, k, m, length, expected) in sizes {
         count.expected(expected);
-        let got = bench::set_up(n, k, length).map(|nodes| nodes.len());
+        let got = bench::set_up(n, k, m, length).map(|nodes| nodes.len());
         let same = got == if expected == 0 { Ok(n as usize) } else { Err(expected) };
-        count.check(same, || format!("set-up {n} {k}, table of {length}: {got:?}, not {expected}"))?;
+        count.check(same, || format!("set-up {n} {k} {m}, table of {length}: {got:?}, not {expected}"))?;
     }
     Ok(())
 }
 
-/// Tables that are not "one per node in number order, all with the same n, k and slot count", or hold a
-/// record that is not sound.
+/// Tables that are not "one per node in number order, all with the same n, k and slot count", nor with one m, or hold
+/// a record that is not sound.
 fn bad_tables() -> Vec<Vec<Node>> {
     let changed = |change: fn(&mut Vec<Node>)| {
         let mut nodes = table(4, 2);
@@ -46,6 +46,8 @@ fn bad_tables() -> Vec<Vec<Node>> {
         changed(|nodes| nodes[3].marks = Set(0x10)),
         changed(|nodes| nodes[0].state = State::Following),
         changed(|nodes| nodes[1] = Node { yes_heard: true, ..nodes[1].off().expect("a sound record") }),
+        changed(|nodes| nodes[3].m = 1),
+        changed(|nodes| nodes.iter_mut().for_each(|node| node.m = 9)),
     ]
 }
 

@@ -118,7 +118,7 @@ fn is_table(nodes: &[Node], expected: &[After; 5]) -> bool {
 /// The last line alone breaks the clause, and there the tables differ; without the clause nothing is broken.
 pub fn typed(count: &mut Count) -> Result<(), String> {
     let (n, k, calls) = calls(NEEDED);
-    let mut before = bench::set_up(n, k, n as usize).expect("n and k are in range");
+    let mut before = bench::set_up(n, k, 0, n as usize).expect("n and k are in range");
     let mut now = before.clone();
     let mut demand = Demand::new(n, k);
     let last = calls.len() - 1;

@@ -15,7 +15,7 @@ use comparison::report::{self, Case};
 use std::process::ExitCode;
 
 const CASES: &[Case] = &[
-    Case { name: "bench: set-up, its refusals", meets: &[0, 1, 2, 4], run: calls::set_up },
+    Case { name: "bench: set-up, its refusals", meets: &[0, 1, 2, 4, 14], run: calls::set_up },
     Case {
         name: "bench: refusals in order, table and ledger as they were",
         meets: &[3, 4, 5, 9, 11, 13],

@@ -22,7 +22,7 @@ struct Moment {
 
 impl Moment {
     fn first(n: u32, k: u32) -> Moment {
-        let nodes = bench::set_up(n, k, n as usize).expect("n and k are in range");
+        let nodes = bench::set_up(n, k, 0, n as usize).expect("n and k are in range");
         Moment { nodes, judge: ManyDead::new(n) }
     }
 

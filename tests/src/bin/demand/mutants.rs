@@ -6,7 +6,8 @@
 
 use super::steps::{self, next_sender, Steps};
 use comparison::model::bench::Rules;
-use comparison::model::node::{Leaving, Node, Said, State};
+use comparison::model::message::Said;
+use comparison::model::node::{Leaving, Node, State};
 use comparison::model::ring::{self, Set};
 
 #[derive(Clone, Copy, PartialEq, Eq, Debug)]
@@ -54,13 +55,13 @@ pub const ALL: [(Mutant, &str); 11] = [
 ];
 
 impl Rules for Mutant {
-    fn says(&self, node: &Node) -> Option<Said> {
-        let (acks, return_bit) = node.says()?;
-        match self {
-            NoReturnBit => Some((acks, false)),
-            SponsorsByNumber if node.state == State::Member => Some((acks_by_number(node), return_bit)),
-            _ => Some((acks, return_bit)),
-        }
+    fn says(&self, node: &Node, jobs: u8) -> Option<Said> {
+        let said = node.says(jobs)?;
+        Some(match self {
+            NoReturnBit => Said { return_bit: false, ..said },
+            SponsorsByNumber if node.state == State::Member => Said { acks: acks_by_number(node), ..said },
+            _ => said,
+        })
     }
 
     fn step(&self, node: &Node, heard: Option<Said>) -> Node {
@@ -84,7 +85,7 @@ impl Rules for Mutant {
             }
             (NoCause3, State::Member | State::Following) => {
                 let returning = node.returning != 0;
-                node.step(heard.map(|(acks, return_bit)| (acks, return_bit && returning)))
+                node.step(heard.map(|said| Said { return_bit: said.return_bit && returning, ..said }))
             }
             (SponsorsByNumber | NoDecisionUnheard | AllSponsored | NextNearer, _) => {
                 steps::slot(&node, heard, |node, sender, heard| self.steps(node, sender, heard))
@@ -133,7 +134,7 @@ impl Mutant {
         node.set.has(sender)
             && match heard {
                 None => self == SilenceIsYes && sponsors(node.own),
-                Some((acks, _)) => self == AnyYes && acks != 0,
+                Some(said) => self == AnyYes && said.acks != 0,
             }
     }
 }
@@ -141,9 +142,9 @@ impl Mutant {
 impl Steps for Mutant {
     fn step_1(&self, node: &mut Node, sender: u32, heard: Option<Said>) -> Result<(), Leaving> {
         match heard {
-            Some((acks, return_bit)) if *self == SponsorsByNumber => {
+            Some(said) if *self == SponsorsByNumber => {
                 let before = *node;
-                let heard = Some((acks_by_member(node, sender, acks), return_bit));
+                let heard = Some(Said { acks: acks_by_member(node, sender, said.acks), ..said });
                 node.step_1(sender, heard)?;
                 if by_number(node, sender).all(|x| x != node.own) {
                     unanswered(node, &before);

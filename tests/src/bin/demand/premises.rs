@@ -45,7 +45,7 @@ const KEPT: &[Plan] = &[
 /// The line that breaks something, counted from 1, and what; none if the plan ends before.
 fn follow(plan: Plan, demand: fn(u32, u32) -> Demand) -> Option<(usize, Broken)> {
     let (n, k, calls) = calls(plan);
-    let mut nodes = bench::set_up(n, k, n as usize).expect("n and k are in range");
+    let mut nodes = bench::set_up(n, k, 0, n as usize).expect("n and k are in range");
     let mut demand = demand(n, k);
     for (line, call) in (2..).zip(calls) {
         let before = nodes.clone();

@@ -1,6 +1,7 @@
 //! The five steps of a slot with some of them changed: what the mutants and the rules of an earlier request share.
 
-use comparison::model::node::{Leaving, Node, Said, State};
+use comparison::model::message::Said;
+use comparison::model::node::{Leaving, Node, State};
 use comparison::model::ring;
 
 /// The sender of the next slot.

@@ -2,7 +2,8 @@
 
 use super::steps::{self, Steps};
 use comparison::model::bench::Rules;
-use comparison::model::node::{Leaving, Node, Said};
+use comparison::model::message::Said;
+use comparison::model::node::{Leaving, Node};
 use comparison::model::ring;
 
 #[derive(Clone, Copy, PartialEq, Eq, Debug)]
@@ -41,8 +42,8 @@ impl Steps for Other {
 }
 
 impl Rules for Other {
-    fn says(&self, node: &Node) -> Option<Said> {
-        node.says()
+    fn says(&self, node: &Node, jobs: u8) -> Option<Said> {
+        node.says(jobs)
     }
 
     fn step(&self, node: &Node, heard: Option<Said>) -> Node {
@@ -93,8 +94,8 @@ fn bits_again(node: &mut Node, sender: u32, heard: Option<Said>) -> Result<(), L
 pub struct Between;
 
 impl Rules for Between {
-    fn says(&self, node: &Node) -> Option<Said> {
-        node.says()
+    fn says(&self, node: &Node, jobs: u8) -> Option<Said> {
+        node.says(jobs)
     }
 
     fn step(&self, node: &Node, heard: Option<Said>) -> Node {

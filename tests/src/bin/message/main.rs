@@ -11,13 +11,13 @@ use std::process::ExitCode;
 
 const CASES: &[Case] = &[
     Case {
-        name: "vectors: messages of document 01, model and library",
-        meets: &[0, 2, 6, 7, 8],
+        name: "vectors: messages of document 01 and request h, model and library",
+        meets: &[0, 2, 6, 7, 8, 14],
         run: vectors::reads,
     },
     Case {
-        name: "vectors: calls of the writer by document 01, model and library",
-        meets: &[0, 2, 8, 9],
+        name: "vectors: calls of the writer by document 01 and request h, model and library",
+        meets: &[0, 2, 8, 9, 14],
         run: vectors::writes,
     },
     Case {
@@ -26,7 +26,12 @@ const CASES: &[Case] = &[
         run: reader::every_k,
     },
     Case {
-        name: "reader: all messages of k = 2 to 8, each byte changed to every value, lengths 0 to 8",
+        name: "reader: every k and m in range and out of it, messages of each m",
+        meets: &[0, 2, 6, 7, 8, 14],
+        run: reader::every_k_and_m,
+    },
+    Case {
+        name: "reader: all messages of k = 2 to 8, each byte changed to every value, lengths 0 to 10",
         meets: &[0, 6, 7, 8],
         run: reader::near_messages_of_small_k,
     },
@@ -36,11 +41,25 @@ const CASES: &[Case] = &[
         run: reader::near_messages_of_large_k,
     },
     Case {
+        name: "reader: every two bytes as third section, every m and 9",
+        meets: &[0, 7, 8, 14],
+        run: reader::every_third_section,
+    },
+    Case {
         name: "reader: several things wrong at once",
-        meets: &[0, 2, 6, 7, 8],
+        meets: &[0, 2, 6, 7, 8, 14],
         run: reader::several_faults,
     },
-    Case { name: "reader: random messages, valid and damaged", meets: &[0, 2, 6, 7, 8], run: reader::random },
+    Case {
+        name: "reader: every choice of wrong counts and spare bits, every k and m",
+        meets: &[0, 2, 6, 7, 8, 14],
+        run: reader::several_faults_of_jobs,
+    },
+    Case {
+        name: "reader: random messages, valid and damaged",
+        meets: &[0, 2, 6, 7, 8, 14],
+        run: reader::random,
+    },
     Case {
         name: "writer: every k from 0 to 40 and large ones, output lengths 0 to 12 and long ones",
         meets: &[0, 2, 8, 9],
@@ -51,11 +70,21 @@ const CASES: &[Case] = &[
         meets: &[0, 8, 9],
         run: writer::all_of_small_k,
     },
-    Case { name: "writer: random calls", meets: &[0, 2, 8, 9], run: writer::random },
+    Case {
+        name: "writer: every job byte, m in range and out of it",
+        meets: &[0, 2, 8, 9, 14],
+        run: writer::every_job_byte,
+    },
+    Case { name: "writer: random calls", meets: &[0, 2, 8, 9, 14], run: writer::random },
     Case {
         name: "round trips: written and read, by library and model in turn",
         meets: &[0],
         run: round_trips::written_then_read,
+    },
+    Case {
+        name: "round trips: every job byte of every k and m",
+        meets: &[0],
+        run: round_trips::every_job_byte,
     },
     Case {
         name: "round trips: what the library reads it writes back, byte for byte",

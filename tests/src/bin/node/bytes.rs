@@ -33,18 +33,22 @@ fn rewritten(random: &mut Random, node: &Node) -> [u8; RECORD] {
     bytes
 }
 
+/// A readable message of k = 2, all yes, no job.
+const HEARD: &[u8] = &[2, 3, 1, 0, 0, 0];
+
 /// Loads the bytes and makes each call that is refused. What sending leaves is seen in the next answer.
 fn refused_calls(count: &mut Count, script: &mut Script, bytes: [u8; RECORD]) {
     let node = Held::load(bytes).node;
     let calls = [
-        (CALLS[0], Command::Slot(&[2, 3, 1, 0]), node.slot(&[2, 3, 1, 0]).is_err()),
-        (CALLS[1], Command::Send { room: 0 }, true),
+        (CALLS[0], Command::Slot(HEARD), node.slot(HEARD).is_err()),
+        (CALLS[1], Command::Send { room: 0, jobs: 0 }, true),
         (CALLS[2], Command::Off, node.off().is_err()),
         (CALLS[3], Command::Restart, node.restart().is_err()),
-        (CALLS[1], Command::Send { room: 0 }, true),
-        (CALLS[4], Command::SetUp { n: 33, k: 2, own: 1 }, true),
-        (CALLS[4], Command::SetUp { n: 4, k: 4, own: 1 }, true),
-        (CALLS[4], Command::SetUp { n: 4, k: 2, own: 5 }, true),
+        (CALLS[1], Command::Send { room: 0, jobs: 0 }, true),
+        (CALLS[4], Command::SetUp { n: 33, k: 2, m: 0, own: 1 }, true),
+        (CALLS[4], Command::SetUp { n: 4, k: 4, m: 0, own: 1 }, true),
+        (CALLS[4], Command::SetUp { n: 4, k: 2, m: 9, own: 1 }, true),
+        (CALLS[4], Command::SetUp { n: 4, k: 2, m: 8, own: 5 }, true),
     ];
     script.push(&Command::Load(bytes));
     for (name, call, refused) in calls {

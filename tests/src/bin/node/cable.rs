@@ -3,6 +3,7 @@
 
 use super::protocol::{Command, Script};
 use super::{events, heard};
+use comparison::messages::{job_byte, spare_job_byte};
 use comparison::model::message;
 use comparison::model::node::{Node, State};
 use comparison::model::ring::{self, Set};
@@ -21,24 +22,26 @@ pub struct Fate {
 pub struct Cable {
     pub n: u32,
     pub k: u32,
+    m: u32,
     pub nodes: Vec<Node>,
     scripts: Vec<Script>,
 }
 
 impl Cable {
-    pub fn new(n: u32, k: u32) -> Cable {
+    pub fn new(n: u32, k: u32, m: u32) -> Cable {
         let scripts = (0..n).map(|_| Script::default()).collect();
-        let mut cable = Cable { n, k, nodes: Vec::new(), scripts };
+        let mut cable = Cable { n, k, m, nodes: Vec::new(), scripts };
         cable.set_up();
         cable
     }
 
     /// All nodes start anew.
     pub fn set_up(&mut self) {
-        let (n, k) = (self.n, self.k);
-        self.nodes = (1..=n).map(|own| Node::set_up(n, k, own).expect("n and k are in range")).collect();
+        let (n, k, m) = (self.n, self.k, self.m);
+        let node = |own| Node::set_up(n, k, m, own).expect("n, k and m are in range");
+        self.nodes = (1..=n).map(node).collect();
         for own in 1..=n {
-            self.tell(own, &Command::SetUp { n, k, own });
+            self.tell(own, &Command::SetUp { n, k, m, own });
         }
     }
 
@@ -79,24 +82,37 @@ impl Cable {
         }
     }
 
-    /// What is sent in the next slot, nothing if the sender is silent. Sometimes the buffer is too short
-    /// first, and sometimes another node is asked.
-    fn sent(&mut self, random: &mut Random) -> Vec<u8> {
-        let sender = self.sender();
-        let length = message::length(self.k);
+    /// Calls that do not send: sometimes the buffer is too short, sometimes another node is asked, sometimes a job
+    /// past m is given.
+    fn ask(&mut self, random: &mut Random, sender: u32) {
+        let length = message::length(self.k) as u64;
         if random.below(8) == 0 {
-            let room = random.below(length as u64) as u8;
-            self.tell(sender, &Command::Send { room });
+            let (room, jobs) = (random.below(length) as u8, job_byte(random, self.m));
+            self.tell(sender, &Command::Send { room, jobs });
         }
         if random.below(4) == 0 {
             let other = random.within(1, u64::from(self.n)) as u32;
-            let room = random.below(12) as u8;
-            self.tell(other, &Command::Send { room });
+            let (room, jobs) = (random.below(12) as u8, job_byte(random, self.m));
+            self.tell(other, &Command::Send { room, jobs });
         }
+        if random.below(8) == 0 {
+            let room = random.within(length, length + 3) as u8;
+            let spare = spare_job_byte(random, self.m);
+            spare.into_iter().for_each(|jobs| self.tell(sender, &Command::Send { room, jobs }));
+        }
+    }
+
+    /// What is sent in the next slot, nothing if the sender is silent.
+    fn sent(&mut self, count: &mut Count, random: &mut Random) -> Vec<u8> {
+        let sender = self.sender();
+        self.ask(random, sender);
+        let length = message::length(self.k);
         let room = length + random.below(4) as usize;
-        self.tell(sender, &Command::Send { room: room as u8 });
+        let jobs = job_byte(random, self.m);
+        events::sends(count, self.node(sender), jobs);
+        self.tell(sender, &Command::Send { room: room as u8, jobs });
         let mut out = vec![0; length];
-        match self.node(sender).send(&mut out) {
+        match self.node(sender).send(jobs, &mut out) {
             Ok(_) => out,
             Err(_) => Vec::new(),
         }
@@ -104,7 +120,7 @@ impl Cable {
 
     pub fn slot(&mut self, count: &mut Count, random: &mut Random, fate: Fate) {
         let sender = self.sender();
-        let sent = self.sent(random);
+        let sent = self.sent(count, random);
         for x in 1..=self.n {
             let silent = fate.lost || fate.missed_by.has(x) || x == sender;
             let mut bytes = if silent { Vec::new() } else { sent.clone() };

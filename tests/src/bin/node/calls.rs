@@ -4,28 +4,69 @@ use super::compare::compare;
 use super::protocol::{Command, Script};
 use super::records::{every_call, own_slot_next};
 use super::{events, heard};
+use comparison::messages::{job_byte, spare_job_byte};
 use comparison::model::message;
 use comparison::model::node::{Node, State};
 use comparison::model::ring::LIMIT;
-use comparison::numbers::small_and_large;
+use comparison::numbers::{no_job_counts, small_and_large};
 use comparison::random::Random;
 use comparison::records::{sound, spoil, STATES};
 use comparison::report::Count;
 
-/// All n, k and own numbers from 0 to 40 and large ones; calls on the record before the first set-up,
-/// and a refused set-up leaves the record of the last one.
+/// The causes of a refused set-up that come with a job count out of range, and that count alone.
+const JOB_CAUSES: &[&str] =
+    &["set-up: 1, 14", "set-up: 2, 14", "set-up: 14", "set-up: 14, 3", "set-up: every m"];
+
+fn note_jobs(count: &mut Count, (n, k, m, own): (u32, u32, u32, u32)) {
+    if m == 8 && Node::set_up(n, k, m, own).is_ok() {
+        return count.event(JOB_CAUSES[4]);
+    }
+    if m > 8 {
+        count.event(match Node::set_up(n, k, 0, own) {
+            Err(1) => JOB_CAUSES[0],
+            Err(2) => JOB_CAUSES[1],
+            Err(_) => JOB_CAUSES[3],
+            Ok(_) => JOB_CAUSES[2],
+        });
+    }
+}
+
+/// All n, k and own numbers from 0 to 40 and large ones, m in range and out of it in turn; calls on the record before
+/// the first set-up, and a refused set-up leaves the record of the last one.
 pub fn set_up(count: &mut Count) -> Result<(), String> {
     let mut script = Script::default();
-    for call in [Command::Slot(&[]), Command::Send { room: 9 }, Command::Off, Command::Restart] {
+    for call in [Command::Slot(&[]), Command::Send { room: 9, jobs: 0 }, Command::Off, Command::Restart] {
         script.push(&call);
     }
+    let counts: Vec<u32> = (0..=8).chain(no_job_counts()).collect();
+    let mut turns = counts.iter().cycle();
     for n in small_and_large() {
         for k in small_and_large() {
             for own in small_and_large() {
-                script.push(&Command::SetUp { n, k, own });
+                let m = *turns.next().expect("a cycle does not end");
+                note_jobs(count, (n, k, m, own));
+                script.push(&Command::SetUp { n, k, m, own });
             }
         }
     }
+    count.needs(JOB_CAUSES)?;
+    compare(count, &script)
+}
+
+/// Every m with each n, and some k and own numbers: 1, 2, 14, 3 in this order.
+pub fn job_counts(count: &mut Count) -> Result<(), String> {
+    let mut script = Script::default();
+    for n in 2..=33 {
+        for m in small_and_large() {
+            for k in [1, 2, n - 1, n] {
+                for own in [0, 1, n, n + 1] {
+                    note_jobs(count, (n, k, m, own));
+                    script.push(&Command::SetUp { n, k, m, own });
+                }
+            }
+        }
+    }
+    count.needs(JOB_CAUSES)?;
     compare(count, &script)
 }
 
@@ -35,7 +76,7 @@ fn turn(node: &mut Node) {
     node.slots = node.slots - node.slots % n + u64::from(node.own) - 1;
 }
 
-/// Into rooms 0 to 12 and a large one. Then a restart, which most nodes refuse, shows that the record is
+/// Into rooms 0 to 12 and a large one, with one job byte; then with any, into a room that is enough. Then a restart, which most nodes refuse, shows that the record is
 /// as it was: the slot that follows a send sets the own mark and clears yes heard anyway.
 pub fn sending(count: &mut Count) -> Result<(), String> {
     let mut random = Random::new(31);
@@ -48,15 +89,51 @@ pub fn sending(count: &mut Count) -> Result<(), String> {
             }
             note_send(count, &node);
             script.push(&Command::load(&node));
+            let jobs = job_byte(&mut random, node.m);
             for room in (0..=12).chain([255]) {
-                script.push(&Command::Send { room });
+                script.push(&Command::Send { room, jobs });
+            }
+            for _ in 0..2 {
+                let jobs = random.byte();
+                note_jobs_given(count, &node, jobs);
+                script.push(&Command::Send { room: 12, jobs });
             }
             script.push(&Command::Restart);
-            script.push(&Command::Slot(&heard::anything(&mut random, node.k)));
+            script.push(&Command::Slot(&heard::anything(&mut random, (node.k, node.m))));
         }
     }
     count.needs(SENDS)?;
+    count.needs(GIVEN)?;
     compare(count, &script)
+}
+
+/// A node that sends is given a job byte.
+const GIVEN: &[&str] = &[
+    "jobs given: to a member",
+    "jobs given: to a member, a spare bit",
+    "jobs given: for a knock",
+    "jobs given: for a knock, a spare bit",
+];
+
+fn note_jobs_given(count: &mut Count, node: &Node, jobs: u8) {
+    let spare = u32::from(jobs) >> node.m != 0;
+    match (node.state, spare) {
+        _ if !sends(node) || jobs == 0 => {}
+        (State::Member, false) => count.event(GIVEN[0]),
+        (State::Member, true) => count.event(GIVEN[1]),
+        (_, false) => count.event(GIVEN[2]),
+        (_, true) => count.event(GIVEN[3]),
+    }
+}
+
+/// The next slot is its own, and it is a member or knocks in it.
+fn sends(node: &Node) -> bool {
+    own_slot_next(node)
+        && match node.state {
+            State::Member => true,
+            State::Following => node.returning == 0,
+            _ => false,
+        }
 }
 
 const SENDS: &[&str] = &[
@@ -102,8 +179,9 @@ pub fn limit(count: &mut Count) -> Result<(), String> {
             every_call(&mut random, &mut script, &node);
             script.push(&Command::load(&node));
             for _ in 0..3 {
-                script.push(&Command::Send { room: random.below(12) as u8 });
-                script.push(&Command::Slot(&heard::anything(&mut random, node.k)));
+                let (room, jobs) = (random.below(12) as u8, job_byte(&mut random, node.m));
+                script.push(&Command::Send { room, jobs });
+                script.push(&Command::Slot(&heard::anything(&mut random, (node.k, node.m))));
             }
             script.push(&Command::Off);
             script.push(&Command::Restart);
@@ -128,48 +206,56 @@ fn drawn(random: &mut Random, state: State, at_limit: bool, own_turn: bool) -> N
     }
 }
 
-/// Several causes at once, for every call: not sound, at the limit, not its turn, no room, not out.
+/// Several causes at once, for every call: not sound, at the limit, a spare job bit, not its turn, no room, not out.
 pub fn order(count: &mut Count) -> Result<(), String> {
     let mut random = Random::new(33);
     let mut script = Script::default();
     for state in STATES {
-        for i in 0..8 * 300 {
-            let (unsound, at_limit, own_turn) = (i & 1 == 1, i & 2 == 2, i & 4 == 4);
+        for i in 0..16 * 200 {
+            let (unsound, at_limit, own_turn, spare) = (i & 1 == 1, i & 2 == 2, i & 4 == 4, i & 8 == 8);
             let mut node = drawn(&mut random, state, at_limit, own_turn);
+            let given = spare_job_byte(&mut random, node.m).filter(|_| spare);
+            let jobs = given.unwrap_or_else(|| job_byte(&mut random, node.m));
+            let sending = sends(&node);
             if unsound {
                 spoil(&mut random, &mut node);
             }
-            note_causes(count, &node, unsound, at_limit);
+            count.event(causes(unsound, at_limit, given.is_some(), !sending));
             every_call(&mut random, &mut script, &node);
             script.push(&Command::load(&node));
             for room in [message::length(node.k) - 1, message::length(node.k)] {
-                script.push(&Command::Send { room: room as u8 });
+                script.push(&Command::Send { room: room as u8, jobs });
             }
         }
     }
-    count.needs(CAUSES)?;
+    count.needs(&CAUSES)?;
     compare(count, &script)
 }
 
-const CAUSES: &[&str] = &["none", "4", "4, 5", "4, 5, 10", "4, 10", "5", "5, 10", "10"];
+/// The causes that apply to sending, but for the room; each number has its bit: 10, 8, 5, 4.
+const CAUSES: [&str; 16] = [
+    "none",
+    "10",
+    "8",
+    "8, 10",
+    "5",
+    "5, 10",
+    "5, 8",
+    "5, 8, 10",
+    "4",
+    "4, 10",
+    "4, 8",
+    "4, 8, 10",
+    "4, 5",
+    "4, 5, 10",
+    "4, 5, 8",
+    "4, 5, 8, 10",
+];
 
-/// The causes that apply to sending, but for the room.
-fn note_causes(count: &mut Count, node: &Node, unsound: bool, at_limit: bool) {
-    let sends = match node.state {
-        State::Member => own_slot_next(node),
-        State::Following => own_slot_next(node) && node.returning == 0,
-        _ => false,
-    };
-    count.event(match (unsound, at_limit, sends) {
-        (true, true, true) => "4, 5",
-        (true, true, false) => "4, 5, 10",
-        (true, false, true) => "4",
-        (true, false, false) => "4, 10",
-        (false, true, true) => "5",
-        (false, true, false) => "5, 10",
-        (false, false, true) => "none",
-        (false, false, false) => "10",
-    });
+fn causes(unsound: bool, at_limit: bool, spare: bool, silent: bool) -> &'static str {
+    let bits =
+        [unsound, at_limit, spare, silent].into_iter().fold(0, |bits, yes| 2 * bits + usize::from(yes));
+    CAUSES[bits]
 }
 
 /// Off and restart in every state, and one after the other.
@@ -189,7 +275,7 @@ pub fn switching(count: &mut Count) -> Result<(), String> {
                 for call in calls {
                     script.push(&call);
                 }
-                script.push(&Command::Slot(&heard::anything(&mut random, node.k)));
+                script.push(&Command::Slot(&heard::anything(&mut random, (node.k, node.m))));
             }
             events::off(count, &node);
             events::restart(count, &node);

@@ -50,9 +50,9 @@ fn answers(count: &mut Count, script: &Script, output: &mut dyn Read) -> Result<
 
 fn shown_command(command: &Command) -> String {
     match *command {
-        Command::SetUp { n, k, own } => format!("set-up n = {n}, k = {k}, own {own}"),
+        Command::SetUp { n, k, m, own } => format!("set-up n = {n}, k = {k}, m = {m}, own {own}"),
         Command::Slot(heard) => format!("slot, heard [{}]", hex(heard)),
-        Command::Send { room } => format!("send into {room} bytes"),
+        Command::Send { room, jobs } => format!("send jobs {jobs:02X} into {room} bytes"),
         Command::Off => "off".to_string(),
         Command::Restart => "restart".to_string(),
         Command::Load(bytes) => format!("load {}", shown_record(&Held::load(bytes).node)),

@@ -2,8 +2,8 @@
 //! heard. It only counts, so that no case passes without meeting what it is for.
 
 use comparison::events::several;
-use comparison::model::message;
-use comparison::model::node::{Cause, Node, Said, State};
+use comparison::model::message::{self, Said};
+use comparison::model::node::{Cause, Node, State};
 use comparison::model::ring::{self, Set};
 use comparison::report::Count;
 
@@ -61,6 +61,42 @@ pub const OF_CABLES: &[&str] = &[
     "member: decided at a later look, neither yes nor no heard",
 ];
 
+/// What sending with jobs must meet.
+pub const OF_REPORTS: &[&str] = &["jobs: reported by a member", "jobs: given to one that knocks"];
+
+/// Request h: a message of another m, readable but for that, which is unheard.
+pub const OF_OTHER_M: &[&str] = &[
+    "another m: unheard by a member",
+    "another m: unheard by a listening node",
+    "another m: unheard by a following node",
+    "another m: unheard by a knocking node",
+];
+
+/// The node, whose slot is the next, is given this job byte.
+pub fn sends(count: &mut Count, node: &Node, jobs: u8) {
+    match (node.state, jobs) {
+        (_, 0) => {}
+        (State::Member, _) => count.event(OF_REPORTS[0]),
+        (State::Following, _) if node.returning == 0 => count.event(OF_REPORTS[1]),
+        _ => {}
+    }
+}
+
+/// A message for another number of jobs.
+fn other_m(count: &mut Count, node: &Node, bytes: &[u8]) {
+    let Some(&m) = bytes.len().checked_sub(2).and_then(|place| bytes.get(place)) else { return };
+    if u32::from(m) == node.m || message::read(node.k, u32::from(m), bytes).is_err() {
+        return;
+    }
+    match node.state {
+        State::Member => count.event(OF_OTHER_M[0]),
+        State::Listening => count.event(OF_OTHER_M[1]),
+        State::Following => count.event(OF_OTHER_M[2]),
+        State::Knocking => count.event(OF_OTHER_M[3]),
+        State::Out(_) => {}
+    }
+}
+
 pub fn off(count: &mut Count, before: &Node) {
     count.event(match before.state {
         State::Member => "off: of a member",
@@ -108,9 +144,12 @@ fn leaving(mut node: Node, sender: u32, heard: Option<Said>) -> Vec<u32> {
 
 pub fn slot(count: &mut Count, before: &Node, after: &Node, bytes: &[u8]) {
     let sender = ring::sender(before.n, after.slots);
-    let heard = if sender == before.own { None } else { message::read(before.k, bytes).ok() };
+    let heard = if sender == before.own { None } else { message::read(before.k, before.m, bytes).ok() };
     let slot = Slot { before, after, sender, heard, left: leaving(*before, sender, heard) };
     slot.repeat(count);
+    if sender != before.own {
+        other_m(count, before, bytes);
+    }
     match before.state {
         State::Member => slot.of_member(count),
         State::Listening => slot.of_listening(count),
@@ -187,7 +226,7 @@ impl Slot<'_> {
     /// What a heard message says to this member's own.
     fn answer(&self, count: &mut Count) {
         let Node { n, k, own, set, marks, yes_heard, .. } = *self.before;
-        let (Some((acks, _)), true) = (self.heard, set.has(self.sender)) else { return };
+        let (Some(Said { acks, .. }), true) = (self.heard, set.has(self.sender)) else { return };
         let Some(bit) = ring::sponsored(n, k, set, self.sender).position(|met| met.member == own) else {
             return;
         };
@@ -290,7 +329,7 @@ impl Slot<'_> {
 
     fn returns_unawaited(&self) -> bool {
         let listed = self.before.set.has(self.sender);
-        listed && self.before.returning == 0 && self.heard.is_some_and(|(_, return_bit)| return_bit)
+        listed && self.before.returning == 0 && self.heard.is_some_and(|said| said.return_bit)
     }
 
     /// Fewer than two members are left after step 3.

@@ -6,6 +6,7 @@ mod calls;
 mod compare;
 mod events;
 mod heard;
+mod job_vectors;
 mod plans;
 mod protocol;
 mod records;
@@ -22,33 +23,43 @@ const CASES: &[Case] = &[
         run: vectors::single_nodes,
     },
     Case {
-        name: "vectors: plans of whole cables, model and program",
-        meets: &[0, 10],
+        name: "vectors: runs of single nodes with jobs by request h, model and program",
+        meets: &[0, 4, 5, 8, 10],
+        run: job_vectors::single_nodes,
+    },
+    Case {
+        name: "vectors: plans of whole cables, without jobs and with some, model and program",
+        meets: &[0, 8, 10],
         run: plans::whole_cables,
     },
     Case {
-        name: "set-up: n, k and own number from 0 to 40 and large ones",
-        meets: &[0, 1, 2, 3, 4],
+        name: "set-up: n, k and own number from 0 to 40 and large ones, m in range and out of it",
+        meets: &[0, 1, 2, 3, 4, 14],
         run: calls::set_up,
     },
     Case {
+        name: "set-up: m from 0 to 40 and large ones, other numbers in range and just out of it",
+        meets: &[0, 1, 2, 3, 14],
+        run: calls::job_counts,
+    },
+    Case {
         name: "cables: every n and k, with losses, misses, offs and restarts",
-        meets: &[0, 9, 10, 11],
+        meets: &[0, 8, 9, 10, 11],
         run: runs::every_n_and_k,
     },
     Case {
         name: "cables: long runs, troubles aimed at sponsors, knocks and returning nodes now and then",
-        meets: &[0, 9, 10, 11],
+        meets: &[0, 8, 9, 10, 11],
         run: runs::calm,
     },
     Case {
         name: "cables: long runs, such troubles most of the time",
-        meets: &[0, 9, 10, 11],
+        meets: &[0, 8, 9, 10, 11],
         run: runs::rough,
     },
     Case {
         name: "cables: long runs, bytes damaged or changed on their way, and handed over in the own slot",
-        meets: &[0, 9, 10, 11],
+        meets: &[0, 8, 9, 10, 11],
         run: runs::tampered,
     },
     Case {
@@ -61,15 +72,19 @@ const CASES: &[Case] = &[
         meets: &[4],
         run: records::unsound_in_one_clause,
     },
-    Case { name: "records: up to three fields of any value", meets: &[0, 4, 9, 10, 11], run: records::wild },
+    Case {
+        name: "records: up to three fields of any value",
+        meets: &[0, 4, 8, 9, 10, 11],
+        run: records::wild,
+    },
     Case {
         name: "records: of bytes that no call writes, each of which a refused call leaves",
-        meets: &[0, 1, 2, 3, 4, 5, 9, 10, 11],
+        meets: &[0, 1, 2, 3, 4, 5, 9, 10, 11, 14],
         run: bytes::left_by_refusals,
     },
     Case {
-        name: "sending: sound records, rooms 0 to 12 and 255",
-        meets: &[0, 9, 10, 11],
+        name: "sending: sound records, rooms 0 to 12 and 255, any job bytes",
+        meets: &[0, 8, 9, 10, 11],
         run: calls::sending,
     },
     Case {
@@ -84,7 +99,7 @@ const CASES: &[Case] = &[
     },
     Case {
         name: "order: several causes of refusal at once",
-        meets: &[0, 4, 5, 9, 10, 11],
+        meets: &[0, 4, 5, 8, 9, 10, 11],
         run: calls::order,
     },
 ];

@@ -1,5 +1,6 @@
 //! Whole cables with literal tables after them: the examples of document 01 that concern a cable, those of requests e
-//! and f, a power cut of request g, and runs that break a premise of the agreement each.
+//! and f, a power cut of request g, and runs that break a premise of the agreement each. Each is followed without jobs
+//! and with some, by request h: "membership is the same as if the section were absent".
 
 use super::cable::{Cable, Fate};
 use super::compare::compare;
@@ -135,9 +136,9 @@ const PLANS: &[Plan] = &[
     ] },
 ];
 
-fn follow(count: &mut Count, random: &mut Random, plan: &Plan) -> Result<Cable, String> {
+fn follow(count: &mut Count, random: &mut Random, m: u32, plan: &Plan) -> Result<Cable, String> {
     let (n, k) = plan.ring;
-    let mut cable = Cable::new(n, k);
+    let mut cable = Cable::new(n, k, m);
     for &(times, ref line) in plan.lines {
         for _ in 0..times {
             let fate = match *line {
@@ -165,14 +166,14 @@ fn follow(count: &mut Count, random: &mut Random, plan: &Plan) -> Result<Cable, 
 pub fn whole_cables(count: &mut Count) -> Result<(), String> {
     let mut random = Random::new(1);
     let mut script = Script::default();
-    for plan in PLANS {
-        let cable = follow(count, &mut random, plan)?;
+    for (plan, m) in PLANS.iter().flat_map(|plan| [(plan, 0), (plan, 3), (plan, 8)]) {
+        let cable = follow(count, &mut random, m, plan)?;
         for &(x, state, set) in plan.after {
             let node = cable.node(x);
             let got = node.set.nodes().collect::<Vec<u32>>();
             count.check(node.state == state && got == set, || {
                 format!(
-                    "{}: model: node {x} is {:?} with {got:?}, by the plan {state:?} with {set:?}",
+                    "{}, m = {m}: model: node {x} is {:?} with {got:?}, by the plan {state:?} with {set:?}",
                     plan.what, node.state
                 )
             })?;

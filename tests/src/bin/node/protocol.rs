@@ -32,9 +32,9 @@ impl Held {
 }
 
 pub enum Command<'a> {
-    SetUp { n: u32, k: u32, own: u32 },
+    SetUp { n: u32, k: u32, m: u32, own: u32 },
     Slot(&'a [u8]),
-    Send { room: u8 },
+    Send { room: u8, jobs: u8 },
     Off,
     Restart,
     Load([u8; RECORD]),
@@ -60,9 +60,9 @@ impl Script {
     pub fn push(&mut self, command: &Command) {
         let out = &mut self.bytes;
         match *command {
-            Command::SetUp { n, k, own } => {
+            Command::SetUp { n, k, m, own } => {
                 out.push(b'U');
-                for number in [n, k, own] {
+                for number in [n, k, m, own] {
                     out.extend(number.to_le_bytes());
                 }
             }
@@ -71,7 +71,7 @@ impl Script {
                 out.push(u8::try_from(heard.len()).expect("a slot's bytes are at most 255"));
                 out.extend(heard);
             }
-            Command::Send { room } => out.extend([b'T', room]),
+            Command::Send { room, jobs } => out.extend([b'T', room, jobs]),
             Command::Off => out.push(b'F'),
             Command::Restart => out.push(b'R'),
             Command::Load(bytes) => {
@@ -93,15 +93,15 @@ pub fn next_command<'a>(script: &mut Reader<'a>) -> Option<Command<'a>> {
         return None;
     }
     Some(match script.u8() {
-        b'U' => Command::SetUp { n: script.u32(), k: script.u32(), own: script.u32() },
+        b'U' => Command::SetUp { n: script.u32(), k: script.u32(), m: script.u32(), own: script.u32() },
         b'S' => {
             let length = script.u8();
             Command::Slot(script.take(usize::from(length)))
         }
-        b'T' => Command::Send { room: script.u8() },
+        b'T' => Command::Send { room: script.u8(), jobs: script.u8() },
         b'F' => Command::Off,
         b'R' => Command::Restart,
-        b'L' => Command::Load(script.take(RECORD).try_into().expect("52 bytes")),
+        b'L' => Command::Load(script.take(RECORD).try_into().expect("56 bytes")),
         other => panic!("{other:#04X} is no command"),
     })
 }
@@ -115,16 +115,16 @@ pub fn run_by_model(held: &mut Held, command: &Command, out: &mut Vec<u8>) -> Op
             *held = Held::load(bytes);
             return None;
         }
-        Command::Send { room } => {
+        Command::Send { room, jobs } => {
             let mut buffer = [FILL; 255];
             let lent = &mut buffer[..usize::from(room)];
-            let answer = held.node.send(lent);
+            let answer = held.node.send(jobs, lent);
             let number = answer.err().unwrap_or(0);
             out.extend([number as u8, answer.unwrap_or(0) as u8]);
             out.extend_from_slice(lent);
             return Some(number);
         }
-        Command::SetUp { n, k, own } => Node::set_up(n, k, own),
+        Command::SetUp { n, k, m, own } => Node::set_up(n, k, m, own),
         Command::Slot(heard) => held.node.slot(heard),
         Command::Off => held.node.off(),
         Command::Restart => held.node.restart(),

@@ -3,6 +3,7 @@
 use super::compare::compare;
 use super::protocol::{Command, Script};
 use super::{events, heard};
+use comparison::messages::job_byte;
 use comparison::model::node::{Node, State, CLAUSES};
 use comparison::model::ring;
 use comparison::random::Random;
@@ -27,7 +28,7 @@ const BEYOND_CABLES: &[&str] = &[
 fn slots_on(count: &mut Count, random: &mut Random, script: &mut Script, mut node: Node) {
     script.push(&Command::load(&node));
     for _ in 0..random.within(1, 3) {
-        let bytes = heard::anything(random, node.k);
+        let bytes = heard::anything(random, (node.k, node.m));
         script.push(&Command::Slot(&bytes));
         if let Ok(next) = node.slot(&bytes) {
             events::slot(count, &node, &next, &bytes);
@@ -37,7 +38,10 @@ fn slots_on(count: &mut Count, random: &mut Random, script: &mut Script, mut nod
     match random.below(8) {
         0 => script.push(&Command::Off),
         1 => script.push(&Command::Restart),
-        2 => script.push(&Command::Send { room: random.below(12) as u8 }),
+        2 => {
+            let (room, jobs) = (random.below(12) as u8, job_byte(random, node.m));
+            script.push(&Command::Send { room, jobs });
+        }
         _ => {}
     }
 }
@@ -55,19 +59,21 @@ pub fn sound_in_every_state(count: &mut Count) -> Result<(), String> {
     }
     let of_slots =
         events::OF_CABLES.iter().filter(|name| !name.starts_with("off") && !name.starts_with("restart"));
-    count.needs(&of_slots.chain(BEYOND_CABLES).copied().collect::<Vec<_>>())?;
+    count.needs(&of_slots.chain(BEYOND_CABLES).chain(events::OF_OTHER_M).copied().collect::<Vec<_>>())?;
     compare(count, &script)
 }
 
 /// Every call on the record, each time loaded anew, with bytes and rooms right and wrong.
 pub fn every_call(random: &mut Random, script: &mut Script, node: &Node) {
-    let bytes = heard::readable(random, node.k.clamp(2, 31));
+    let bytes = heard::readable(random, (node.k.clamp(2, 31), node.m.min(8)));
     let room = random.below(12) as u8;
+    let jobs = if random.below(4) == 0 { random.byte() } else { job_byte(random, node.m.min(8)) };
     for call in [
         Command::Slot(&bytes),
         Command::Slot(&[]),
-        Command::Send { room: 0 },
-        Command::Send { room },
+        Command::Send { room: 0, jobs },
+        Command::Send { room, jobs: 0 },
+        Command::Send { room: 12, jobs },
         Command::Off,
         Command::Restart,
     ] {

@@ -8,6 +8,7 @@ use super::protocol::Script;
 use comparison::model::node::State;
 use comparison::model::ring::{members_before, Set};
 use comparison::random::Random;
+use comparison::records::job_count;
 use comparison::report::Count;
 
 /// What goes wrong for some slots.
@@ -130,7 +131,8 @@ struct Kind {
 
 /// Runs a cable; it starts anew some time after its last member has left.
 fn run(count: &mut Count, random: &mut Random, n: u32, k: u32, kind: &Kind) -> Cable {
-    let mut cable = Cable::new(n, k);
+    let m = job_count(random);
+    let mut cable = Cable::new(n, k, m);
     let mut trouble = Trouble::Nothing;
     let mut without_member = 0;
     for _ in 0..kind.slots {
@@ -174,6 +176,7 @@ fn long_runs(count: &mut Count, seed: u64, sizes: &[u32], kind: impl Fn(u32) -> 
         }
     }
     count.needs(events::OF_CABLES)?;
+    count.needs(events::OF_REPORTS)?;
     compare(count, &script)
 }
 
@@ -188,5 +191,6 @@ pub fn rough(count: &mut Count) -> Result<(), String> {
 }
 
 pub fn tampered(count: &mut Count) -> Result<(), String> {
-    long_runs(count, 14, SIZES, |n| Kind { slots: 12_000 / n, calm: 4 * n, tampered: 8 })
+    long_runs(count, 14, SIZES, |n| Kind { slots: 12_000 / n, calm: 4 * n, tampered: 8 })?;
+    count.needs(events::OF_OTHER_M)
 }

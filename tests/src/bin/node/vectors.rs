@@ -1,5 +1,5 @@
 //! Runs of single nodes with literal answers, typed from document 01 and requests e and f; neither side makes an
-//! expected answer. The examples of whole cables are followed on each of their nodes.
+//! expected answer. The examples of whole cables are followed on each of their nodes. The cables have no jobs.
 
 use super::compare::compare;
 use super::protocol::{Command, Script};
@@ -9,12 +9,12 @@ use comparison::model::ring::Set;
 use comparison::record_bytes::shown_record;
 use comparison::report::Count;
 
-type Nodes = &'static [u32];
-type Bytes = &'static [u8];
+pub type Nodes = &'static [u32];
+pub type Bytes = &'static [u8];
 
 /// A record but for n, k, own number and slot count, which are told by the run.
 #[derive(Clone, Copy)]
-enum Is {
+pub enum Is {
     /// Set, marks, returning; no yes heard for the own message since the own slot.
     Member(Nodes, Nodes, u32),
     /// The same with yes heard.
@@ -28,13 +28,18 @@ enum Is {
     Out(Cause),
 }
 
-enum Step {
+pub enum Step {
     /// One slot with these bytes heard, none for nothing.
     Slot(Bytes, Is),
+    SlotRefused(Bytes, u32),
     /// The node sends these bytes; the slot is the next step.
     Sends(Bytes),
     SendRefused(u32),
+    /// The node is given this job byte and sends these bytes, or refuses.
+    Reports(u8, Bytes),
+    ReportRefused(u8, u32),
     Off,
+    OffRefused(u32),
     Restart(Is),
     RestartRefused,
 }
@@ -43,29 +48,29 @@ use Is::*;
 use Step::*;
 
 /// n, k, own number; slot count and record where it does not start at set-up; the steps.
-struct Run {
-    what: &'static str,
-    ring: (u32, u32, u32),
-    from: Option<(u64, Is)>,
-    steps: &'static [Step],
+pub struct Run {
+    pub what: &'static str,
+    pub ring: (u32, u32, u32),
+    pub from: Option<(u64, Is)>,
+    pub steps: &'static [Step],
 }
 
-/// The messages of k = 2, 3 and 4, named by their acknowledgement bits, bit 1 first.
-const YY: Bytes = &[0x02, 0x03, 0x01, 0x00];
-const NY: Bytes = &[0x02, 0x02, 0x01, 0x00];
-const YN: Bytes = &[0x02, 0x01, 0x01, 0x00];
-const NN: Bytes = &[0x02, 0x00, 0x01, 0x00];
-const YY_RETURN: Bytes = &[0x02, 0x03, 0x01, 0x01];
-const NNN: Bytes = &[0x03, 0x00, 0x01, 0x00];
-const YNN: Bytes = &[0x03, 0x01, 0x01, 0x00];
-const NYN: Bytes = &[0x03, 0x02, 0x01, 0x00];
-const NNY: Bytes = &[0x03, 0x04, 0x01, 0x00];
-const NYY: Bytes = &[0x03, 0x06, 0x01, 0x00];
-const YYN: Bytes = &[0x03, 0x03, 0x01, 0x00];
-const YYY: Bytes = &[0x03, 0x07, 0x01, 0x00];
-const YNN_RETURN: Bytes = &[0x03, 0x01, 0x01, 0x01];
-const NNNY: Bytes = &[0x04, 0x08, 0x01, 0x00];
-const YNNN: Bytes = &[0x04, 0x01, 0x01, 0x00];
+/// The messages of k = 2, 3 and 4 and no job, named by their acknowledgement bits, bit 1 first.
+const YY: Bytes = &[0x02, 0x03, 0x01, 0x00, 0x00, 0x00];
+const NY: Bytes = &[0x02, 0x02, 0x01, 0x00, 0x00, 0x00];
+const YN: Bytes = &[0x02, 0x01, 0x01, 0x00, 0x00, 0x00];
+const NN: Bytes = &[0x02, 0x00, 0x01, 0x00, 0x00, 0x00];
+const YY_RETURN: Bytes = &[0x02, 0x03, 0x01, 0x01, 0x00, 0x00];
+const NNN: Bytes = &[0x03, 0x00, 0x01, 0x00, 0x00, 0x00];
+const YNN: Bytes = &[0x03, 0x01, 0x01, 0x00, 0x00, 0x00];
+const NYN: Bytes = &[0x03, 0x02, 0x01, 0x00, 0x00, 0x00];
+const NNY: Bytes = &[0x03, 0x04, 0x01, 0x00, 0x00, 0x00];
+const NYY: Bytes = &[0x03, 0x06, 0x01, 0x00, 0x00, 0x00];
+const YYN: Bytes = &[0x03, 0x03, 0x01, 0x00, 0x00, 0x00];
+const YYY: Bytes = &[0x03, 0x07, 0x01, 0x00, 0x00, 0x00];
+const YNN_RETURN: Bytes = &[0x03, 0x01, 0x01, 0x01, 0x00, 0x00];
+const NNNY: Bytes = &[0x04, 0x08, 0x01, 0x00, 0x00, 0x00];
+const YNNN: Bytes = &[0x04, 0x01, 0x01, 0x00, 0x00, 0x00];
 const NOTHING: Bytes = &[];
 
 const ALL: Nodes = &[1, 2, 3, 4];
@@ -267,12 +272,12 @@ const RUNS: &[Run] = &[
         Slot(NNN, Listening(0, &[], 3, false, &[])),
     ] },
     Run { what: "two leave of three, knocking", ring: (6, 3, 1), from: Some((4, Knocking(&[3, 4, 5], &[5], true))), steps: &[
-        Slot(&[0x03, 0x00, 0x01, 0x01], Listening(0, &[], 3, false, &[])),
+        Slot(&[0x03, 0x00, 0x01, 0x01, 0x00, 0x00], Listening(0, &[], 3, false, &[])),
     ] },
     // Joining comes after the last departure. n = 6, k = 4: 5 leaves, then 6, and only then is node 4 the nearest
     // member before 1.
     Run { what: "two leave and one joins", ring: (6, 4, 3), from: Some((3, Member(&[2, 3, 4, 5, 6], &[2, 3, 4], 1))), steps: &[
-        Slot(&[0x04, 0x03, 0x01, 0x01], Confirmed(&[1, 2, 3, 4], &[1, 2, 3, 4], 0)),
+        Slot(&[0x04, 0x03, 0x01, 0x01, 0x00, 0x00], Confirmed(&[1, 2, 3, 4], &[1, 2, 3, 4], 0)),
     ] },
     // n = 5, k = 3: 5 leaves, and of the k members left 2 does, too; 1 joins. Nodes 3, 2 and 1.
     Run { what: "k between departure and joining, node 3", ring: (5, 3, 3), from: Some((18, Member(&[2, 3, 4, 5], &[3, 4], 1))), steps: &[
@@ -315,13 +320,13 @@ const RUNS: &[Run] = &[
     // "P: k = 9, all yes, return: 09 FF 01 01 01."
     Run { what: "all yes, return", ring: (11, 9, 1),
           from: Some((11, Member(&[1, 2, 3, 4, 5, 6, 7, 8, 9, 10], &[1, 2, 3, 4, 5, 6, 7, 8, 9, 10], 11))),
-          steps: &[Sends(&[0x09, 0xFF, 0x01, 0x01, 0x01])] },
+          steps: &[Sends(&[0x09, 0xFF, 0x01, 0x01, 0x01, 0x00, 0x00])] },
     // "P: for k = 2, 02 07 01 00 is refusal 8; 02 03 02 00 is 7." "An unreadable message counts as not heard."
     Run { what: "a spare bit", ring: (4, 2, 1), from: Some((1, Member(ALL, ALL, 0))), steps: &[
-        Slot(&[0x02, 0x07, 0x01, 0x00], Member(ALL, &[1, 3, 4], 0)),
+        Slot(&[0x02, 0x07, 0x01, 0x00, 0x00, 0x00], Member(ALL, &[1, 3, 4], 0)),
     ] },
     Run { what: "a wrong count", ring: (4, 2, 1), from: Some((1, Member(ALL, ALL, 0))), steps: &[
-        Slot(&[0x02, 0x03, 0x02, 0x00], Member(ALL, &[1, 3, 4], 0)),
+        Slot(&[0x02, 0x03, 0x02, 0x00, 0x00, 0x00], Member(ALL, &[1, 3, 4], 0)),
     ] },
     // Node 1 is away from the start and comes back. The first window meets the bits that say no to it.
     Run { what: "coming back", ring: (4, 2, 1), from: None, steps: &[
@@ -437,7 +442,7 @@ const RUNS: &[Run] = &[
     ] },
     // "Joining before departing in one slot": 3 decides 4, which leaves; then 3 is the nearest before 5.
     Run { what: "departing and joining", ring: (5, 3, 1), from: Some((2, Member(&[1, 2, 3, 4], &[1, 2, 3], 5))), steps: &[
-        Slot(&[0x03, 0x03, 0x01, 0x01], Confirmed(&[1, 2, 3, 5], &[1, 2, 3, 5], 0)),
+        Slot(&[0x03, 0x03, 0x01, 0x01, 0x00, 0x00], Confirmed(&[1, 2, 3, 5], &[1, 2, 3, 5], 0)),
     ] },
     // Request e's example: n = 6, k = 2; 2, 3, 5 and 6 are off. 2 leaves at slot 4, 3 at 5, 5 at 7, 6 at 10. Slot
     // 3 decides node 1 and slot 6 node 4, and neither has heard a yes or a no.
@@ -537,7 +542,7 @@ const RUNS: &[Run] = &[
         Slot(NOTHING, Out(Cause::NothingHeard)),
     ] },
     Run { what: "an unreadable no", ring: (4, 2, 1), from: Some((1, Member(ALL, ALL, 0))), steps: &[
-        Slot(&[0x02, 0x00, 0x02, 0x00], Member(ALL, &[1, 3, 4], 0)),
+        Slot(&[0x02, 0x00, 0x02, 0x00, 0x00, 0x00], Member(ALL, &[1, 3, 4], 0)),
     ] },
     // Node 4 sponsors 3 and 2, not node 1; and a no takes no other node's mark.
     Run { what: "a no for others", ring: (4, 2, 1), from: Some((3, Member(ALL, ALL, 0))), steps: &[
@@ -608,7 +613,7 @@ fn nodes(nodes: Nodes) -> Set {
     nodes.iter().fold(Set::EMPTY, |set, &x| set.with(x))
 }
 
-fn record((n, k, own): (u32, u32, u32), slots: u64, is: Is) -> Node {
+fn record((n, k, own): (u32, u32, u32), m: u32, slots: u64, is: Is) -> Node {
     let (mut set, mut marks, mut returning, mut return_heard) = (&[][..], &[][..], 0, false);
     let mut listening = ListeningData::default();
     let state = match is {
@@ -627,7 +632,7 @@ fn record((n, k, own): (u32, u32, u32), slots: u64, is: Is) -> Node {
         Out(_) => {}
     }
     let (set, marks, yes_heard) = (nodes(set), nodes(marks), matches!(is, Confirmed(..)));
-    Node { n, k, own, slots, state, set, marks, returning, return_heard, listening, yes_heard }
+    Node { n, k, own, slots, state, set, marks, returning, return_heard, listening, yes_heard, m }
 }
 
 /// The record must be this one.
@@ -647,50 +652,74 @@ fn see(
     })
 }
 
-fn see_sent(count: &mut Count, what: &str, node: &Node, expected: Result<Bytes, u32>) -> Result<(), String> {
+/// The node is given this job byte, and the model must send this.
+fn see_sent(
+    count: &mut Count,
+    what: &str,
+    (node, jobs): (&Node, u8),
+    expected: Result<Bytes, u32>,
+) -> Result<(), String> {
     count.expected(expected.err().unwrap_or(0));
-    let mut out = [0; 8];
-    let got = node.send(&mut out).map(|length| &out[..length]);
+    let mut out = [0; ROOM as usize];
+    let got = node.send(jobs, &mut out).map(|length| &out[..length]);
     count.check(got == expected, || {
         let shown = |answer: Result<&[u8], u32>| answer.map(hex);
         format!("{what}: model sends {:?}, expected {:?}", shown(got), shown(expected))
     })
 }
 
-/// The model against the document, step by step; the script is for the program.
-fn follow(count: &mut Count, script: &mut Script, run: &Run) -> Result<(), String> {
-    let (n, k, own) = run.ring;
-    let mut slots = 0;
-    let mut node = Node::set_up(n, k, own).map_err(|number| format!("{}: refusal {number}", run.what))?;
-    script.push(&Command::SetUp { n, k, own });
-    if let Some((from, is)) = run.from {
-        slots = from;
-        node = record(run.ring, slots, is);
-        script.push(&Command::load(&node));
+/// A buffer that holds every message.
+const ROOM: u8 = 10;
+
+/// What is sent in this step, and the job byte that is given; none if it is no step of sending.
+fn sending(step: &Step) -> Option<(u8, Result<Bytes, u32>)> {
+    match *step {
+        Sends(bytes) => Some((0, Ok(bytes))),
+        SendRefused(number) => Some((0, Err(number))),
+        Reports(jobs, bytes) => Some((jobs, Ok(bytes))),
+        ReportRefused(jobs, number) => Some((jobs, Err(number))),
+        _ => None,
     }
+}
+
+/// The record before the first step.
+fn start(script: &mut Script, m: u32, run: &Run) -> Result<Node, String> {
+    if let Some((slots, is)) = run.from {
+        let node = record(run.ring, m, slots, is);
+        script.push(&Command::load(&node));
+        return Ok(node);
+    }
+    let (n, k, own) = run.ring;
+    script.push(&Command::SetUp { n, k, m, own });
+    Node::set_up(n, k, m, own).map_err(|number| format!("{}: refusal {number}", run.what))
+}
+
+/// The model against the document, step by step, on a cable of m jobs; the script is for the program.
+pub fn follow(count: &mut Count, script: &mut Script, m: u32, run: &Run) -> Result<(), String> {
+    let mut node = start(script, m, run)?;
+    let mut slots = node.slots;
     for (i, step) in run.steps.iter().enumerate() {
         let what = format!("{}, step {}", run.what, i + 1);
+        if let Some((jobs, expected)) = sending(step) {
+            script.push(&Command::Send { room: ROOM, jobs });
+            see_sent(count, &what, (&node, jobs), expected)?;
+            continue;
+        }
         let (command, got, expected) = match *step {
             Slot(bytes, is) => {
                 slots += 1;
                 (Command::Slot(bytes), node.slot(bytes), Ok(is))
             }
+            SlotRefused(bytes, number) => (Command::Slot(bytes), node.slot(bytes), Err(number)),
             Off => (Command::Off, node.off(), Ok(Out(Cause::SwitchedOff))),
+            OffRefused(number) => (Command::Off, node.off(), Err(number)),
             Restart(is) => (Command::Restart, node.restart(), Ok(is)),
             RestartRefused => (Command::Restart, node.restart(), Err(11)),
-            Sends(bytes) => {
-                script.push(&Command::Send { room: 8 });
-                see_sent(count, &what, &node, Ok(bytes))?;
-                continue;
-            }
-            SendRefused(number) => {
-                script.push(&Command::Send { room: 8 });
-                see_sent(count, &what, &node, Err(number))?;
-                continue;
-            }
+            // Sending, which is seen above.
+            _ => continue,
         };
         script.push(&command);
-        let expected = expected.map(|is| record(run.ring, slots, is));
+        let expected = expected.map(|is| record(run.ring, m, slots, is));
         see(count, &what, got, expected)?;
         node = expected.unwrap_or(node);
     }
@@ -700,7 +729,7 @@ fn follow(count: &mut Count, script: &mut Script, run: &Run) -> Result<(), Strin
 pub fn single_nodes(count: &mut Count) -> Result<(), String> {
     let mut script = Script::default();
     for run in RUNS {
-        follow(count, &mut script, run)?;
+        follow(count, &mut script, 0, run)?;
     }
     compare(count, &script)
 }

@@ -18,11 +18,31 @@ is-sponsor-count-requires c κs = search needs
 returns-2 : tie.Need-returns-2
 returns-2 c = sym (chosen _ _ (passed (c .before .before .before .is-ring-size .ensures) (c .before .before .if1 .left)) ∙ otherwise _ _ (failed (c .before .is-sponsor-count .ensures) (c .if2 .taken)))
 
+is-job-count-requires : tie.Need-is-job-count-requires
+is-job-count-requires c κs = search needs
+
 returns-3 : tie.Need-returns-3
-returns-3 c = sym (chosen _ _ (passed (c .before .before .before .before .is-ring-size .ensures) (c .before .before .before .if1 .left)) ∙ chosen _ _ (passed (c .before .before .is-sponsor-count .ensures) (c .before .if2 .left)) ∙ otherwise _ _ (ne-eqb _ _ (c .if3 .taken)))
+returns-3 c = sym (
+    chosen _ _ (passed (c .before .before .before .before .before .is-ring-size .ensures) (c .before .before .before .before .if1 .left))
+    ∙ chosen _ _ (passed (c .before .before .before .is-sponsor-count .ensures) (c .before .before .if2 .left))
+    ∙ otherwise _ _ (failed (c .before .is-job-count .ensures) (c .if3 .taken)))
+
+cast-if4 : tie.Need-cast-if4
+cast-if4 c = search needs
 
 returns-4 : tie.Need-returns-4
-returns-4 c = sym (chosen _ _ (passed (c .before .before .before .before .is-ring-size .ensures) (c .before .before .before .if1 .left)) ∙ chosen _ _ (passed (c .before .before .is-sponsor-count .ensures) (c .before .if2 .left)) ∙ chosen _ _ (eq-eqb _ _ (c .if3 .left)))
+returns-4 c = sym (
+    chosen _ _ (passed (c .before .before .before .before .before .before .before .is-ring-size .ensures) (c .before .before .before .before .before .before .if1 .left))
+    ∙ chosen _ _ (passed (c .before .before .before .before .before .is-sponsor-count .ensures) (c .before .before .before .before .if2 .left))
+    ∙ chosen _ _ (passed (c .before .before .before .is-job-count .ensures) (c .before .before .if3 .left))
+    ∙ otherwise _ _ (ne-eqb _ _ (c .if4 .taken)))
+
+returns-5 : tie.Need-returns-5
+returns-5 c = sym (
+    chosen _ _ (passed (c .before .before .before .before .before .before .before .is-ring-size .ensures) (c .before .before .before .before .before .before .if1 .left))
+    ∙ chosen _ _ (passed (c .before .before .before .before .before .is-sponsor-count .ensures) (c .before .before .before .before .if2 .left))
+    ∙ chosen _ _ (passed (c .before .before .before .is-job-count .ensures) (c .before .before .if3 .left))
+    ∙ chosen _ _ (eq-eqb _ _ (c .if4 .left)))
 
 pub set-up-order-spec : {M : Type 1} → statement M
 set-up-order-spec =
@@ -32,5 +52,8 @@ set-up-order-spec =
     returns
     is-sponsor-count-requires
     returns-2
+    is-job-count-requires
     returns-3
-    returns-4)
+    cast-if4
+    returns-4
+    returns-5)
