@@ -1,0 +1,3 @@
+pub mod Below
+pub mod Walks
+pub mod Laws
