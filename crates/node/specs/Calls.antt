@@ -17,6 +17,7 @@ use Rattle.node_record.specs.declared.State.the-variants.{Out}
 use Rattle.node_record.specs.States.{isOut, leavingCause}
 use Rattle.node_record.specs.Soundness.{sound, limit}
 use Rattle.node.specs.declared.Stepped.{Stepped}
+use Rattle.node.specs.declared.Counted.{Counted}
 use Rattle.node.specs.declared.Answer.the-variants.{Done, Refused}
 use Rattle.node_changes.specs.Changes.{noWindow, starting, outFor, fresh, counted}
 use Rattle.node_sending.specs.Sending.{sends, bitsSent, returnSent, jobsSent}
@@ -31,6 +32,10 @@ done v = record { node = v; answer = Done }
 -- One that is refused by this number.
 abbrev pub refused : ℕ → Node → Stepped
 refused number v = record { node = v; answer = Refused (cause number) }
+
+-- With the counts of failure reports beside it (document 02, h).
+abbrev pub withCounts : Stepped → List (List ℕ) → Counted
+withCounts stepped counts = record { stepped = stepped; counts = counts }
 
 -- Nothing is sent, by this number.
 abbrev pub unsent : ℕ → List ℕ → Written × List ℕ

@@ -13,7 +13,7 @@ use ring::Speaker;
 ghost use mathlib.Core.Path.{_≡_};
 ghost use mathlib.Core.Bool.{true};
 ghost use Rattle.ring.specs.Ring.{ringSize};
-ghost use Rattle.node.specs.Calls.{itsTurn, setUpOf, stepOf, slotOf, sendOf, offOf, restartOf};
+ghost use Rattle.node.specs.Calls.{itsTurn, setUpOf, stepOf, slotOf, sendOf, offOf, restartOf, withCounts};
 
 // What came of a call on a record.
 pub enum Answer {
@@ -26,6 +26,12 @@ pub enum Answer {
 pub struct Stepped {
     pub node: Node,
     pub answer: Answer,
+}
+
+// What came of a call on a record and on the counts of failure reports beside it (document 02, h).
+pub struct Counted {
+    pub stepped: Stepped,
+    pub counts: [[u64; 8]; 32],
 }
 
 // A record of no node: it comes with a refused set-up.
@@ -208,4 +214,18 @@ pub fn send(v: Node, jobs: u8, out: &mut [u8]) -> Written
         node_sending::jobs_sent(jobs, v),
         out,
     )
+}
+
+// A stepped record with its counts beside it.
+pub fn with_counts(stepped: Stepped, counts: [[u64; 8]; 32]) -> Counted
+    ensures { λ r. ⌜ r ≡ withCounts stepped counts ⌝ }
+{
+    Counted { stepped, counts }
+}
+
+// The counts beside a stepped record.
+pub fn counts_of(c: Counted) -> [[u64; 8]; 32]
+    ensures { λ r. ⌜ r ≡ c .counts ⌝ }
+{
+    c.counts
 }
