@@ -1,5 +1,7 @@
-//! A record as the programs under test take and give it: 56 bytes, all numbers lowest byte first.
+//! A record as the programs under test take and give it: 56 bytes, all numbers lowest byte first; and the counts that
+//! stand beside one.
 
+use crate::model::counts::{Counts, NONE};
 use crate::model::node::{Cause, ListeningData, Node, State};
 use crate::model::ring::Set;
 
@@ -52,6 +54,25 @@ pub fn record_bytes(record: &Node) -> [u8; RECORD] {
     out.try_into().expect("56 bytes")
 }
 
+/// The counts of one node: 32 rows of 8, eight bytes each.
+pub fn push_counts(counts: &Counts, out: &mut Vec<u8>) {
+    counts.iter().flatten().for_each(|count| out.extend(count.to_le_bytes()));
+}
+
+/// The counts of this node whose count is not 0, as sender, job and count.
+pub fn shown_counts(counts: &Counts) -> String {
+    let mut text = Vec::new();
+    for (sender, row) in (1..).zip(counts) {
+        for (job, &count) in (1..).zip(row).filter(|(_, &count)| count != 0) {
+            text.push(format!("node {sender} job {job}: {count}"));
+        }
+    }
+    if text.is_empty() {
+        return "all 0".to_string();
+    }
+    text.join(", ")
+}
+
 /// Takes bytes apart; those not yet taken.
 pub struct Reader<'a>(pub &'a [u8]);
 
@@ -72,6 +93,12 @@ impl<'a> Reader<'a> {
 
     pub fn u64(&mut self) -> u64 {
         u64::from_le_bytes(self.take(8).try_into().expect("eight bytes"))
+    }
+
+    pub fn counts(&mut self) -> Counts {
+        let mut counts = NONE;
+        counts.iter_mut().flatten().for_each(|count| *count = self.u64());
+        counts
     }
 
     /// Fields are taken in the order in which they are written here.

@@ -13,11 +13,11 @@ use Rattle.node_record.specs.declared.Node.{Node}
 use Rattle.node_record.specs.States.{isMember}
 use Rattle.node.specs.declared.Answer.{Answer}
 use Rattle.node.specs.declared.Answer.the-variants.{Done, Refused}
-use Rattle.node.specs.Calls.{noNode}
+use Rattle.node.specs.Calls.{noNode, isDone}
 use Rattle.bench.specs.Table.{Table, recordOf, nodeCount}
 use Rattle.bench.specs.Calls.{setUpOf, slotOf, lookOf, farthest, greatest}
 use Rattle.bench.specs.Outcomes.{slotOutcome, endedOf}
-use Rattle.bench.specs.Runs.{Call, slot, off, restart, callOf, tableAfter, isDone, isSlot}
+use Rattle.bench.specs.Runs.{Call, slot, off, restart, callOf, tableAfter, isSlot}
 use Rattle.agreement.specs.Demand.{AtEach, AfterEach, MemberAt, Agree, EverySequence}
 use Rattle.agreement.specs.Distance.{NoDistance, LookTells, SlotTells, NoDistanceTold}
 use Rattle.bench.proofs.Places.{Placed}

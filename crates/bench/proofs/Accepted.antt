@@ -9,11 +9,12 @@ use Rattle.nodeset.specs.Sets.{within}
 use Rattle.ring.specs.declared.Cable.{Cable}
 use Rattle.ring.specs.Ring.{ringSize, sponsorCount, nodeNumber, jobCount}
 use Rattle.ring.proofs.Ranges.{Fits}
+use Rattle.node.specs.Calls.{isDone}
 use Rattle.node_record.specs.States.{isOut}
 use Rattle.node_record.specs.Soundness.{limit}
 use Rattle.bench.specs.Table.{Table, recordOf, tableSound, nodeCount, slotsOf}
 use Rattle.bench.specs.Calls.{Called, done, ifPassed, startTable, setUpOf, tableAfterSlot, slotOf, tableAfterOff, offOf, tableAfterRestart, restartOf}
-use Rattle.bench.specs.Runs.{slot, off, restart, callOf, isDone, isSlot}
+use Rattle.bench.specs.Runs.{slot, off, restart, callOf, isSlot}
 
 -- ---- tests in a row
 

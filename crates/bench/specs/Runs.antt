@@ -7,12 +7,11 @@ use lib.Dec.{eqb}
 use Rattle.nodeset.specs.Sums.{sum, num}
 use Rattle.nodeset.specs.Sets.{has}
 use Rattle.node_record.specs.States.{isMember}
-use Rattle.node.specs.declared.Answer.{Answer}
-use Rattle.node.specs.declared.Answer.the-variants.{Done, Refused}
 use Rattle.bench.specs.declared.Listed.{Listed}
 use Rattle.bench.specs.declared.Listed.the-variants as listed
 use Rattle.bench.specs.Table.{Table, recordOf, nodeCount, slotsOf, speaker}
 use Rattle.bench.specs.Calls.{Called, slotOf, offOf, restartOf, transmits, listIn}
+use Rattle.node.specs.Calls.{isDone}
 
 -- "Demand 3's calls are the bench's slot, off and restart, with any arguments".
 pub data Call : Type 0 where
@@ -26,10 +25,6 @@ callOf (off a) t = offOf a t
 callOf (restart a) t = restartOf a t
 
 -- ---- what a slot is
-
-abbrev pub isDone : Answer → Bool
-isDone Done = true
-isDone (Refused cause) = false
 
 -- The call is a slot that runs: "a refused one is no slot".
 unfoldable pub isSlot : Call → Table → Bool

@@ -1,6 +1,6 @@
 -- Demand 1 holds: each definition is a chain of tests, and each test that fails gives a number of the call's list and leaves what was lent. Assumes nothing.
 use Prim.Native.Nat.{ℕ, _+_, _*_, _^_}
-use mathlib.Core.Path.{refl}
+use mathlib.Core.Path.{refl, ap}
 use mathlib.Core.Bool.{Bool, true, false, cond, _&&_}
 use mathlib.Core.List.{List, [], _∷_}
 use lib.Dec.{eqb, ltb, leb}
@@ -15,6 +15,8 @@ use Rattle.ring.specs.declared.Found.{Found}
 use Rattle.ring.specs.declared.Lookup.{Lookup}
 use Rattle.ring.specs.Answers.{beforeOf, onCable}
 use Rattle.ring.specs.Ring.{ringSize, nodeNumber, sponsorCount, jobCount, sponsored, decided}
+use Rattle.node.specs.declared.Answer.{Answer}
+use Rattle.node_reports.specs.Reports.{Counts, countsWithin}
 use Rattle.message.specs.declared.Reading.{Reading}
 use Rattle.message.specs.declared.Reading.the-variants as reading
 use Rattle.message.specs.declared.Received.{Received}
@@ -25,7 +27,7 @@ use Rattle.node_record.specs.States.{isOut}
 use Rattle.node_record.specs.declared.Node.{Node}
 use Rattle.node.specs.declared.Answer.the-variants as answer
 use Rattle.node.specs.declared.Stepped.{Stepped}
-use Rattle.node.specs.Calls.{itsTurn, setUpOf, stepOf, sendOf, offOf, restartOf}
+use Rattle.node.specs.Calls.{itsTurn, setUpOf, stepOf, sendOf, offOf, restartOf, isDone, refused, withCounts, countsAfter, countedOf}
 use Rattle.node.proofs.Sent.{sent-or-short}
 use Rattle.bench.specs.declared.Command.{Command}
 use Rattle.bench.specs.declared.Command.the-variants as command
@@ -39,7 +41,7 @@ use Rattle.plan_text.specs.declared.Written as text
 use Rattle.plan_program.specs.declared.Plan.{Plan}
 use Rattle.plan_program.specs.declared.Part.{Part}
 use Rattle.plan_program.specs.Calls.{fedOf, finishedOf, hasRoom, planSound, printedIn}
-use Rattle.demands.specs.Demand1.{Demand1, EndsBy, FeedsBy, PrintsBy, RunsBy, StepsBy, WritesBy, numbersFor, ofLookup, ofReading, ofSpeaker, ofAnswer}
+use Rattle.demands.specs.Demand1.{Demand1, EndsBy, FeedsBy, PrintsBy, RunsBy, StepsBy, CountsBy, WritesBy, numbersFor, ofLookup, ofReading, ofSpeaker, ofAnswer}
 
 -- ---- a test, in each of the forms that the definitions use: P holds either way
 
@@ -110,6 +112,22 @@ unfolding stepOf
 steps heard v =
     let P = StepsBy (4 ∷ 5 ∷ []) v in
     either P (sound v) (either P (leb limit (v .slots)) (refl, refl) (tt, tt)) (refl, refl)
+
+-- a slot that is refused keeps the counts, too
+counted : (received : Received) (v : Node) (counts : Counts) → CountsBy (4 ∷ 5 ∷ []) v counts (countedOf received v counts)
+unfolding countedOf
+counted received v counts = go (countsWithin (v .slots) counts)
+  where
+    after : Answer → Counts
+    after a = cond (isDone a) (countsAfter received v counts) counts
+
+    by : (w : Node) (a : Answer) → StepsBy (4 ∷ 5 ∷ []) v (record { node = w; answer = a }) → CountsBy (4 ∷ 5 ∷ []) v counts (withCounts (record { node = w; answer = a }) (after a))
+    by w answer.Done p = (tt, tt)
+    by w (answer.Refused r) p = (p .0, ap (λ (x : Node). (x, counts)) (p .1))
+
+    go : (b : Bool) → CountsBy (4 ∷ 5 ∷ []) v counts (cond b (withCounts (stepOf (received .reading) v) (after (stepOf (received .reading) v .answer))) (withCounts (refused 4 v) counts))
+    go true = let s = stepOf (received .reading) v in by (s .node) (s .answer) (steps (received .reading) v)
+    go false = (refl, refl)
 
 switches-off : (v : Node) → StepsBy (4 ∷ []) v (offOf v)
 unfolding offOf
@@ -203,8 +221,8 @@ demand1 = record {
   read = reads;
   write = writes;
   set-up = sets-up;
-  slot = λ bytes v. steps (readOf (v .cable .k) (v .cable .m) bytes .reading) v;
-  step = steps;
+  slot = λ bytes v held. counted (readOf (v .cable .k) (v .cable .m) bytes) v held;
+  step = counted;
   send = sends;
   off = switches-off;
   restart = restarts;

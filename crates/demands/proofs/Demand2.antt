@@ -12,6 +12,7 @@ use Rattle.nodeset.proofs.Tests.{all, both, by-cases}
 use Rattle.ring.specs.declared.Cable.{Cable}
 use Rattle.ring.specs.Ring.{sender}
 use Rattle.ring.proofs.Senders.{sender-range}
+use Rattle.node_reports.specs.Reports.{Counts, countsWithin}
 use Rattle.message.specs.declared.Reading.{Reading}
 use Rattle.message.specs.declared.Received.{Received}
 use Rattle.message.specs.declared.Written.the-variants.{Bytes}
@@ -24,7 +25,7 @@ use Rattle.node_sending.specs.Sending.{sends}
 use Rattle.node_slot.specs.Slot.{slotIn, afterSlot}
 use Rattle.node.specs.declared.Answer.the-variants.{Done}
 use Rattle.node.specs.declared.Stepped.{Stepped}
-use Rattle.node.specs.Calls.{done, refused, unsent, sendOf, stepOf}
+use Rattle.node.specs.Calls.{done, refused, unsent, sendOf, stepOf, withCounts, countsAfter, countedOf}
 use Rattle.node.proofs.Sent.{sent-by, sent-read, not-its-turn}
 use Rattle.bench.specs.declared.Command.the-variants.{Slot}
 use Rattle.bench.specs.Table.{Table, recordOf, nodeCount, slotsOf, speaker, tableSound}
@@ -49,6 +50,15 @@ unsound-refused heard v e = simp e
 limit-refused : (heard : Reading) (v : Node) → sound v ≡ true → limit ≤ v .slots → stepOf heard v ≡ refused 5 v
 unfolding stepOf
 limit-refused heard v e l = simp (e, le-leb limit (v .slots) l)
+
+counts-reports : (received : Received) (v : Node) (held : Counts) → sound v ≡ true → v .slots < limit → countsWithin (v .slots) held ≡ true
+    → countedOf received v held ≡ withCounts (stepOf (received .reading) v) (countsAfter received v held)
+unfolding countedOf stepOf
+counts-reports received v held e l w = simp (w, e, lt-leb limit (v .slots) l)
+
+over-count-refused : (received : Received) (v : Node) (held : Counts) → countsWithin (v .slots) held ≡ false → countedOf received v held ≡ withCounts (refused 4 v) held
+unfolding countedOf
+over-count-refused received v held w = simp w
 
 -- ---- the bench
 
@@ -108,7 +118,9 @@ demand2 = record {
   slot = steps-exactly;
   unsound = unsound-refused;
   at-limit = limit-refused;
-  by-bytes = λ bytes v. refl;
+  counts = counts-reports;
+  over-count = over-count-refused;
+  by-bytes = λ bytes v held. refl;
   on-bench = each-steps;
   heard-on-bench = sent-is-spoken;
   silent-on-bench = silent-unheard;

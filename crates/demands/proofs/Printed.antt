@@ -9,14 +9,14 @@ use Rattle.nodeset.proofs.Tests.{by-cases}
 use Rattle.ring.specs.declared.Cable.{Cable}
 use Rattle.ring.specs.Ring.{cableOf}
 use Rattle.ring.proofs.Ranges.{ring-size, fitting}
-use Rattle.node.specs.Calls.{noNode}
+use Rattle.node.specs.Calls.{noNode, isDone}
 use Rattle.node.specs.declared.Answer.{Answer}
 use Rattle.node.specs.declared.Answer.the-variants.{Done, Refused}
 use Rattle.bench.specs.Table.{Table}
 use Rattle.bench.specs.declared.Command.the-variants.{Slot}
 use Rattle.bench.specs.Calls.{offOf, restartOf, setUpOf, slotOf}
 use Rattle.bench.specs.Outcomes.{endedOf, quietOutcome, slotOutcome}
-use Rattle.bench.specs.Runs.{Call, slot, isDone, isSlot}
+use Rattle.bench.specs.Runs.{Call, slot, isSlot}
 use Rattle.agreement.specs.Demand.{AtEach, EverySequence}
 use Rattle.agreement.specs.Distance as calls
 use Rattle.agreement.specs.Distance.{SlotTells}

@@ -15,8 +15,10 @@ use Rattle.ring.specs.declared.Speaker.the-variants as speaker
 use Rattle.ring.specs.declared.Lookup.{Lookup}
 use Rattle.ring.specs.declared.Lookup.the-variants as lookup
 use Rattle.ring.specs.Answers.{senderOf, beforeOf, sponsoredOf, decidedOf}
+use Rattle.node_reports.specs.Reports.{Counts}
 use Rattle.message.specs.declared.Reading.{Reading}
 use Rattle.message.specs.declared.Reading.the-variants as reading
+use Rattle.message.specs.declared.Received.{Received}
 use Rattle.message.specs.declared.Written.{Written}
 use Rattle.message.specs.declared.Written.the-variants as written
 use Rattle.message.specs.Message.{readOf, writeOf}
@@ -24,7 +26,8 @@ use Rattle.node_record.specs.declared.Node.{Node}
 use Rattle.node.specs.declared.Answer.{Answer}
 use Rattle.node.specs.declared.Answer.the-variants as answer
 use Rattle.node.specs.declared.Stepped.{Stepped}
-use Rattle.node.specs.Calls.{setUpOf, stepOf, slotOf, sendOf, offOf, restartOf}
+use Rattle.node.specs.declared.Counted.{Counted}
+use Rattle.node.specs.Calls.{startOf, countedOf, slotOf, sendOf, offOf, restartOf}
 use Rattle.bench.specs.declared.Command.{Command}
 use Rattle.bench.specs.declared.Command.the-variants as command
 use Rattle.bench.specs.declared.Outcome.{Outcome}
@@ -91,12 +94,15 @@ abbrev pub Keeps : {A : Type 0} → Ending → A → A → Type 0
 Keeps result before after = Unit {0}
 Keeps (refusal cause) before after = after ≡ before
 
--- Both: of a call that writes into lent bytes, of one on a record, of one on a table with a ledger and lent bytes, and of those on a plan text.
+-- Both: of a call that writes into lent bytes, of one on a record, of one on a record and its counts of failure reports, of one on a table with a ledger and lent bytes, and of those on a plan text.
 abbrev pub WritesBy : List ℕ → List ℕ → Written × List ℕ → Type 0
 WritesBy numbers out r = EndsBy numbers (ofWritten (r .0)) × Keeps (ofWritten (r .0)) out (r .1)
 
 abbrev pub StepsBy : List ℕ → Node → Stepped → Type 0
 StepsBy numbers v r = EndsBy numbers (ofAnswer (r .answer)) × Keeps (ofAnswer (r .answer)) v (r .node)
+
+abbrev pub CountsBy : List ℕ → Node → Counts → Counted → Type 0
+CountsBy numbers v counts r = EndsBy numbers (ofAnswer (r .stepped .answer)) × Keeps {A = Node × Counts} (ofAnswer (r .stepped .answer)) (v, counts) (r .stepped .node, r .counts)
 
 abbrev pub RunsBy : List ℕ → Outcome → Table × Ledger × List ℕ → Table × Ledger × List ℕ → Type 0
 RunsBy numbers o before after = EndsBy numbers (ofOutcome o) × Keeps (ofOutcome o) before after
@@ -129,9 +135,9 @@ pub record Demand1 : Type 0 where
   pub write : (k m acknowledgements : ℕ) (returnBit : Bool) (jobs : ℕ) (out : List ℕ)
       → WritesBy (2 ∷ 14 ∷ 8 ∷ 9 ∷ []) out (writeOf k m acknowledgements returnBit jobs out)
   -- the node record; set-up is given none, and sending returns none
-  pub set-up : (cable : Cable) (own : ℕ) → EndsBy (1 ∷ 2 ∷ 14 ∷ 3 ∷ []) (ofAnswer (setUpOf cable own .answer))
-  pub slot : (bytes : List ℕ) (v : Node) → StepsBy (4 ∷ 5 ∷ []) v (slotOf bytes v)
-  pub step : (heard : Reading) (v : Node) → StepsBy (4 ∷ 5 ∷ []) v (stepOf heard v)
+  pub set-up : (cable : Cable) (own : ℕ) → EndsBy (1 ∷ 2 ∷ 14 ∷ 3 ∷ []) (ofAnswer (startOf cable own .stepped .answer))
+  pub slot : (bytes : List ℕ) (v : Node) (counts : Counts) → CountsBy (4 ∷ 5 ∷ []) v counts (slotOf bytes v counts)
+  pub step : (received : Received) (v : Node) (counts : Counts) → CountsBy (4 ∷ 5 ∷ []) v counts (countedOf received v counts)
   pub send : (v : Node) (jobs : ℕ) (out : List ℕ) → WritesBy (4 ∷ 5 ∷ 8 ∷ 10 ∷ 9 ∷ []) out (sendOf v jobs out)
   pub off : (v : Node) → StepsBy (4 ∷ []) v (offOf v)
   pub restart : (v : Node) → StepsBy (4 ∷ 11 ∷ []) v (restartOf v)

@@ -6,7 +6,9 @@ use mathlib.Core.Bool.{Bool, true, false}
 use mathlib.Core.List.{List, _++_}
 use lib.ListN.{length, getD, take, drop}
 use Rattle.ring.specs.Ring.{sender}
+use Rattle.node_reports.specs.Reports.{Counts, countsWithin}
 use Rattle.message.specs.declared.Reading.{Reading}
+use Rattle.message.specs.declared.Received.{Received}
 use Rattle.message.specs.declared.Written.the-variants.{Bytes}
 use Rattle.message.specs.Message.{heard, readOf, writeOf}
 use Rattle.node_record.specs.declared.Node.{Node}
@@ -14,7 +16,7 @@ use Rattle.node_record.specs.Soundness.{sound, limit}
 use Rattle.node_changes.specs.Changes.{counted}
 use Rattle.node_slot.specs.Slot.{slotIn}
 use Rattle.node.specs.declared.Answer.the-variants.{Done}
-use Rattle.node.specs.Calls.{done, refused, unsent, stepOf, slotOf, sendOf}
+use Rattle.node.specs.Calls.{done, refused, unsent, withCounts, stepOf, countsAfter, countedOf, slotOf, sendOf}
 use Rattle.bench.specs.declared.Command.the-variants.{Slot}
 use Rattle.bench.specs.Table.{Table, recordOf, nodeCount, speaker, tableSound}
 use Rattle.bench.specs.Calls as bench
@@ -38,8 +40,12 @@ pub record Demand2 : Type 0 where
   -- any other is refused, by 4 and 5
   pub unsound : (heard : Reading) (v : Node) → sound v ≡ false → stepOf heard v ≡ refused 4 v
   pub at-limit : (heard : Reading) (v : Node) → sound v ≡ true → limit ≤ v .slots → stepOf heard v ≡ refused 5 v
+  -- and counts the reports that it hears (document 02, h), where no count is above the slot count; where one is, it is refused by 4
+  pub counts : (received : Received) (v : Node) (held : Counts) → sound v ≡ true → v .slots < limit → countsWithin (v .slots) held ≡ true
+      → countedOf received v held ≡ withCounts (stepOf (received .reading) v) (countsAfter received v held)
+  pub over-count : (received : Received) (v : Node) (held : Counts) → countsWithin (v .slots) held ≡ false → countedOf received v held ≡ withCounts (refused 4 v) held
   -- what is heard is what the reader finds in the bytes that are handed over
-  pub by-bytes : (bytes : List ℕ) (v : Node) → slotOf bytes v ≡ stepOf (readOf (v .cable .k) (v .cable .m) bytes .reading) v
+  pub by-bytes : (bytes : List ℕ) (v : Node) (held : Counts) → slotOf bytes v held ≡ countedOf (readOf (v .cable .k) (v .cable .m) bytes) v held
   -- a slot that runs on the bench is this slot of each record, and none is refused
   pub on-bench : (lost : Bool) (missed room : ℕ) (ledger : Ledger) (t : Table) → slotWith lost missed room ledger t .answer ≡ Done
       → (i : ℕ) → 1 ≤ i → i ≤ nodeCount t

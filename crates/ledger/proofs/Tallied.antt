@@ -17,6 +17,7 @@ use Rattle.nodeset.proofs.Tests.{by-cases, both, all}
 use Rattle.ring.specs.declared.Cable.{Cable}
 use Rattle.ring.specs.Ring.{nodeNumber, cableFits}
 use Rattle.ring.proofs.Ranges.{ring-size, fitting}
+use Rattle.node.specs.Calls.{isDone}
 use Rattle.node_record.specs.declared.Node.{Node}
 use Rattle.node_record.specs.declared.State.{State}
 use Rattle.node_record.specs.declared.State.the-variants.{Member, Listening, Following, Knocking, Out}
@@ -34,7 +35,7 @@ use Rattle.bench.specs.declared.Outcome.{Outcome}
 use Rattle.bench.specs.declared.Outcome.the-variants as outcome
 use Rattle.bench.specs.Outcomes.{outcomeOf}
 use Rattle.bench.specs.Kept.{slotWith, offWith, calledWith, dateOf, ledgerWith, keptOf}
-use Rattle.bench.specs.Runs.{Call, slot, off, restart, callOf, tableAfter, isDone, isSlot}
+use Rattle.bench.specs.Runs.{Call, slot, off, restart, callOf, tableAfter, isSlot}
 use Rattle.bench.proofs.Places.{Placed}
 use Rattle.bench.proofs.Accepted.{slot-refused, off-done, off-refused, restarts, restart-done, restart-refused}
 use Rattle.bench.proofs.Runs.{after-off-record, after-restart-record, start-record, start-placed, never-unsound, run-length, slots-next}

@@ -17,6 +17,7 @@ use Rattle.ring.specs.declared.Cable.{Cable}
 use Rattle.ring.specs.Ring.{nodeNumber, sender, sponsors, sponsored, cableFits}
 use Rattle.ring.proofs.Ranges.{ring-size, sponsor-count, fitting}
 use Rattle.ring.proofs.Senders.{sender-range, sender-period, its-slot}
+use Rattle.node.specs.Calls.{isDone}
 use Rattle.message.specs.declared.Reading.{Reading}
 use Rattle.message.specs.declared.Reading.the-variants as reading
 use Rattle.node_record.specs.declared.Node.{Node}
@@ -37,7 +38,7 @@ use Rattle.node.specs.declared.Stepped.{Stepped}
 use Rattle.node.specs.Calls as node
 use Rattle.bench.specs.Table.{Table, recordOf, tableSound, nodeCount, slotsOf, speaker}
 use Rattle.bench.specs.Calls.{Called, done, ifPassed, setUpOf, transmits, tableAfterSlot, tableAfterOff, tableAfterRestart, restartOf}
-use Rattle.bench.specs.Runs.{Call, slot, off, restart, callOf, isDone, isSlot, misses, tableAfter, Entry, entry}
+use Rattle.bench.specs.Runs.{Call, slot, off, restart, callOf, isSlot, misses, tableAfter, Entry, entry}
 use Rattle.bench.proofs.Accepted.{slot-done, slot-refused, off-done, off-refused, off-no-slot, restart-no-slot}
 use Rattle.bench.proofs.Places.{Placed, length-each, slots-of-placed}
 use Rattle.bench.proofs.Choices.{choose}

@@ -8,10 +8,11 @@ use mathlib.Core.List.{List}
 use Rattle.nodeset.specs.Sets.{has}
 use Rattle.ring.specs.declared.Cable.{Cable}
 use Rattle.ring.specs.Ring.{sender}
+use Rattle.node.specs.Calls.{isDone}
 use Rattle.node_record.specs.States.{isMember}
 use Rattle.bench.specs.Table.{Table, recordOf, slotsOf}
 use Rattle.bench.specs.Calls.{transmits}
-use Rattle.bench.specs.Runs.{Call, slot, off, restart, callOf, isDone, isSlot, misses, tableAfter, entryOn}
+use Rattle.bench.specs.Runs.{Call, slot, off, restart, callOf, isSlot, misses, tableAfter, entryOn}
 use Rattle.agreement.specs.Demand.{AtEach, AfterEach, EverySequence}
 
 -- ---- what is assumed

@@ -14,6 +14,8 @@ use Rattle.ring.specs.declared.Cable.{Cable}
 use Rattle.ring.specs.Ring.{ringSize, sponsorCount, jobCount, nodeNumber, sender}
 use Rattle.ring.proofs.Ranges.{ring-size}
 use Rattle.ring.proofs.Senders.{sender-range}
+use Rattle.message.specs.declared.Received.{Received}
+use Rattle.node_reports.specs.Reports.{Counts, countsWithin}
 use Rattle.message.specs.declared.Reading.{Reading}
 use Rattle.message.specs.Message.{readOf}
 use Rattle.node_record.specs.declared.Node.{Node}
@@ -26,7 +28,7 @@ use Rattle.node_changes.proofs.Sound.{in-range, out-sound, fresh-sound, startin
 use Rattle.node_slot.specs.Slot.{afterSlot}
 use Rattle.node_slot.proofs.Sound.{after-slot-sound}
 use Rattle.node.specs.declared.Answer.the-variants.{Done, Refused}
-use Rattle.node.specs.Calls.{done, refused, noNode, setUpOf, stepOf, slotOf, offOf, restartOf}
+use Rattle.node.specs.Calls.{done, refused, noNode, setUpOf, stepOf, slotOf, offOf, restartOf, countedOf, withCounts, isDone, countsAfter}
 
 -- ---- one slot
 
@@ -62,8 +64,19 @@ step-sound heard v e =
         let r = sender-range (v .cable .n) (omega arith) (v .slots + 1) in
         after-slot-sound (sender (v .cable .n) (v .slots + 1)) heard (counted v) (r .0) (r .1) (counted-sound v e l)
 
-pub slot-sound : (bytes : List ℕ) (v : Node) → sound v ≡ true → sound (slotOf bytes v .node) ≡ true
-slot-sound bytes v e = step-sound (readOf (v .cable .k) (v .cable .m) bytes .reading) v e
+pub counted-slot-sound : (received : Received) (v : Node) (counts : Counts) → sound v ≡ true → sound (countedOf received v counts .stepped .node) ≡ true
+unfolding countedOf
+counted-slot-sound received v counts e = go (countsWithin (v .slots) counts)
+  where
+    after : Counts
+    after = cond (isDone (stepOf (received .reading) v .answer)) (countsAfter received v counts) counts
+
+    go : (b : Bool) → sound (cond b (withCounts (stepOf (received .reading) v) after) (withCounts (refused 4 v) counts) .stepped .node) ≡ true
+    go true = step-sound (received .reading) v e
+    go false = e
+
+pub slot-sound : (bytes : List ℕ) (v : Node) (counts : Counts) → sound v ≡ true → sound (slotOf bytes v counts .stepped .node) ≡ true
+slot-sound bytes v counts e = counted-slot-sound (readOf (v .cable .k) (v .cable .m) bytes) v counts e
 
 -- ---- off, restart and set-up
 

@@ -3,12 +3,15 @@
 -- it, and leaves the bytes, as they came.
 use Prim.Native.Nat.{ℕ, _+_}
 use mathlib.Core.List.{List}
-use mathlib.Core.Bool.{Bool, false, cond, _&&_}
+use mathlib.Core.Bool.{Bool, true, false, cond, not, _&&_}
 use lib.Dec.{eqb, leb}
 use Rattle.refusal.specs.Causes.{cause}
+use Rattle.nodeset.specs.Sets.{has}
 use Rattle.ring.specs.declared.Cable.{Cable}
 use Rattle.ring.specs.Ring.{cableOf, ringSize, sponsorCount, jobCount, nodeNumber, sender}
+use Rattle.node_reports.specs.Reports.{Counts, noReports, countsWithin, countsWith}
 use Rattle.message.specs.declared.Reading.{Reading}
+use Rattle.message.specs.declared.Received.{Received}
 use Rattle.message.specs.declared.Written.{Written}
 use Rattle.message.specs.declared.Written.the-variants as written
 use Rattle.message.specs.Message.{readOf, jobsWithin, writeOf}
@@ -18,8 +21,10 @@ use Rattle.node_record.specs.States.{isOut, leavingCause}
 use Rattle.node_record.specs.Soundness.{sound, limit}
 use Rattle.node.specs.declared.Stepped.{Stepped}
 use Rattle.node.specs.declared.Counted.{Counted}
+use Rattle.node.specs.declared.Answer.{Answer}
 use Rattle.node.specs.declared.Answer.the-variants.{Done, Refused}
 use Rattle.node_changes.specs.Changes.{noWindow, starting, outFor, fresh, counted}
+use Rattle.node_steps.specs.Steps.{isHeard, isOwn}
 use Rattle.node_sending.specs.Sending.{sends, bitsSent, returnSent, jobsSent}
 use Rattle.node_slot.specs.Slot.{afterSlot}
 
@@ -33,8 +38,12 @@ done v = record { node = v; answer = Done }
 abbrev pub refused : ℕ → Node → Stepped
 refused number v = record { node = v; answer = Refused (cause number) }
 
+abbrev pub isDone : Answer → Bool
+isDone Done = true
+isDone (Refused cause) = false
+
 -- With the counts of failure reports beside it (document 02, h).
-abbrev pub withCounts : Stepped → List (List ℕ) → Counted
+abbrev pub withCounts : Stepped → Counts → Counted
 withCounts stepped counts = record { stepped = stepped; counts = counts }
 
 -- Nothing is sent, by this number.
@@ -57,6 +66,10 @@ setUpOf cable own =
     (refused 2 noNode))
     (refused 1 noNode)
 
+-- The record, and "only set-up clears" the counts (h).
+abbrev pub startOf : Cable → ℕ → Counted
+startOf cable own = withCounts (setUpOf cable own) noReports
+
 -- ---- one slot
 
 -- "The slot count starts at 0 and the first slot is 1": after so many slots the next is the one numbered one more.
@@ -66,9 +79,35 @@ stepOf heard v =
     (cond (leb limit (v .slots)) (refused 5 v) (done (afterSlot (sender (v .cable .n) (v .slots + 1)) heard (counted v))))
     (refused 4 v)
 
+-- ---- one slot with the counts of failure reports (h)
+
+-- "The number of reports heard from senders in its set as the slot begins": another node's message is heard, and its sender is in the set.
+abbrev pub hearsReport : ℕ → Reading → Node → Bool
+hearsReport s heard v = not (isOwn s v) && (isHeard heard && has (v .set) s)
+
+-- The counts after a slot that is made, "even if that message makes it leave".
+unfoldable pub countsAfter : Received → Node → Counts → Counts
+countsAfter received v counts =
+    let s = sender (v .cable .n) (v .slots + 1) in
+    cond (hearsReport s (received .reading) v) (countsWith s (received .jobs) counts) counts
+
+-- "A report count above the slot count .. gives 4".
+unfoldable pub countedOf : Received → Node → Counts → Counted
+countedOf received v counts =
+    let stepped = stepOf (received .reading) v in
+    cond (countsWithin (v .slots) counts)
+    (withCounts stepped (cond (isDone (stepped .answer)) (countsAfter received v counts) counts))
+    (withCounts (refused 4 v) counts)
+
 -- The slot in which these bytes are heard; no bytes where nothing is.
-abbrev pub slotOf : List ℕ → Node → Stepped
-slotOf bytes v = stepOf (readOf (v .cable .k) (v .cable .m) bytes .reading) v
+abbrev pub slotOf : List ℕ → Node → Counts → Counted
+slotOf bytes v counts = countedOf (readOf (v .cable .k) (v .cable .m) bytes) v counts
+
+-- Inner: whose job byte counts in the next slot, 0 for nobody's.
+unfoldable pub reporterIn : Reading → Node → ℕ
+reporterIn heard v =
+    let s = sender (v .cable .n) (v .slots + 1) in
+    cond (hearsReport s heard v) s 0
 
 -- ---- sending
 

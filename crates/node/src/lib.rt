@@ -2,6 +2,7 @@
 // goes in by value and comes back beside the answer; every record is taken, and one that is not
 // sound is refused.
 use message::Reading;
+use message::Received;
 use message::Written;
 use node_record::Cause;
 use node_record::Node;
@@ -13,12 +14,23 @@ use ring::Speaker;
 ghost use mathlib.Core.Path.{_≡_};
 ghost use mathlib.Core.Bool.{true};
 ghost use Rattle.ring.specs.Ring.{ringSize};
-ghost use Rattle.node.specs.Calls.{itsTurn, setUpOf, stepOf, slotOf, sendOf, offOf, restartOf, withCounts};
+ghost use Rattle.node_steps.specs.Steps.{isHeard};
+ghost use Rattle.node.specs.Calls.{isDone, itsTurn, setUpOf, startOf, stepOf, hearsReport, reporterIn, countedOf, slotOf, sendOf, offOf, restartOf, withCounts};
 
 // What came of a call on a record.
 pub enum Answer {
     Done,
     Refused(Refusal),
+}
+
+// Whether a call was made.
+fn is_done(answer: Answer) -> bool
+    ensures { λ r. ⌜ r ≡ isDone answer ⌝ }
+{
+    match answer {
+        Answer::Done => true,
+        Answer::Refused(_) => false,
+    }
 }
 
 // The record after a call; on a refusal it is the record that came, or none of a node where set-up
@@ -55,7 +67,7 @@ pub const NO_NODE: Node = Node {
 };
 
 // The record of node `own` at the common start. Refuses by 1, 2, 14 and 3, in this order.
-pub fn set_up(cable: Cable, own: u32) -> Stepped
+fn started(cable: Cable, own: u32) -> Stepped
     ensures { λ r. ⌜ r ≡ setUpOf cable own ⌝ }
 {
     if !ring::is_ring_size(cable.n) {
@@ -87,6 +99,15 @@ pub fn set_up(cable: Cable, own: u32) -> Stepped
         node: v,
         answer: Answer::Done,
     }
+}
+
+// The record of node `own` at the common start, and no reports heard. Refuses by 1, 2, 14 and 3, in this
+// order.
+pub fn set_up(cable: Cable, own: u32) -> Counted
+    ensures { λ r. ⌜ r ≡ startOf cable own ⌝ }
+{
+    let stepped = started(cable, own);
+    with_counts(stepped, node_reports::NO_REPORTS)
 }
 
 // Switches the node off. Refuses by 4.
@@ -130,9 +151,8 @@ pub fn restart(v: Node) -> Stepped
     }
 }
 
-// One slot, in which the reader found this in the bytes heard; any refused reading is nothing heard.
-// It takes every reading, also one that no bytes give. Refuses by 4 and 5.
-pub fn step(heard: Reading, v: Node) -> Stepped
+// The record after a slot in which this was read; any refused reading is nothing heard. Refuses by 4 and 5.
+fn after_step(heard: Reading, v: Node) -> Stepped
     ensures { λ r. ⌜ r ≡ stepOf heard v ⌝ }
 {
     if !node_record::is_sound(v) {
@@ -166,13 +186,69 @@ pub fn step(heard: Reading, v: Node) -> Stepped
     }
 }
 
-// One slot, in which these bytes are heard: none where nothing is. Refuses by 4 and 5.
-pub fn slot(bytes: &[u8], v: Node) -> Stepped
-    ensures { λ r. ⌜ r ≡ slotOf (now (bytes .entry)) v ⌝ }
+// Whether a message is heard.
+fn is_heard(heard: Reading) -> bool
+    ensures { λ r. ⌜ r ≡ isHeard heard ⌝ }
 {
-    let received = message::read(v.cable.k, v.cable.m, bytes);
+    match heard {
+        Reading::Heard {
+            acknowledgements: _,
+            return_bit: _,
+        } => true,
+        Reading::Refused(_) => false,
+    }
+}
+
+// Whether a report of the slot's sender counts for the node.
+fn hears_report(s: u32, heard: Reading, v: Node) -> bool
+    ensures { λ r. ⌜ r ≡ hearsReport s heard v ⌝ }
+{
+    (s != v.own) & (is_heard(heard) & nodeset::has(v.set, s))
+}
+
+// Whose job byte counts in the next slot, 0 for nobody's. Requires a ring's size.
+fn reporter(heard: Reading, v: Node) -> u32
+    requires { ⌜ ringSize (v .cable .n) ≡ true ⌝ }
+    ensures { λ r. ⌜ r ≡ reporterIn heard v ⌝ }
+{
+    let speaker = ring::sender(v.cable.n, v.slots);
+    // Never refused, by what is required.
+    let Speaker::Node(s) = speaker else {
+        return 0;
+    };
+    if hears_report(s, heard, v) {
+        return s;
+    }
+    0
+}
+
+// One slot, in which the reader found this in the bytes heard; any refused reading is nothing heard.
+// It takes every reading, also one that no bytes give. Refuses by 4 and 5.
+pub fn step(received: Received, v: Node, counts: [[u64; 8]; 32]) -> Counted
+    ensures { λ r. ⌜ r ≡ countedOf received v counts ⌝ }
+{
+    if !node_reports::counts_within(counts, v.slots) {
+        let refused = Stepped {
+            node: v,
+            answer: Answer::Refused(Refusal::Unsound),
+        };
+        return with_counts(refused, counts);
+    }
     let reading = received.reading;
-    step(reading, v)
+    let stepped = after_step(reading, v);
+    let answer = stepped.answer;
+    if !is_done(answer) {
+        return with_counts(stepped, counts);
+    }
+    let after = node_reports::counts_with(counts, reporter(reading, v), received.jobs);
+    with_counts(stepped, after)
+}
+
+// One slot, in which these bytes are heard: none where nothing is. Refuses by 4 and 5.
+pub fn slot(bytes: &[u8], v: Node, counts: [[u64; 8]; 32]) -> Counted
+    ensures { λ r. ⌜ r ≡ slotOf (now (bytes .entry)) v counts ⌝ }
+{
+    step(message::read(v.cable.k, v.cable.m, bytes), v, counts)
 }
 
 // Whether the next slot is this node's and it sends there. An inner function: requires a ring's size.

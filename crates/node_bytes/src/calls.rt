@@ -1,8 +1,8 @@
-// The calls of `node` on a record as bytes.
+// The calls of `node` on a record as bytes and on the counts beside it.
 use crate::bytes;
 use message::Written;
 use node::Answer;
-use node::Stepped;
+use node::Counted;
 use node_record::Node;
 use ring::Cable;
 use run_io::block;
@@ -16,22 +16,25 @@ pub struct Outcome {
     pub sent: usize,
 }
 
-// The record becomes the one of the answer; on a refusal every byte of it stays.
-fn kept(record: &mut Block, stepped: Stepped) -> u32
-    ensures { λ r. ⌜ (r ≡ 0) ⊎ (now («record» .exit) ≡ now («record» .entry)) ⌝ }
+// Record and counts become those of the answer; on a refusal every byte and every count stays.
+fn kept(record: &mut Block, counts: &mut [[u64; 8]; 32], counted: Counted) -> u32
+    ensures { λ r. ⌜ (r ≡ 0)
+        ⊎ ((now («record» .exit) ≡ now («record» .entry)) × (now (counts .exit) ≡ now (counts .entry))) ⌝ }
 {
+    let stepped = counted.stepped;
     let node = stepped.node;
     let answer = stepped.answer;
     match answer {
         Answer::Done => {
             bytes::set_node(record, node);
+            *counts = node::counts_of(counted);
             0
         }
         Answer::Refused(refusal) => refusal::number(refusal),
     }
 }
 
-fn set_up(arguments: &Block) -> Stepped {
+fn set_up(arguments: &Block) -> Counted {
     let n = block::word(arguments, 0);
     let k = block::word(arguments, 4);
     let m = block::word(arguments, 8);
@@ -46,10 +49,6 @@ fn part(bytes: &[u8], length: usize) -> &[u8] {
     } else {
         bytes
     }
-}
-
-fn slot(node: Node, heard: &[u8], length: u8) -> Stepped {
-    node::slot(part(heard, length as usize), node)
 }
 
 fn send_into(node: Node, jobs: u8, out: &mut [u8], room: usize) -> Written {
@@ -75,20 +74,33 @@ fn send(record: &Block, out: &mut Block, room: u8) -> Outcome {
     }
 }
 
-fn stepped(record: &Block, arguments: &Block, letter: u8, size: u8) -> Stepped {
+fn counted(
+    record: &Block,
+    counts: &[[u64; 8]; 32],
+    arguments: &Block,
+    letter: u8,
+    size: u8,
+) -> Counted {
     let node = bytes::node_of(record);
     match letter {
         b'U' => set_up(arguments),
-        b'S' => slot(node, arguments, size),
-        b'F' => node::off(node),
-        _ => node::restart(node),
+        b'S' => node::slot(part(arguments, size as usize), node, *counts),
+        b'F' => node::with_counts(node::off(node), *counts),
+        _ => node::with_counts(node::restart(node), *counts),
     }
 }
 
 // Carries a command out. What it hears or loads, and where it sends, are the first bytes of `block`.
-// A refused command leaves every byte of the record.
-pub fn call(record: &mut Block, block: &mut Block, letter: u8, size: u8) -> Outcome
-    ensures { λ r. ⌜ (r .number ≡ 0) ⊎ (now («record» .exit) ≡ now («record» .entry)) ⌝ }
+// A refused command leaves every byte of the record and every count.
+pub fn call(
+    record: &mut Block,
+    counts: &mut [[u64; 8]; 32],
+    block: &mut Block,
+    letter: u8,
+    size: u8,
+) -> Outcome
+    ensures { λ r. ⌜ (r .number ≡ 0)
+        ⊎ ((now («record» .exit) ≡ now («record» .entry)) × (now (counts .exit) ≡ now (counts .entry))) ⌝ }
 {
     match letter {
         b'L' => {
@@ -97,7 +109,7 @@ pub fn call(record: &mut Block, block: &mut Block, letter: u8, size: u8) -> Outc
         }
         b'T' => send(record, block, size),
         _ => Outcome {
-            number: kept(record, stepped(record, block, letter, size)),
+            number: kept(record, counts, counted(record, counts, block, letter, size)),
             sent: 0,
         },
     }

@@ -1,19 +1,25 @@
-// Runs calls of `node` for a test. Commands from standard input act on one record, and the answers
-// go to standard output. Numbers are lowest byte first; input that ends within a command counts as
-// followed by zeros.
+// Runs calls of `node` for a test. Commands from standard input act on one record and on its counts of
+// failure reports, and the answers go to standard output. Numbers are lowest byte first; input that ends
+// within a command counts as followed by zeros.
 //
-//   U n k m own    set-up
-//   S size bytes   one slot, with these bytes heard
-//   T size jobs    sending, with this job byte, into a buffer of so many bytes, each 0xA5
-//   F              off
-//   R              restart
-//   L record       the record becomes this one; no answer
+//   U n k m own       set-up
+//   S size bytes      one slot, with these bytes heard
+//   T size jobs       sending, with this job byte, into a buffer of so many bytes, each 0xA5
+//   F                 off
+//   R                 restart
+//   L record          the record becomes this one; no answer
+//   C row job count   this count becomes that (eight bytes); rows are 0 to 31 and jobs 0 to 7, a byte
+//                     each, and any other leaves all counts; no answer
+//   K                 the counts
 //
 // U, S, F and R are answered by a byte, 0 or the refusal's number, and the record; T by such a byte,
-// the number of bytes written, and the whole buffer. Any other byte ends the run.
+// the number of bytes written, and the whole buffer; K by all counts, 32 rows of 8, eight bytes each.
+// A U or S that is refused leaves record and counts. Any other byte ends the run. Before the first
+// command all counts are 0.
 use node_bytes::bytes;
 use node_bytes::calls;
 use node_bytes::calls::Outcome;
+use node_bytes::counts;
 use run_io::block::Block;
 use run_io::input;
 use run_io::input::Unread;
@@ -28,7 +34,7 @@ struct Command {
 
 fn is_command(letter: u8) -> bool {
     match letter {
-        b'U' | b'S' | b'T' | b'F' | b'R' | b'L' => true,
+        b'U' | b'S' | b'T' | b'F' | b'R' | b'L' | b'C' | b'K' => true,
         _ => false,
     }
 }
@@ -63,6 +69,7 @@ fn body(letter: u8, size: u8) -> u8 {
         b'S' => size,
         b'T' => 1,
         b'L' => bytes::RECORD,
+        b'C' => 10,
         _ => 0,
     }
 }
@@ -98,17 +105,17 @@ fn answer_to_send(
     output::put_block(output, held, block, size)
 }
 
-// Carries a command out and answers.
-fn run(
+// Carries a call out and answers.
+fn run_call(
     output: &mut [u8; 4096],
     held: usize,
     record: &mut Block,
+    counts: &mut [[u64; 8]; 32],
     block: &mut Block,
-    command: Command,
+    letter: u8,
+    size: u8,
 ) -> usize {
-    let letter = command.letter;
-    let size = command.size;
-    let outcome = calls::call(record, block, letter, size);
+    let outcome = calls::call(record, counts, block, letter, size);
     match letter {
         b'L' => held,
         b'T' => answer_to_send(output, held, block, size, outcome),
@@ -116,8 +123,30 @@ fn run(
     }
 }
 
+// Carries a command out and answers.
+fn run(
+    output: &mut [u8; 4096],
+    held: usize,
+    record: &mut Block,
+    counts: &mut [[u64; 8]; 32],
+    block: &mut Block,
+    command: Command,
+) -> usize {
+    let letter = command.letter;
+    match letter {
+        b'C' => {
+            counts::load(counts, block);
+            held
+        }
+        b'K' => counts::put_counts(output, held, counts),
+        _ => run_call(output, held, record, counts, block, letter, command.size),
+    }
+}
+
 // A proved loop has to end, so it counts its turns down, from a number that no run uses up.
-fn run_all(input: &mut [u8; 4096], output: &mut [u8; 4096], record: &mut Block) -> usize {
+fn run_all(input: &mut [u8; 4096], output: &mut [u8; 4096]) -> usize {
+    let mut record = bytes::first();
+    let mut counts = node_reports::NO_REPORTS;
     let mut left = Unread { at: 0, end: 0 };
     let mut held = 0;
     let mut turns = u64::MAX;
@@ -127,7 +156,7 @@ fn run_all(input: &mut [u8; 4096], output: &mut [u8; 4096], record: &mut Block) 
         if !is_command(command.letter) {
             return held;
         }
-        held = run(output, held, record, &mut block, command);
+        held = run(output, held, &mut record, &mut counts, &mut block, command);
         let rest = command.left;
         left = rest;
         turns -= 1;
@@ -138,7 +167,6 @@ fn run_all(input: &mut [u8; 4096], output: &mut [u8; 4096], record: &mut Block) 
 fn main() {
     let mut input = [0u8; 4096];
     let mut output = [0u8; 4096];
-    let mut record = bytes::first();
-    let held = run_all(&mut input, &mut output, &mut record);
+    let held = run_all(&mut input, &mut output);
     output::flush(&output, held);
 }

@@ -3,6 +3,7 @@
 //! request h. Every call takes a record and gives the next one, or the number of the refusal: a refused record stays
 //! as it was.
 
+use super::counts::{self, Counts};
 use super::message::{self, Said};
 use super::refusal;
 use super::ring::{self, Set};
@@ -156,7 +157,7 @@ impl Node {
     }
 
     /// The sender of the next slot.
-    fn next_sender(&self) -> u32 {
+    pub fn next_sender(&self) -> u32 {
         ring::sender(self.n, self.slots + 1)
     }
 
@@ -228,12 +229,20 @@ impl Node {
         acks
     }
 
-    /// One slot; `bytes` are what is heard in it, none for nothing.
-    pub fn slot(&self, bytes: &[u8]) -> Result<Node, u32> {
+    /// One slot, and the counts that are kept beside the record; `bytes` are what is heard in it, none for nothing.
+    pub fn counted_slot(&self, counts: &mut Counts, bytes: &[u8]) -> Result<Node, u32> {
         self.check_sound()?;
+        counts::check(counts, self.slots)?;
         self.check_limit()?;
         // "An unreadable message counts as not heard."; "any other message is unheard"
-        Ok(self.step(message::read(self.k, self.m, bytes).ok()))
+        let heard = message::read(self.k, self.m, bytes).ok();
+        counts::enter(counts, self, heard);
+        Ok(self.step(heard))
+    }
+
+    /// The same of the record alone: counts of 0 fit each.
+    pub fn slot(&self, bytes: &[u8]) -> Result<Node, u32> {
+        self.counted_slot(&mut counts::NONE.clone(), bytes)
     }
 
     /// One slot of a sound record below the limit; `heard` is what was heard in it and could be read.

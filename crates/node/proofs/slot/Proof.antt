@@ -1,8 +1,8 @@
 -- `node::slot` meets its contract: the bytes go through the reader. Assumes nothing.
-use borrow.Author.Needs.{needs}
 use mathlib.Core.Path.{ap, _∙_}
+use borrow.Author.Needs.{needs}
 use Rattle.message.specs.declared.Received.{Received}
-use Rattle.node.specs.Calls.{stepOf}
+use Rattle.node.specs.Calls.{countedOf}
 use Rattle.node.proofs.slot.Statement.{statement}
 use Rattle.node.proofs.slot.Tie as tie
 
@@ -13,7 +13,7 @@ step-requires : tie.Need-step-requires
 step-requires c κs = search needs
 
 returns : tie.Need-returns
-returns c = c .step .ensures ∙ ap (λ (r : Received). stepOf (r .reading) (c .before .before .before .args .v)) (c .before .read .ensures)
+returns c = let a = c .before .before .before .args in c .step .ensures ∙ ap (λ (r : Received). countedOf r (a .v) (a .counts)) (c .before .read .ensures)
 
 pub slot-spec : {M : Type 1} → statement M
 slot-spec = tie.close (tie.spec read-requires step-requires returns)

@@ -1,94 +1,104 @@
--- `node::step` meets its contract: its tests are in the table's order; on a ring the sender is never refused; the slot goes by the digest of the
--- record's own set. Assumes nothing.
-use borrow.Author.Needs.{needs}
+-- `node::step` meets its contract: the counts are tested first, and change where the record's slot is made. Assumes nothing.
 use Prim.Native.Nat.{ℕ, _+_}
-use mathlib.Core.Path.{_≡_, refl, sym, ap, _∙_}
-use mathlib.Core.Bool.{true}
-use borrow.Author.Tests.{le-leb, lt-leb}
-use Rattle.nodeset.proofs.Tests.{failed, passed, chosen, otherwise}
-use Rattle.ring.proofs.Speakers.{is-sender, no-refusal}
+use mathlib.Core.Path.{_≡_, refl, sym, ap, ap₂, _∙_}
+use mathlib.Core.Bool.{Bool, true, false, cond, true≢false}
+use borrow.Author.Needs.{needs}
+use Rattle.nodeset.proofs.Tests.{by-cases, failed, passed, chosen, otherwise}
+use Rattle.ring.specs.Ring.{sender}
+use Rattle.node_reports.specs.Reports.{Counts, countsWith}
 use Rattle.message.specs.declared.Reading.{Reading}
 use Rattle.node_record.specs.declared.Node.{Node}
 use Rattle.node_record.specs.Soundness.{sound}
 use Rattle.node_record.proofs.Facts.{clauses}
-use Rattle.node_changes.specs.Changes.{counted}
-use Rattle.node_steps.specs.declared.Digest.{Digest}
-use Rattle.node_steps.specs.Digests.{digestOf}
-use Rattle.node_slot.specs.Slot.{afterSlot}
-use Rattle.node_slot.specs.Inner.{afterBy}
-use Rattle.node_slot.proofs.Digests.{sound-own, sound-marks, after-digest}
-use Rattle.node.specs.Calls.{done, stepOf}
+use Rattle.node.specs.declared.Stepped.{Stepped}
+use Rattle.node.specs.Calls.{isDone, withCounts, stepOf, hearsReport, reporterIn, countsAfter, countedOf}
 use Rattle.node.proofs.step.Statement.{statement}
 use Rattle.node.proofs.step.Tie as tie
 
--- the record after the slot of x by the digest of the record's own set, where x is the sender y
-by-own-digest : (x y : ℕ) (heard : Reading) (v r : Node) (d : Digest) → sound v ≡ true → r ≡ afterBy d x heard (counted v) → d ≡ digestOf x heard (v .cable) (v .set) → x ≡ y
-    → r ≡ afterSlot y heard (counted v)
-by-own-digest x y heard v r d good e f g =
-    e
-    ∙ ap (λ (t : Digest). afterBy t x heard (counted v)) f
-    ∙ after-digest x heard heard (v .cable) (v .set) (counted v) (λ _. refl) refl (sound-own v good) (sound-marks v good)
-    ∙ ap (λ (t : ℕ). afterSlot t heard (counted v)) g
+-- a slot is made of sound records alone
+done-sound : (heard : Reading) (v : Node) → isDone (stepOf heard v .answer) ≡ true → sound v ≡ true
+unfolding stepOf
+done-sound heard v e = by-cases (sound v) (λ s. s) (λ s. absurd (true≢false (sym e ∙ ap (λ (r : Stepped). isDone (r .answer)) (otherwise _ _ s))))
 
-is-sound-requires : tie.Need-is-sound-requires
-is-sound-requires c κs = search needs
+-- nobody's job byte leaves the counts
+counts-if : (b : Bool) (s jobs : ℕ) (counts : Counts) → countsWith (cond b s 0) jobs counts ≡ cond b (countsWith s jobs counts) counts
+unfolding countsWith
+counts-if true s jobs counts = refl
+counts-if false s jobs counts = refl
+
+counts-within-requires : tie.Need-counts-within-requires
+counts-within-requires c κs = search needs
+
+with-counts-requires : tie.Need-with-counts-requires
+with-counts-requires c κs = search needs
 
 returns : tie.Need-returns
-unfolding stepOf
-returns c = sym (otherwise _ _ (failed (c .before .is-sound .ensures) (c .if1 .taken)))
+unfolding countedOf
+returns c = c .with-counts .ensures ∙ sym (otherwise _ _ (failed (c .before .before .counts-within .ensures) (c .before .if1 .taken)))
+
+after-step-requires : tie.Need-after-step-requires
+after-step-requires c κs = search needs
+
+is-done-requires : tie.Need-is-done-requires
+is-done-requires c κs = search needs
+
+with-counts-requires-2 : tie.Need-with-counts-requires-2
+with-counts-requires-2 c κs = search needs
 
 returns-2 : tie.Need-returns-2
-unfolding stepOf
-returns-2 c = sym (chosen _ _ (passed (c .before .before .before .is-sound .ensures) (c .before .before .if1 .left)) ∙ chosen _ _ (le-leb _ _ (c .if2 .taken)))
+unfolding countedOf
+returns-2 c =
+    let r = c .before .before .before in
+    let a = r .before .before .before .args in
+    let stepped = stepOf (a .received .reading) (a .v) in
+    let missed : isDone (stepped .answer) ≡ false = sym (ap (λ (s : Stepped). isDone (s .answer)) (r .after-step .ensures)) ∙ failed (c .before .before .is-done .ensures) (c .before .if2 .taken) in
+    c .with-counts2 .ensures
+    ∙ ap (λ (s : Stepped). withCounts s (a .counts)) (r .after-step .ensures)
+    ∙ ap (withCounts stepped) (sym (otherwise _ _ missed))
+    ∙ sym (chosen _ _ (passed (r .before .before .counts-within .ensures) (r .before .if1 .left)))
 
-sender-requires : tie.Need-sender-requires
-sender-requires c κs = search needs
+reporter-requires : tie.Need-reporter-requires
+reporter-requires c κs =
+    let r = c .before .before in
+    let a = r .before .before .before .args in
+    let made : isDone (stepOf (a .received .reading) (a .v) .answer) ≡ true = sym (ap (λ (s : Stepped). isDone (s .answer)) (r .after-step .ensures)) ∙ passed (c .before .is-done .ensures) (c .if2 .left) in
+    clauses (a .v) (done-sound (a .received .reading) (a .v) made) .choices .ring
 
-enum-known-speaker : tie.Need-enum-known-speaker
-enum-known-speaker c = search needs
+counts-with-requires : tie.Need-counts-with-requires
+counts-with-requires c κs = search needs
 
-enum-told : tie.Need-enum-told
-enum-told c = search needs
+with-counts-requires-3 : tie.Need-with-counts-requires-3
+with-counts-requires-3 c κs = search needs
 
 returns-3 : tie.Need-returns-3
-unfolding stepOf
+unfolding countedOf countsAfter reporterIn
 returns-3 c =
-    let v = c .before .before .before .before .before .before .before .args .v in
-    let good = passed (c .before .before .before .before .before .before .is-sound .ensures) (c .before .before .before .before .before .if1 .left) in
-    absurd (no-refusal (v .cable .n) (v .slots + 1) _ (c .before .before .sender .result) (clauses v good .choices .ring) (c .before .before .sender .ensures) (c .enum-told .given .1))
-
-add-counted : tie.Need-add-counted
-add-counted c = search needs
-
-digest-of-requires : tie.Need-digest-of-requires
-digest-of-requires c κs = search needs
-
-after-slot-requires : tie.Need-after-slot-requires
-after-slot-requires c κs = search needs
-
-returns-4 : tie.Need-returns-4
-unfolding stepOf
-returns-4 c =
-    let q = c .before .before .before .before .before .before .before in
-    let a = q .before .before .before .before .before .args in
-    let v = a .v in
-    let good = passed (q .before .before .before .before .is-sound .ensures) (q .before .before .before .if1 .left) in
-    let s = is-sender (v .cable .n) (v .slots + 1) _ (q .sender .result) (clauses v good .choices .ring) (q .sender .ensures) (c .before .before .before .before .before .speaker .given .1) in
-    ap done (by-own-digest _ _ (a .heard) v _ _ good (c .after-slot .ensures) (c .before .digest-of .ensures) s)
-    ∙ sym (chosen _ _ good ∙ otherwise _ _ (lt-leb _ _ (q .before .if2 .left)))
+    let q = c .before .before .before in
+    let r = q .before .before in
+    let a = r .before .before .before .args in
+    let s = sender (a .v .cable .n) (a .v .slots + 1) in
+    let stepped = stepOf (a .received .reading) (a .v) in
+    let made : isDone (stepped .answer) ≡ true = sym (ap (λ (s : Stepped). isDone (s .answer)) (r .after-step .ensures)) ∙ passed (q .before .is-done .ensures) (q .if2 .left) in
+    c .with-counts3 .ensures
+    ∙ ap₂ withCounts (r .after-step .ensures)
+    (c .before .counts-with .ensures
+    ∙ ap (λ (x : ℕ). countsWith x (a .received .jobs) (a .counts)) (c .before .before .reporter .ensures)
+    ∙ counts-if (hearsReport s (a .received .reading) (a .v)) s (a .received .jobs) (a .counts)
+    ∙ sym (chosen _ _ made))
+    ∙ sym (chosen _ _ (passed (r .before .before .counts-within .ensures) (r .before .if1 .left)))
 
 pub step-spec : {M : Type 1} → statement M
 step-spec =
     tie.close
     (tie.spec
-    is-sound-requires
+    counts-within-requires
+    with-counts-requires
     returns
+    after-step-requires
+    is-done-requires
+    with-counts-requires-2
     returns-2
-    sender-requires
-    enum-known-speaker
-    enum-told
-    returns-3
-    add-counted
-    digest-of-requires
-    after-slot-requires
-    returns-4)
+    reporter-requires
+    counts-with-requires
+    with-counts-requires-3
+    returns-3)

@@ -5,10 +5,13 @@ use Rattle.node_runs.proofs.run_all.Statement.{statement}
 use Rattle.node_runs.proofs.run_all.Tie as tie
 
 abbrev Inv-loop : tie.InvT-loop
-Inv-loop input₀ output₀ record₀ left₀ held₀ turns₀ input output «record» left held turns = Unit {0}
+Inv-loop input₀ output₀ record₀ counts₀ left₀ held₀ turns₀ input output «record» counts left held turns = Unit {0}
 
 abbrev μ-loop : tie.MeasureT-loop
-μ-loop input₀ output₀ record₀ left₀ held₀ turns₀ input output «record» left held turns = turns
+μ-loop input₀ output₀ record₀ counts₀ left₀ held₀ turns₀ input output «record» counts left held turns = turns
+
+first-requires : tie.Need-first-requires Inv-loop μ-loop
+first-requires c κs = tt
 
 loop-holds : tie.Need-loop-holds Inv-loop μ-loop
 loop-holds c = tt
@@ -43,6 +46,7 @@ run-all-spec =
     (tie.spec
     Inv-loop
     μ-loop
+    first-requires
     loop-holds
     read-requires
     is-command-requires

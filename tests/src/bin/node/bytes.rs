@@ -2,11 +2,11 @@
 //! every byte as it was.
 
 use super::compare::compare;
-use super::protocol::{Command, Held, Script};
+use super::protocol::{Command, Script};
 use comparison::model::node::{Cause, Node, State};
 use comparison::model::ring::LIMIT;
 use comparison::random::Random;
-use comparison::record_bytes::{record_bytes, RECORD};
+use comparison::record_bytes::{record_bytes, Reader, RECORD};
 use comparison::records::{sound, STATES};
 use comparison::report::Count;
 
@@ -38,7 +38,7 @@ const HEARD: &[u8] = &[2, 3, 1, 0, 0, 0];
 
 /// Loads the bytes and makes each call that is refused. What sending leaves is seen in the next answer.
 fn refused_calls(count: &mut Count, script: &mut Script, bytes: [u8; RECORD]) {
-    let node = Held::load(bytes).node;
+    let node = Reader(&bytes).record();
     let calls = [
         (CALLS[0], Command::Slot(HEARD), node.slot(HEARD).is_err()),
         (CALLS[1], Command::Send { room: 0, jobs: 0 }, true),
@@ -50,7 +50,7 @@ fn refused_calls(count: &mut Count, script: &mut Script, bytes: [u8; RECORD]) {
         (CALLS[4], Command::SetUp { n: 4, k: 2, m: 9, own: 1 }, true),
         (CALLS[4], Command::SetUp { n: 4, k: 2, m: 8, own: 5 }, true),
     ];
-    script.push(&Command::Load(bytes));
+    script.load_bytes(bytes);
     for (name, call, refused) in calls {
         if refused {
             count.event(name);

@@ -25,14 +25,20 @@ pub struct Cable {
     m: u32,
     pub nodes: Vec<Node>,
     scripts: Vec<Script>,
+    /// Each node's counts are asked for after each of its calls, not only at the end.
+    watched: bool,
 }
 
 impl Cable {
     pub fn new(n: u32, k: u32, m: u32) -> Cable {
         let scripts = (0..n).map(|_| Script::default()).collect();
-        let mut cable = Cable { n, k, m, nodes: Vec::new(), scripts };
+        let mut cable = Cable { n, k, m, nodes: Vec::new(), scripts, watched: false };
         cable.set_up();
         cable
+    }
+
+    pub fn watched(n: u32, k: u32, m: u32) -> Cable {
+        Cable { watched: true, ..Cable::new(n, k, m) }
     }
 
     /// All nodes start anew.
@@ -46,7 +52,11 @@ impl Cable {
     }
 
     fn tell(&mut self, x: u32, command: &Command) {
-        self.scripts[x as usize - 1].push(command);
+        let script = &mut self.scripts[x as usize - 1];
+        script.push(command);
+        if self.watched && !matches!(command, Command::Send { .. }) {
+            script.push(&Command::Counts);
+        }
     }
 
     pub fn node(&self, x: u32) -> &Node {
@@ -134,10 +144,11 @@ impl Cable {
         }
     }
 
-    /// The scripts of all nodes, one after the other.
+    /// The scripts of all nodes, one after the other, each with its counts at the end.
     pub fn into_script(self, whole: &mut Script) {
         for script in &self.scripts {
             whole.append(script);
+            whole.push(&Command::Counts);
         }
     }
 }

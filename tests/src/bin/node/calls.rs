@@ -88,7 +88,7 @@ pub fn sending(count: &mut Count) -> Result<(), String> {
                 turn(&mut node);
             }
             note_send(count, &node);
-            script.push(&Command::load(&node));
+            script.load(&node);
             let jobs = job_byte(&mut random, node.m);
             for room in (0..=12).chain([255]) {
                 script.push(&Command::Send { room, jobs });
@@ -177,7 +177,7 @@ pub fn limit(count: &mut Count) -> Result<(), String> {
             let mut node = sound(&mut random, state);
             node.slots = LIMIT - random.below(3);
             every_call(&mut random, &mut script, &node);
-            script.push(&Command::load(&node));
+            script.load(&node);
             for _ in 0..3 {
                 let (room, jobs) = (random.below(12) as u8, job_byte(&mut random, node.m));
                 script.push(&Command::Send { room, jobs });
@@ -222,7 +222,7 @@ pub fn order(count: &mut Count) -> Result<(), String> {
             }
             count.event(causes(unsound, at_limit, given.is_some(), !sending));
             every_call(&mut random, &mut script, &node);
-            script.push(&Command::load(&node));
+            script.load(&node);
             for room in [message::length(node.k) - 1, message::length(node.k)] {
                 script.push(&Command::Send { room: room as u8, jobs });
             }
@@ -271,7 +271,7 @@ pub fn switching(count: &mut Count) -> Result<(), String> {
                 [Command::Restart, Command::Off],
                 [Command::Restart, Command::Restart],
             ] {
-                script.push(&Command::load(&node));
+                script.load(&node);
                 for call in calls {
                     script.push(&call);
                 }

@@ -1,9 +1,10 @@
 //! One run of the program, command by command beside the model.
 
 use super::protocol::{next_command, run_by_model, Command, Held, Script};
+use super::tally::History;
 use comparison::child;
 use comparison::messages::hex;
-use comparison::record_bytes::{record_bytes, shown_record, Reader, RECORD};
+use comparison::record_bytes::{record_bytes, shown_counts, shown_record, Reader, RECORD};
 use comparison::report::Count;
 use std::io::Read;
 
@@ -12,40 +13,48 @@ pub fn compare(count: &mut Count, script: &Script) -> Result<(), String> {
     child::run(count, "node_runs", script.bytes(), |count, output| answers(count, script, output))
 }
 
-/// Compares the answers of all commands.
+/// Compares the answers of all commands, and the counts with the tally over what was answered before.
 fn answers(count: &mut Count, script: &Script, output: &mut dyn Read) -> Result<(), String> {
     let mut commands = Reader(script.bytes());
     let mut held = Held::first();
     let mut expected = Vec::new();
     let mut got = Vec::new();
     let mut position = 0_u64;
+    let mut history = History::default();
     while let Some(command) = next_command(&mut commands) {
         position += 1;
         let before = held.node;
-        let Some(number) = run_by_model(&mut held, &command, &mut expected) else { continue };
+        let Some(number) = run_by_model(&mut held, &command, &mut expected) else {
+            history.end();
+            continue;
+        };
         count.expected(number);
-        if number == 0 && !held.node.is_sound() {
-            return Err(format!(
-                "command {position}: {}\n        record before: {}\n        the model leaves one that is not sound: {}",
-                shown_command(&command),
-                shown_record(&before),
-                shown_record(&held.node),
-            ));
+        let at = || {
+            let (call, record) = (shown_command(&command), shown_record(&before));
+            format!("command {position}: {call}\n        record before: {record}")
+        };
+        if number == 0 && !matches!(command, Command::Counts) && !held.node.is_sound() {
+            let record = shown_record(&held.node);
+            return Err(format!("{}\n        the model leaves one that is not sound: {record}", at()));
         }
         child::read_answer(output, expected.len(), &mut got)
-            .map_err(|why| format!("command {position}: the answer cannot be read: {why}"))?;
+            .map_err(|why| format!("{}\n        the answer cannot be read: {why}", at()))?;
         count.check(got == expected, || {
-            format!(
-                "command {position}: {}\n        record before: {}\n        first difference at byte {} of the answer\n        program: {}\n        model:   {}",
-                shown_command(&command),
-                shown_record(&before),
-                got.iter().zip(&expected).take_while(|(a, b)| a == b).count() + 1,
-                shown_answer(&command, &got, expected.len()),
-                shown_answer(&command, &expected, expected.len()),
-            )
+            format!("{}\n        {}", at(), shown_difference(&command, &got, &expected))
         })?;
+        history.follow(count, &command, &got).map_err(|why| format!("{}\n        {why}", at()))?;
     }
     Ok(())
+}
+
+/// Where the answers differ first, and both of them.
+fn shown_difference(command: &Command, got: &[u8], expected: &[u8]) -> String {
+    format!(
+        "first difference at byte {} of the answer\n        program: {}\n        model:   {}",
+        got.iter().zip(expected).take_while(|(a, b)| a == b).count() + 1,
+        shown_answer(command, got, expected.len()),
+        shown_answer(command, expected, expected.len()),
+    )
 }
 
 fn shown_command(command: &Command) -> String {
@@ -55,7 +64,9 @@ fn shown_command(command: &Command) -> String {
         Command::Send { room, jobs } => format!("send jobs {jobs:02X} into {room} bytes"),
         Command::Off => "off".to_string(),
         Command::Restart => "restart".to_string(),
-        Command::Load(bytes) => format!("load {}", shown_record(&Held::load(bytes).node)),
+        Command::Load(bytes) => format!("load {}", shown_record(&Reader(&bytes).record())),
+        Command::Count { row, job, count } => format!("count of row {row}, job {job}: {count}"),
+        Command::Counts => "all counts".to_string(),
     }
 }
 
@@ -64,8 +75,12 @@ fn shown_answer(command: &Command, answer: &[u8], length: usize) -> String {
     if answer.len() != length {
         return format!("only {} of {length} bytes: [{}]", answer.len(), hex(answer));
     }
-    if let Command::Send { .. } = command {
-        return format!("{}, {} bytes written, [{}]", answer[0], answer[1], hex(&answer[2..]));
+    match command {
+        Command::Send { .. } => {
+            return format!("{}, {} bytes written, [{}]", answer[0], answer[1], hex(&answer[2..]));
+        }
+        Command::Counts => return shown_counts(&Reader(answer).counts()),
+        _ => {}
     }
     if answer[1 + 20] > 7 {
         return format!("state {}: [{}]", answer[1 + 20], hex(answer));

@@ -1,7 +1,7 @@
 //! What happens to a node in a call, told from the records before and after it and from the bytes
 //! heard. It only counts, so that no case passes without meeting what it is for.
 
-use comparison::events::several;
+use comparison::events::{report, several};
 use comparison::model::message::{self, Said};
 use comparison::model::node::{Cause, Node, State};
 use comparison::model::ring::{self, Set};
@@ -82,6 +82,17 @@ pub fn sends(count: &mut Count, node: &Node, jobs: u8) {
     }
 }
 
+/// A message handed over in the own slot, with a job bit set.
+pub const OWN_REPORT: &str = "report: not counted, handed over in the own slot";
+
+fn reported(count: &mut Count, before: &Node, after: &Node, bytes: &[u8]) {
+    let said = message::read(before.k, before.m, bytes).ok();
+    if said.is_some_and(|said| said.jobs != 0) {
+        let own = before.next_sender() == before.own;
+        count.event(if own { OWN_REPORT } else { report(before, after) });
+    }
+}
+
 /// A message for another number of jobs.
 fn other_m(count: &mut Count, node: &Node, bytes: &[u8]) {
     let Some(&m) = bytes.len().checked_sub(2).and_then(|place| bytes.get(place)) else { return };
@@ -150,6 +161,7 @@ pub fn slot(count: &mut Count, before: &Node, after: &Node, bytes: &[u8]) {
     if sender != before.own {
         other_m(count, before, bytes);
     }
+    reported(count, before, after, bytes);
     match before.state {
         State::Member => slot.of_member(count),
         State::Listening => slot.of_listening(count),

@@ -4,6 +4,8 @@ mod bytes;
 mod cable;
 mod calls;
 mod compare;
+mod count_vectors;
+mod counts;
 mod events;
 mod heard;
 mod job_vectors;
@@ -11,6 +13,7 @@ mod plans;
 mod protocol;
 mod records;
 mod runs;
+mod tally;
 mod vectors;
 
 use comparison::report::{self, Case};
@@ -28,6 +31,11 @@ const CASES: &[Case] = &[
         run: job_vectors::single_nodes,
     },
     Case {
+        name: "vectors: counts of single nodes by request h, model and program",
+        meets: &[0, 4, 5, 11],
+        run: count_vectors::single_nodes,
+    },
+    Case {
         name: "vectors: plans of whole cables, without jobs and with some, model and program",
         meets: &[0, 8, 10],
         run: plans::whole_cables,
@@ -43,7 +51,7 @@ const CASES: &[Case] = &[
         run: calls::job_counts,
     },
     Case {
-        name: "cables: every n and k, with losses, misses, offs and restarts",
+        name: "cables: every n and k, with losses, misses, offs and restarts; counts at the end",
         meets: &[0, 8, 9, 10, 11],
         run: runs::every_n_and_k,
     },
@@ -81,6 +89,26 @@ const CASES: &[Case] = &[
         name: "records: of bytes that no call writes, each of which a refused call leaves",
         meets: &[0, 1, 2, 3, 4, 5, 9, 10, 11, 14],
         run: bytes::left_by_refusals,
+    },
+    Case {
+        name: "counts: cables of every n, every m, after each call; tally",
+        meets: &[0, 8, 9, 10, 11],
+        run: counts::cables,
+    },
+    Case {
+        name: "counts: each of the 256 at the slot count and past it, in every state",
+        meets: &[0, 4, 5],
+        run: counts::edges,
+    },
+    Case {
+        name: "counts: several causes of refusal at once, after each call",
+        meets: &[0, 4, 5, 10, 11, 14],
+        run: counts::order,
+    },
+    Case {
+        name: "counts: any that fit beside any sound record, slots with any bytes",
+        meets: &[0],
+        run: counts::records,
     },
     Case {
         name: "sending: sound records, rooms 0 to 12 and 255, any job bytes",

@@ -1,55 +1,82 @@
-//! What the program `node_runs` takes and gives: commands on one current record, all numbers
+//! What the program `node_runs` takes and gives: commands on one current record and the counts beside it, all numbers
 //! lowest byte first.
 
+use comparison::model::counts::{Counts, NONE};
 use comparison::model::node::Node;
-use comparison::record_bytes::{record_bytes, Reader, RECORD};
+use comparison::record_bytes::{push_counts, record_bytes, Reader, RECORD};
 
 /// Each byte of a lent buffer before the node sends into it.
 pub const FILL: u8 = 0xA5;
 
-/// The record that the program holds. Several bytes are read as one state, or as no; those of a refused
+/// The record and the counts that the program holds. Several bytes are read as one state, or as no; those of a refused
 /// call stay, and any other call writes the record anew.
 pub struct Held {
     bytes: [u8; RECORD],
     pub node: Node,
+    pub counts: Counts,
 }
 
 impl Held {
-    /// Before the first command: all bytes 0 but the state, 7.
+    /// Before the first command: all bytes 0 but the state, 7; all counts 0.
     pub fn first() -> Held {
         let mut bytes = [0; RECORD];
         bytes[20] = 7;
-        Held::load(bytes)
+        Held { bytes, node: Reader(&bytes).record(), counts: NONE }
     }
 
-    pub fn load(bytes: [u8; RECORD]) -> Held {
-        Held { bytes, node: Reader(&bytes).record() }
+    fn load(&mut self, bytes: [u8; RECORD]) {
+        (self.bytes, self.node) = (bytes, Reader(&bytes).record());
     }
 
-    fn write(node: Node) -> Held {
-        Held { bytes: record_bytes(&node), node }
+    fn write(&mut self, node: Node) {
+        (self.bytes, self.node) = (record_bytes(&node), node);
+    }
+
+    /// There are 32 rows and 8 jobs, both from 0 on.
+    fn count(&mut self, row: u8, job: u8, count: u64) {
+        let row = self.counts.get_mut(usize::from(row));
+        row.and_then(|row| row.get_mut(usize::from(job))).into_iter().for_each(|held| *held = count);
+    }
+
+    /// "only set-up clears them"
+    fn set_up(&mut self, (n, k, m, own): (u32, u32, u32, u32)) -> Result<Node, u32> {
+        let node = Node::set_up(n, k, m, own)?;
+        self.counts = NONE;
+        Ok(node)
     }
 }
 
 pub enum Command<'a> {
-    SetUp { n: u32, k: u32, m: u32, own: u32 },
+    SetUp {
+        n: u32,
+        k: u32,
+        m: u32,
+        own: u32,
+    },
     Slot(&'a [u8]),
-    Send { room: u8, jobs: u8 },
+    Send {
+        room: u8,
+        jobs: u8,
+    },
     Off,
     Restart,
     Load([u8; RECORD]),
-}
-
-impl Command<'_> {
-    pub fn load(record: &Node) -> Self {
-        Command::Load(record_bytes(record))
-    }
+    /// One count becomes this.
+    Count {
+        row: u8,
+        job: u8,
+        count: u64,
+    },
+    /// Asks for all counts.
+    Counts,
 }
 
 /// Commands in a row, as they are sent.
 #[derive(Default)]
 pub struct Script {
     bytes: Vec<u8>,
+    /// A count may be above 0.
+    counted: bool,
 }
 
 impl Script {
@@ -57,7 +84,30 @@ impl Script {
         &self.bytes
     }
 
+    /// Loads a record beside counts of 0.
+    pub fn load(&mut self, node: &Node) {
+        self.load_bytes(record_bytes(node));
+    }
+
+    pub fn load_bytes(&mut self, bytes: [u8; RECORD]) {
+        if self.counted {
+            self.push(&Command::SetUp { n: 3, k: 2, m: 0, own: 1 });
+        }
+        self.push(&Command::Load(bytes));
+    }
+
+    /// Follows whether a count may be above 0: a job that is reported stands in the last byte heard.
+    fn note(&mut self, command: &Command) {
+        match *command {
+            Command::SetUp { n, k, m, own } if Node::set_up(n, k, m, own).is_ok() => self.counted = false,
+            Command::Slot(heard) => self.counted |= heard.last().is_some_and(|&jobs| jobs != 0),
+            Command::Count { count, .. } => self.counted |= count != 0,
+            _ => {}
+        }
+    }
+
     pub fn push(&mut self, command: &Command) {
+        self.note(command);
         let out = &mut self.bytes;
         match *command {
             Command::SetUp { n, k, m, own } => {
@@ -78,12 +128,18 @@ impl Script {
                 out.push(b'L');
                 out.extend(bytes);
             }
+            Command::Count { row, job, count } => {
+                out.extend([b'C', row, job]);
+                out.extend(count.to_le_bytes());
+            }
+            Command::Counts => out.push(b'K'),
         }
     }
 
     /// The commands of another script after these.
     pub fn append(&mut self, other: &Script) {
         self.bytes.extend(&other.bytes);
+        self.counted |= other.counted;
     }
 }
 
@@ -102,6 +158,8 @@ pub fn next_command<'a>(script: &mut Reader<'a>) -> Option<Command<'a>> {
         b'F' => Command::Off,
         b'R' => Command::Restart,
         b'L' => Command::Load(script.take(RECORD).try_into().expect("56 bytes")),
+        b'C' => Command::Count { row: script.u8(), job: script.u8(), count: script.u64() },
+        b'K' => Command::Counts,
         other => panic!("{other:#04X} is no command"),
     })
 }
@@ -112,8 +170,16 @@ pub fn run_by_model(held: &mut Held, command: &Command, out: &mut Vec<u8>) -> Op
     out.clear();
     let next = match *command {
         Command::Load(bytes) => {
-            *held = Held::load(bytes);
+            held.load(bytes);
             return None;
+        }
+        Command::Count { row, job, count } => {
+            held.count(row, job, count);
+            return None;
+        }
+        Command::Counts => {
+            push_counts(&held.counts, out);
+            return Some(0);
         }
         Command::Send { room, jobs } => {
             let mut buffer = [FILL; 255];
@@ -124,14 +190,14 @@ pub fn run_by_model(held: &mut Held, command: &Command, out: &mut Vec<u8>) -> Op
             out.extend_from_slice(lent);
             return Some(number);
         }
-        Command::SetUp { n, k, m, own } => Node::set_up(n, k, m, own),
-        Command::Slot(heard) => held.node.slot(heard),
+        Command::SetUp { n, k, m, own } => held.set_up((n, k, m, own)),
+        Command::Slot(heard) => held.node.counted_slot(&mut held.counts, heard),
         Command::Off => held.node.off(),
         Command::Restart => held.node.restart(),
     };
     let number = next.err().unwrap_or(0);
     if let Ok(next) = next {
-        *held = Held::write(next);
+        held.write(next);
     }
     out.push(number as u8);
     out.extend(held.bytes);

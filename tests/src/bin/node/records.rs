@@ -26,7 +26,7 @@ const BEYOND_CABLES: &[&str] = &[
 
 /// Loads the record; then one to three slots, and sometimes another call.
 fn slots_on(count: &mut Count, random: &mut Random, script: &mut Script, mut node: Node) {
-    script.push(&Command::load(&node));
+    script.load(&node);
     for _ in 0..random.within(1, 3) {
         let bytes = heard::anything(random, (node.k, node.m));
         script.push(&Command::Slot(&bytes));
@@ -77,7 +77,7 @@ pub fn every_call(random: &mut Random, script: &mut Script, node: &Node) {
         Command::Off,
         Command::Restart,
     ] {
-        script.push(&Command::load(node));
+        script.load(node);
         script.push(&call);
     }
 }

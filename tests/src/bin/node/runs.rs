@@ -123,16 +123,26 @@ fn sponsors(cable: &Cable, sender: u32) -> Set {
 
 /// How a run goes: troubles come after about `calm` slots and last for about n / 2; in `tampered` of
 /// 100 slots some receivers get other bytes.
-struct Kind {
-    slots: u32,
-    calm: u32,
-    tampered: u64,
+pub struct Kind {
+    pub slots: u32,
+    pub calm: u32,
+    pub tampered: u64,
 }
 
-/// Runs a cable; it starts anew some time after its last member has left.
+/// Runs a cable with any number of jobs.
 fn run(count: &mut Count, random: &mut Random, n: u32, k: u32, kind: &Kind) -> Cable {
     let m = job_count(random);
-    let mut cable = Cable::new(n, k, m);
+    run_on(count, random, Cable::new(n, k, m), kind)
+}
+
+/// Runs a cable of n, k and m whose counts are asked for after each call.
+pub fn watched(count: &mut Count, random: &mut Random, (n, k, m): (u32, u32, u32), kind: &Kind) -> Cable {
+    run_on(count, random, Cable::watched(n, k, m), kind)
+}
+
+/// It starts anew some time after its last member has left.
+fn run_on(count: &mut Count, random: &mut Random, mut cable: Cable, kind: &Kind) -> Cable {
+    let n = cable.n;
     let mut trouble = Trouble::Nothing;
     let mut without_member = 0;
     for _ in 0..kind.slots {

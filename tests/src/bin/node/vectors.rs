@@ -4,9 +4,10 @@
 use super::compare::compare;
 use super::protocol::{Command, Script};
 use comparison::messages::hex;
+use comparison::model::counts::{Counts, NONE};
 use comparison::model::node::{Cause, ListeningData, Node, State};
 use comparison::model::ring::Set;
-use comparison::record_bytes::shown_record;
+use comparison::record_bytes::{shown_counts, shown_record};
 use comparison::report::Count;
 
 pub type Nodes = &'static [u32];
@@ -38,6 +39,12 @@ pub enum Step {
     /// The node is given this job byte and sends these bytes, or refuses.
     Reports(u8, Bytes),
     ReportRefused(u8, u32),
+    /// The counts beside the record: sender, job, count; all others are 0.
+    Counted(&'static [(usize, usize, u64)]),
+    /// One of them becomes this.
+    CountIs(usize, usize, u64),
+    /// Set-up once more, with the same numbers.
+    SetUp(Is),
     Off,
     OffRefused(u32),
     Restart(Is),
@@ -686,7 +693,7 @@ fn sending(step: &Step) -> Option<(u8, Result<Bytes, u32>)> {
 fn start(script: &mut Script, m: u32, run: &Run) -> Result<Node, String> {
     if let Some((slots, is)) = run.from {
         let node = record(run.ring, m, slots, is);
-        script.push(&Command::load(&node));
+        script.load(&node);
         return Ok(node);
     }
     let (n, k, own) = run.ring;
@@ -694,28 +701,76 @@ fn start(script: &mut Script, m: u32, run: &Run) -> Result<Node, String> {
     Node::set_up(n, k, m, own).map_err(|number| format!("{}: refusal {number}", run.what))
 }
 
+/// The counts must be these.
+fn see_counts(
+    count: &mut Count,
+    what: &str,
+    got: &Counts,
+    expected: &[(usize, usize, u64)],
+) -> Result<(), String> {
+    let mut counts = NONE;
+    expected.iter().for_each(|&(sender, job, number)| counts[sender - 1][job - 1] = number);
+    count.expected(0);
+    count.check(*got == counts, || {
+        format!("{what}: model counts {}, expected {}", shown_counts(got), shown_counts(&counts))
+    })
+}
+
+/// Steps that leave the record: sending, and those that see or set a count. Whether this was one.
+fn stays(
+    count: &mut Count,
+    script: &mut Script,
+    what: &str,
+    (node, counts): (&Node, &mut Counts),
+    step: &Step,
+) -> Result<bool, String> {
+    if let Some((jobs, expected)) = sending(step) {
+        script.push(&Command::Send { room: ROOM, jobs });
+        see_sent(count, what, (node, jobs), expected)?;
+        return Ok(true);
+    }
+    match *step {
+        Counted(expected) => {
+            script.push(&Command::Counts);
+            see_counts(count, what, counts, expected)?;
+        }
+        CountIs(sender, job, number) => {
+            script.push(&Command::Count { row: sender as u8 - 1, job: job as u8 - 1, count: number });
+            counts[sender - 1][job - 1] = number;
+        }
+        _ => return Ok(false),
+    }
+    Ok(true)
+}
+
 /// The model against the document, step by step, on a cable of m jobs; the script is for the program.
 pub fn follow(count: &mut Count, script: &mut Script, m: u32, run: &Run) -> Result<(), String> {
     let mut node = start(script, m, run)?;
+    let mut counts = NONE;
     let mut slots = node.slots;
     for (i, step) in run.steps.iter().enumerate() {
         let what = format!("{}, step {}", run.what, i + 1);
-        if let Some((jobs, expected)) = sending(step) {
-            script.push(&Command::Send { room: ROOM, jobs });
-            see_sent(count, &what, (&node, jobs), expected)?;
+        if stays(count, script, &what, (&node, &mut counts), step)? {
             continue;
         }
         let (command, got, expected) = match *step {
             Slot(bytes, is) => {
                 slots += 1;
-                (Command::Slot(bytes), node.slot(bytes), Ok(is))
+                (Command::Slot(bytes), node.counted_slot(&mut counts, bytes), Ok(is))
             }
-            SlotRefused(bytes, number) => (Command::Slot(bytes), node.slot(bytes), Err(number)),
+            SlotRefused(bytes, number) => {
+                (Command::Slot(bytes), node.counted_slot(&mut counts, bytes), Err(number))
+            }
+            SetUp(is) => {
+                (slots, counts) = (0, NONE);
+                let (n, k, own) = run.ring;
+                (Command::SetUp { n, k, m, own }, Node::set_up(n, k, m, own), Ok(is))
+            }
             Off => (Command::Off, node.off(), Ok(Out(Cause::SwitchedOff))),
             OffRefused(number) => (Command::Off, node.off(), Err(number)),
             Restart(is) => (Command::Restart, node.restart(), Ok(is)),
             RestartRefused => (Command::Restart, node.restart(), Err(11)),
-            // Sending, which is seen above.
+            // Those that leave the record.
             _ => continue,
         };
         script.push(&command);

@@ -12,6 +12,9 @@ enum-told c = search needs
 set-node-requires : tie.Need-set-node-requires
 set-node-requires c κs = tt
 
+counts-of-requires : tie.Need-counts-of-requires
+counts-of-requires c κs = tt
+
 enum-known-answer : tie.Need-enum-known-answer
 enum-known-answer c = search needs
 
@@ -22,9 +25,9 @@ returns : tie.Need-returns
 returns c = inl refl
 
 returns-2 : tie.Need-returns-2
-returns-2 c = inr refl
+returns-2 c = inr (refl, refl)
 
 pub kept-spec : {M : Type 1} → statement M
 kept-spec =
     tie.close
-    (tie.spec enum-told set-node-requires enum-known-answer number-requires returns returns-2)
+    (tie.spec enum-told set-node-requires counts-of-requires enum-known-answer number-requires returns returns-2)
