@@ -1,6 +1,6 @@
 -- The distance that the bench's call tells, of a look and of a slot, is 0 after each call of a sequence that keeps the premises. Assumes nothing.
 use Prim.Native.Nat.{ℕ, suc, _-_, _≤_, _<_}
-use mathlib.Core.Path.{_≡_, refl, sym, ap, _∙_}
+use mathlib.Core.Path.{_≡_, refl, sym, ap, _∙_, subst}
 use mathlib.Core.Bool.{true, false≢true}
 use mathlib.Core.List.{List, [], _∷_}
 use native.Mathlib.Omega.{arith}
@@ -9,15 +9,16 @@ use Rattle.nodeset.specs.Sets.{distance}
 use Rattle.nodeset.proofs.Tests.{by-cases}
 use Rattle.ring.specs.declared.Cable.{Cable}
 use Rattle.ring.proofs.Ranges.{ring-size, fitting}
+use Rattle.bench.proofs.Ledgers.{given-made}
 use Rattle.node_record.specs.declared.Node.{Node}
 use Rattle.node_record.specs.States.{isMember}
 use Rattle.node.specs.declared.Answer.{Answer}
 use Rattle.node.specs.declared.Answer.the-variants.{Done, Refused}
 use Rattle.node.specs.Calls.{noNode, isDone}
 use Rattle.bench.specs.Table.{Table, recordOf, nodeCount}
-use Rattle.bench.specs.Calls.{setUpOf, slotOf, lookOf, farthest, greatest}
+use Rattle.bench.specs.Calls.{setUpOf, slotOf, lookOf, farthest, greatest, Called}
 use Rattle.bench.specs.Outcomes.{slotOutcome, endedOf}
-use Rattle.bench.specs.Runs.{Call, slot, off, restart, callOf, tableAfter, isSlot}
+use Rattle.bench.specs.Runs.{Call, slot, off, restart, callOf, tableAfter}
 use Rattle.agreement.specs.Demand.{AtEach, AfterEach, MemberAt, Agree, EverySequence}
 use Rattle.agreement.specs.Distance.{NoDistance, LookTells, SlotTells, NoDistanceTold}
 use Rattle.bench.proofs.Places.{Placed}
@@ -88,8 +89,11 @@ module _ (cable : Cable) (pos : 1 ≤ cable .n) (start : Table) (begins : Placed
   look-tells cs h lost room = rw (never-unsound cable pos start begins cs) (told-zero cs h)
 
   slot-tells : (c : Call) (cs : List Call) → Agree cable start (c ∷ cs) → SlotTells cable start c cs
-  unfolding endedOf tableAfter callOf isSlot
-  slot-tells (slot lost missed room) cs h = go (slotOf lost missed room (tableAfter start cs) .answer)
+  unfolding endedOf tableAfter callOf
+  slot-tells (slot lost missed room) cs h = λ jobs e.
+      let t = tableAfter start cs in
+      let is = given-made lost missed jobs room t e in
+      subst (λ (c : Called). NoDistance (slotOutcome lost t (c .table) (c .answer))) (sym is) (go (slotOf lost missed room t .answer) (sym (ap (λ (c : Called). isDone (c .answer)) is) ∙ e))
     where
       go : (a : Answer) → isDone a ≡ true → NoDistance (slotOutcome lost (tableAfter start cs) (slotOf lost missed room (tableAfter start cs) .table) a)
       go Done e = told-zero (slot lost missed room ∷ cs) h

@@ -4,12 +4,13 @@ use mathlib.Core.Path.{_≡_}
 use mathlib.Core.Bool.{Bool, true}
 use mathlib.Core.List.{List}
 use Rattle.ring.specs.declared.Cable.{Cable}
+use Rattle.node.specs.Calls.{isDone}
 use Rattle.bench.specs.declared.Command.the-variants as command
 use Rattle.bench.specs.declared.Outcome.{Outcome}
 use Rattle.bench.specs.declared.Outcome.the-variants as outcome
 use Rattle.bench.specs.Table.{Table}
-use Rattle.bench.specs.Outcomes.{endedOf}
-use Rattle.bench.specs.Runs.{Call, slot, off, restart, tableAfter, isSlot}
+use Rattle.bench.specs.Outcomes.{endedOf, calledOf}
+use Rattle.bench.specs.Runs.{Call, slot, off, restart, tableAfter}
 use Rattle.agreement.specs.Demand.{AtEach, AfterEach, Premises, EverySequence}
 
 -- The outcome tells of a table, and that no two lists in it differ.
@@ -23,11 +24,11 @@ module _ (cable : Cable) (start : Table) where
   abbrev pub LookTells : List Call → Type 0
   LookTells cs = (lost : Bool) (room : ℕ) → NoDistance (endedOf (command.Look lost) room (tableAfter start cs) .reply .outcome)
 
-  -- So does the call c, made after the calls cs, if it is a slot that runs.
+  -- So does the call c, made after the calls cs, if it is a slot that runs, whatever job byte its sender is given.
   abbrev pub SlotTells : Call → List Call → Type 0
   SlotTells (slot lost missed room) cs =
-      isSlot (slot lost missed room) (tableAfter start cs) ≡ true
-      → NoDistance (endedOf (command.Slot lost missed) room (tableAfter start cs) .reply .outcome)
+      (jobs : ℕ) → isDone (calledOf (command.Slot lost missed jobs) room (tableAfter start cs) .answer) ≡ true
+      → NoDistance (endedOf (command.Slot lost missed jobs) room (tableAfter start cs) .reply .outcome)
   SlotTells (off a) cs = Unit {0}
   SlotTells (restart a) cs = Unit {0}
 

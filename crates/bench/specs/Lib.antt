@@ -1,5 +1,6 @@
 pub mod Table
 pub mod Calls
+pub mod Reports
 pub mod Pairs
 pub mod Outcomes
 pub mod Ledger

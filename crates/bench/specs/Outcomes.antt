@@ -1,7 +1,11 @@
--- What each call leaves and answers (document 01, "The bench" and "The bench program"; the ledger of document 02 is added in specs/Kept).
+-- What each call leaves and answers (document 01, "The bench" and "The bench program"; the ledger and the counts of document 02 are added in specs/Kept).
 use Prim.Native.Nat.{ℕ}
 use mathlib.Core.Bool.{Bool}
 use mathlib.Core.List.{List}
+use lib.Dec.{ltb}
+use Rattle.nodeset.specs.Sets.{within}
+use Rattle.message.specs.Message.{jobsWithin}
+use Rattle.node_record.specs.Soundness.{limit}
 use Rattle.node.specs.declared.Answer.{Answer}
 use Rattle.node.specs.declared.Answer.the-variants as answer
 use Rattle.bench.specs.declared.Command.{Command}
@@ -9,16 +13,26 @@ use Rattle.bench.specs.declared.Command.the-variants as command
 use Rattle.bench.specs.declared.Outcome.{Outcome}
 use Rattle.bench.specs.declared.Outcome.the-variants as outcome
 use Rattle.bench.specs.declared.Reply.{Reply}
-use Rattle.bench.specs.Table.{Table, nodeCount, slotsOf, speaker}
-use Rattle.bench.specs.Calls.{Called, setUpOf, slotOf, offOf, restartOf, lookOf, listIn, greatest, fateOf}
+use Rattle.bench.specs.Table.{Table, tableSound, nodeCount, slotsOf, speaker}
+use Rattle.bench.specs.Calls.{Called, ifPassed, setUpOf, slotOf, offOf, restartOf, lookOf, listIn, greatest, fateOf}
+use Rattle.bench.specs.Reports.{jobsOn}
 use Rattle.bench.specs.Pairs.{pairsTold, slotBytes}
 
--- The call that a command asks for, where so many bytes are lent for the pairs.
+-- "Each slot on the bench, is given the sender's job byte" (document 02, h): 4, 3, 5, 8, then what the slot without it answers (9).
+unfoldable pub slotGiven : Bool → ℕ → ℕ → ℕ → Table → Called
+slotGiven lost missed jobs room t =
+    ifPassed (tableSound t) 4 t
+    (ifPassed (within (nodeCount t) missed) 3 t
+    (ifPassed (ltb (slotsOf t) limit) 5 t
+    (ifPassed (jobsWithin (jobsOn t) jobs) 8 t
+    (slotOf lost missed room t))))
+
+-- The call that a command asks for, where so many bytes are lent for the pairs, and neither ledger nor counts are kept.
 abbrev pub calledOf : Command → ℕ → Table → Called
 calledOf (command.SetUp cable) room t = setUpOf cable t
 calledOf (command.Off a) room t = offOf a t
 calledOf (command.Restart a) room t = restartOf a t
-calledOf (command.Slot lost missed) room t = slotOf lost missed room t
+calledOf (command.Slot lost missed jobs) room t = slotGiven lost missed jobs room t
 calledOf (command.Look lost) room t = lookOf t
 
 -- ---- what there is to print
@@ -40,7 +54,7 @@ abbrev pub outcomeOf : Command → Table → Called → Outcome
 outcomeOf (command.SetUp cable) before called = quietOutcome (called .answer)
 outcomeOf (command.Off a) before called = quietOutcome (called .answer)
 outcomeOf (command.Restart a) before called = quietOutcome (called .answer)
-outcomeOf (command.Slot lost missed) before called = slotOutcome lost before (called .table) (called .answer)
+outcomeOf (command.Slot lost missed jobs) before called = slotOutcome lost before (called .table) (called .answer)
 outcomeOf (command.Look lost) before called = slotOutcome lost before (called .table) (called .answer)
 
 -- ---- what is answered
@@ -50,7 +64,7 @@ abbrev pub pairsOf : Command → Table → Called → ℕ
 pairsOf (command.SetUp cable) before called = 0
 pairsOf (command.Off a) before called = 0
 pairsOf (command.Restart a) before called = 0
-pairsOf (command.Slot lost missed) before called = pairsTold before called
+pairsOf (command.Slot lost missed jobs) before called = pairsTold before called
 pairsOf (command.Look lost) before called = 0
 
 -- The table after a call, and the answer.
@@ -72,5 +86,5 @@ abbrev pub bytesBy : Command → Table → Called → List ℕ → List ℕ
 bytesBy (command.SetUp cable) t called out = out
 bytesBy (command.Off a) t called out = out
 bytesBy (command.Restart a) t called out = out
-bytesBy (command.Slot lost missed) t called out = slotBytes t called out
+bytesBy (command.Slot lost missed jobs) t called out = slotBytes t called out
 bytesBy (command.Look lost) t called out = out

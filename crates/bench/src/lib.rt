@@ -4,14 +4,14 @@
 use refusal::Refusal;
 use ring::Cable;
 
-// A call over the table: set-up with the cable's choices; off and restart of a node; a slot, whose message is
-// lost or not, and which these nodes miss; a look, which changes nothing and tells of the next slot's
-// message, lost or not.
+// A call over the table: set-up with the cable's choices; off and restart of a node; a slot, whose
+// message is lost or not, which these nodes miss, and with the sender's job byte; a look, which changes
+// nothing and tells of the next slot's message, lost or not.
 pub enum Command {
     SetUp(Cable),
     Off(u32),
     Restart(u32),
-    Slot(bool, u32),
+    Slot(bool, u32, u8),
     Look(bool),
 }
 

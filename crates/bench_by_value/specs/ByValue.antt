@@ -3,6 +3,7 @@ use Prim.Native.Nat.{ℕ}
 use mathlib.Core.List.{List, _++_}
 use lib.ListN.{take, drop}
 use Rattle.node_record.specs.declared.Node.{Node}
+use Rattle.node_reports.specs.Reports.{Counts}
 use Rattle.bench.specs.declared.Command.{Command}
 use Rattle.bench.specs.Table.{Table}
 use Rattle.bench.specs.Outcomes.{Ended, endedOf}
@@ -20,12 +21,12 @@ tableOf n rows = take n rows
 abbrev pub ended : ℕ → Rows → Ended → Ran
 ended n rows e = record { rows = e .table ++ drop n rows; outcome = e .reply .outcome; pairs = e .reply .pairs }
 
--- A call where so many bytes are lent for the pairs, and no ledger is kept.
+-- A call where so many bytes are lent for the pairs, and neither ledger nor counts are kept.
 unfoldable pub callOf : ℕ → Command → ℕ → Rows → Ran
 callOf n c room rows = ended n rows (endedOf c room (tableOf n rows))
 
--- A call with a ledger: the rows, the answer, and the ledger after it.
-unfoldable pub callWith : ℕ → Command → ℕ → Ledger → Rows → Ran × Ledger
-callWith n c room ledger rows =
-    let k = keptOf c room ledger (tableOf n rows) in
-    (ended n rows (record { table = k .table; reply = k .reply }), k .ledger)
+-- A call with a ledger and counts: the rows, the answer, and ledger and counts after it.
+unfoldable pub callWith : ℕ → Command → ℕ → Ledger → List Counts → Rows → Ran × Ledger × List Counts
+callWith n c room ledger counts rows =
+    let k = keptOf c room ledger counts (tableOf n rows) in
+    (ended n rows (record { table = k .table; reply = k .reply }), k .ledger, k .counts)

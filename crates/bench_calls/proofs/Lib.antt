@@ -4,4 +4,5 @@ pub mod Moves
 pub mod Readings
 pub mod Reports
 pub mod Outcomes
+pub mod Counted
 pub mod Kept

@@ -10,7 +10,7 @@ use lib.ListN.{length, take}
 use lib.Seq.{take-length}
 use borrow.Author.Tests.{eqb-true, ltb-true}
 use Rattle.refusal.specs.declared.Refusal.{Refusal}
-use Rattle.refusal.specs.declared.Refusal.the-variants.{RingSize, SponsorCount, NodeNumber, Unsound, SlotLimit, OutputShort, NotOut, LedgerUnfit, JobCount}
+use Rattle.refusal.specs.declared.Refusal.the-variants.{RingSize, SponsorCount, NodeNumber, Unsound, SlotLimit, OutputShort, NotOut, LedgerUnfit, JobCount, SpareBit}
 use Rattle.nodeset.specs.Sets.{has, within, distance}
 use Rattle.nodeset.specs.Sums.{num}
 use Rattle.nodeset.proofs.Tests.{by-cases, both, all, chosen, otherwise}
@@ -18,6 +18,8 @@ use Rattle.nodeset.proofs.Counts.{distance-same}
 use Rattle.ring.specs.Ring.{ringSize, sponsorCount, jobCount, nodeNumber}
 use Rattle.ring.proofs.Ranges.{ring-size}
 use Rattle.ring.specs.declared.Cable.{Cable}
+use Rattle.message.specs.Message.{jobsWithin}
+use Rattle.bench_walks.specs.declared.Beside.{Beside}
 use Rattle.node_record.specs.declared.Node.{Node}
 use Rattle.node_record.specs.States.{isMember}
 use Rattle.node_record.specs.Soundness.{limit}
@@ -204,21 +206,23 @@ module _ (lost : Bool) (missed room : ℕ) (t : Table) (ok : tableSound t ≡ tr
       figures (ap (λ (m : ℕ). m + 1) (s .slots) ∙ sym (slots-of-placed (recordOf t 1 .cable) (slotsOf t + 1) after pos placed-after)) (s .sender)
       (ap (fateBy lost) (s .spoken) ∙ fate-read lost t) (list-is ran t) (apart-is ran t (placed-sound (recordOf t 1 .cable) (slotsOf t + 1) after pos placed-after))
 
-slot-ends : (lost : Bool) (missed room : ℕ) (fits : Bool) (t : Table) → Ends lost t (orderFor (command.Slot lost missed) room fits t)
+slot-ends : (lost : Bool) (missed jobs room : ℕ) (fits : Beside) (t : Table) → Ends lost t (orderFor (command.Slot lost missed jobs) room fits t)
 unfolding orderFor
-slot-ends lost missed room fits t =
+slot-ends lost missed jobs room fits t =
     ends-if lost t (fineTable (surveyOf t) (length t)) Unsound _ (λ fine.
     let ok = sym (fine-table t) ∙ fine in
     let s = said t ok in
+    ends-if lost t (fits .reports) Unsound _ (λ _.
     ends-if lost t (within (surveyOf t .cable .n) missed) NodeNumber _ (λ h.
-    ends-if lost t fits LedgerUnfit _ (λ _.
+    ends-if lost t (fits .ledger) LedgerUnfit _ (λ _.
     ends-if lost t (ltb (surveyOf t .slots) limit) SlotLimit _ (λ l.
+    ends-if lost t (jobsWithin (surveyOf t .cable .m) jobs) SpareBit _ (λ _.
     ends-if lost t (leb 64 room) OutputShort (order.Slot (turnOf lost missed (surveyOf t))) (λ r.
-    slot-ran lost missed room t ok (sym (ap (λ (m : ℕ). within m missed) (s .n)) ∙ h) (sym (ap (λ (m : ℕ). ltb m limit) (s .slots)) ∙ l) r)))))
+    slot-ran lost missed room t ok (sym (ap (λ (m : ℕ). within m missed) (s .n)) ∙ h) (sym (ap (λ (m : ℕ). ltb m limit) (s .slots)) ∙ l) r)))))))
 
 -- ---- a look: the table is as it was
 
-look-ends : (lost : Bool) (room : ℕ) (fits : Bool) (t : Table) → Ends lost t (orderFor (command.Look lost) room fits t)
+look-ends : (lost : Bool) (room : ℕ) (fits : Beside) (t : Table) → Ends lost t (orderFor (command.Look lost) room fits t)
 unfolding orderFor
 look-ends lost room fits t =
     ends-if lost t (fineTable (surveyOf t) (length t)) Unsound looking (λ fine.
@@ -239,38 +243,39 @@ quiet-if : (b : Bool) (cause : Refusal) (o : Order) → Quiet o → Quiet (ifGoo
 quiet-if true cause o h list apart = h list apart
 quiet-if false cause o h list apart = refl
 
-set-up-quiet : (cable : Cable) (room : ℕ) (fits : Bool) (t : Table) → Quiet (orderFor (command.SetUp cable) room fits t)
+set-up-quiet : (cable : Cable) (room : ℕ) (fits : Beside) (t : Table) → Quiet (orderFor (command.SetUp cable) room fits t)
 unfolding orderFor
 set-up-quiet cable room fits t =
     quiet-if (ringSize (cable .n)) RingSize _
     (quiet-if (sponsorCount cable) SponsorCount _
     (quiet-if (jobCount (cable .m)) JobCount _
-    (quiet-if (eqb (length t) (cable .n)) Unsound (order.Start cable) (λ list apart. refl))))
+    (quiet-if (fits .reports) Unsound _
+    (quiet-if (eqb (length t) (cable .n)) Unsound (order.Start cable) (λ list apart. refl)))))
 
-off-quiet : (a room : ℕ) (fits : Bool) (t : Table) → Quiet (orderFor (command.Off a) room fits t)
+off-quiet : (a room : ℕ) (fits : Beside) (t : Table) → Quiet (orderFor (command.Off a) room fits t)
 unfolding orderFor
 off-quiet a room fits t =
-    quiet-if (fineTable (surveyOf t) (length t)) Unsound _ (quiet-if (nodeNumber (surveyOf t .cable .n) a) NodeNumber _ (quiet-if fits LedgerUnfit (order.Off a) (λ list apart. refl)))
+    quiet-if (fineTable (surveyOf t) (length t)) Unsound _ (quiet-if (nodeNumber (surveyOf t .cable .n) a) NodeNumber _ (quiet-if (fits .ledger) LedgerUnfit (order.Off a) (λ list apart. refl)))
 
-restart-quiet : (a room : ℕ) (fits : Bool) (t : Table) → Quiet (orderFor (command.Restart a) room fits t)
+restart-quiet : (a room : ℕ) (fits : Beside) (t : Table) → Quiet (orderFor (command.Restart a) room fits t)
 unfolding orderFor
 restart-quiet a room fits t =
     quiet-if (fineTable (surveyOf t) (length t)) Unsound _ (quiet-if (nodeNumber (surveyOf t .cable .n) a) NodeNumber _ (quiet-if (has (surveyOf t .out) a) NotOut (order.Restart a) (λ list apart. refl)))
 
 -- ---- each call
 
-outcome-told : (c : Command) (room : ℕ) (fits : Bool) (t : Table) → let o = orderFor c room fits t in outcomeBy o (notesOf o t .lists .list) (apartBy o t) ≡ outcomeOf c t (calledBy o t)
+outcome-told : (c : Command) (room : ℕ) (fits : Beside) (t : Table) → let o = orderFor c room fits t in outcomeBy o (notesOf o t .lists .list) (apartBy o t) ≡ outcomeOf c t (calledBy o t)
 outcome-told (command.SetUp cable) room fits t = set-up-quiet cable room fits t _ _
 outcome-told (command.Off a) room fits t = off-quiet a room fits t _ _
 outcome-told (command.Restart a) room fits t = restart-quiet a room fits t _ _
-outcome-told (command.Slot lost missed) room fits t = slot-ends lost missed room fits t
+outcome-told (command.Slot lost missed jobs) room fits t = slot-ends lost missed jobs room fits t
 outcome-told (command.Look lost) room fits t = look-ends lost room fits t
 
 -- what an order leaves, and what is answered
 abbrev pub done-by : Order → Table → Ended
 done-by o t = record { table = carriedFrom o 0 t; reply = replyBy o (notesOf o t) (membersOf (take (reachOf (notesOf o t)) (carriedFrom o 0 t))) }
 
-pub is-ended : (c : Command) (fits : Bool) (t : Table) (out : List ℕ) → done-by (orderFor c (length out) fits t) t ≡ endedBy c t (calledFit c (length out) fits t)
+pub is-ended : (c : Command) (fits : Beside) (t : Table) (out : List ℕ) → done-by (orderFor c (length out) fits t) t ≡ endedBy c t (calledFit c (length out) fits t)
 is-ended c fits t out =
     let o = orderFor c (length out) fits t in
     ap₂ (λ (x : Outcome) (y : ℕ). record { table = carriedFrom o 0 t; reply = record { outcome = x; pairs = y } }) (outcome-told c (length out) fits t) (pairs-told c fits t out)

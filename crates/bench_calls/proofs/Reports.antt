@@ -11,12 +11,14 @@ use lib.ListN.{length, getD, set, take, drop, length-set, length-replicate, leng
 use lib.Seq.{getD-take, take-length}
 use borrow.Author.Tests.{leb-true, le-leb, lt-ltb}
 use Rattle.refusal.specs.declared.Refusal.{Refusal}
-use Rattle.refusal.specs.declared.Refusal.the-variants.{RingSize, SponsorCount, NodeNumber, Unsound, SlotLimit, OutputShort, NotOut, LedgerUnfit, JobCount}
+use Rattle.refusal.specs.declared.Refusal.the-variants.{RingSize, SponsorCount, NodeNumber, Unsound, SlotLimit, OutputShort, NotOut, LedgerUnfit, JobCount, SpareBit}
 use Rattle.nodeset.specs.Sets.{has, within}
 use Rattle.nodeset.proofs.Tests.{by-cases, all, chosen}
 use Rattle.ring.specs.declared.Cable.{Cable}
 use Rattle.ring.specs.Ring.{ringSize, sponsorCount, jobCount, nodeNumber}
 use Rattle.ring.proofs.Ranges.{ring-size}
+use Rattle.message.specs.Message.{jobsWithin}
+use Rattle.bench_walks.specs.declared.Beside.{Beside}
 use Rattle.node_record.specs.declared.Node.{Node}
 use Rattle.node_record.specs.declared.State.{State}
 use Rattle.node_record.specs.Soundness.{limit}
@@ -366,15 +368,17 @@ told-if : (b : Bool) (cause : Refusal) (o : Order) (t : Table) (out : List ℕ) 
 told-if true cause o t out h = h refl
 told-if false cause o t out h = (refl, none-written (ordered (notesOf (order.Refuse cause) t .pairs) .bytes) out)
 
-pub slot-told : (lost : Bool) (missed : ℕ) (fits : Bool) (t : Table) (out : List ℕ) → SlotTold (orderFor (command.Slot lost missed) (length out) fits t) t out
+pub slot-told : (lost : Bool) (missed jobs : ℕ) (fits : Beside) (t : Table) (out : List ℕ) → SlotTold (orderFor (command.Slot lost missed jobs) (length out) fits t) t out
 unfolding orderFor
-slot-told lost missed fits t out =
+slot-told lost missed jobs fits t out =
     told-if (fineTable (surveyOf t) (length t)) Unsound _ t out (λ ok.
+    told-if (fits .reports) Unsound _ t out (λ _.
     told-if (within (surveyOf t .cable .n) missed) NodeNumber _ t out (λ h.
-    told-if fits LedgerUnfit _ t out (λ _.
+    told-if (fits .ledger) LedgerUnfit _ t out (λ _.
     told-if (ltb (surveyOf t .slots) limit) SlotLimit _ t out (λ l.
+    told-if (jobsWithin (surveyOf t .cable .m) jobs) SpareBit _ t out (λ _.
     told-if (leb 64 (length out)) OutputShort (order.Slot (turnOf lost missed (surveyOf t))) t out (λ r.
-    done-told (order.Slot (turnOf lost missed (surveyOf t))) t out (sym (fine-table t) ∙ ok, leb-true 64 (length out) r))))))
+    done-told (order.Slot (turnOf lost missed (surveyOf t))) t out (sym (fine-table t) ∙ ok, leb-true 64 (length out) r))))))))
 
 -- ---- the other calls: no pairs
 
@@ -385,46 +389,47 @@ silent-if : (b : Bool) (cause : Refusal) (o : Order) → Silent o → Silent (if
 silent-if true cause o h m = h m
 silent-if false cause o h m = refl
 
-silent-written : (c : Command) (fits : Bool) (t : Table) (out : List ℕ) → let o = orderFor c (length out) fits t in Silent o → writtenBy o (notesOf o t) out ≡ out
+silent-written : (c : Command) (fits : Beside) (t : Table) (out : List ℕ) → let o = orderFor c (length out) fits t in Silent o → writtenBy o (notesOf o t) out ≡ out
 silent-written c fits t out h =
     let m = notesOf (orderFor c (length out) fits t) t in
     ap (λ (k : ℕ). puts (ordered (m .pairs) .bytes) (bytesTold k (length out)) out) (h m) ∙ none-written (ordered (m .pairs) .bytes) out
 
-set-up-silent : (cable : Cable) (room : ℕ) (fits : Bool) (t : Table) → Silent (orderFor (command.SetUp cable) room fits t)
+set-up-silent : (cable : Cable) (room : ℕ) (fits : Beside) (t : Table) → Silent (orderFor (command.SetUp cable) room fits t)
 unfolding orderFor
 set-up-silent cable room fits t =
     silent-if (ringSize (cable .n)) RingSize _
     (silent-if (sponsorCount cable) SponsorCount _
     (silent-if (jobCount (cable .m)) JobCount _
-    (silent-if (eqb (length t) (cable .n)) Unsound (order.Start cable) (λ m. refl))))
+    (silent-if (fits .reports) Unsound _
+    (silent-if (eqb (length t) (cable .n)) Unsound (order.Start cable) (λ m. refl)))))
 
-off-silent : (a room : ℕ) (fits : Bool) (t : Table) → Silent (orderFor (command.Off a) room fits t)
+off-silent : (a room : ℕ) (fits : Beside) (t : Table) → Silent (orderFor (command.Off a) room fits t)
 unfolding orderFor
 off-silent a room fits t =
-    silent-if (fineTable (surveyOf t) (length t)) Unsound _ (silent-if (nodeNumber (surveyOf t .cable .n) a) NodeNumber _ (silent-if fits LedgerUnfit (order.Off a) (λ m. refl)))
+    silent-if (fineTable (surveyOf t) (length t)) Unsound _ (silent-if (nodeNumber (surveyOf t .cable .n) a) NodeNumber _ (silent-if (fits .ledger) LedgerUnfit (order.Off a) (λ m. refl)))
 
-restart-silent : (a room : ℕ) (fits : Bool) (t : Table) → Silent (orderFor (command.Restart a) room fits t)
+restart-silent : (a room : ℕ) (fits : Beside) (t : Table) → Silent (orderFor (command.Restart a) room fits t)
 unfolding orderFor
 restart-silent a room fits t =
     silent-if (fineTable (surveyOf t) (length t)) Unsound _ (silent-if (nodeNumber (surveyOf t .cable .n) a) NodeNumber _ (silent-if (has (surveyOf t .out) a) NotOut (order.Restart a) (λ m. refl)))
 
-look-silent : (lost : Bool) (room : ℕ) (fits : Bool) (t : Table) → Silent (orderFor (command.Look lost) room fits t)
+look-silent : (lost : Bool) (room : ℕ) (fits : Beside) (t : Table) → Silent (orderFor (command.Look lost) room fits t)
 unfolding orderFor
 look-silent lost room fits t = silent-if (fineTable (surveyOf t) (length t)) Unsound (order.Look (surveyOf t .slots) (surveyOf t .sender) (fateBy lost (surveyOf t .speaker))) (λ m. refl)
 
 -- ---- each call
 
-pub pairs-told : (c : Command) (fits : Bool) (t : Table) (out : List ℕ) → let o = orderFor c (length out) fits t in pairsBy o (notesOf o t) ≡ pairsOf c t (calledBy o t)
+pub pairs-told : (c : Command) (fits : Beside) (t : Table) (out : List ℕ) → let o = orderFor c (length out) fits t in pairsBy o (notesOf o t) ≡ pairsOf c t (calledBy o t)
 pairs-told (command.SetUp cable) fits t out = set-up-silent cable (length out) fits t _
 pairs-told (command.Off a) fits t out = off-silent a (length out) fits t _
 pairs-told (command.Restart a) fits t out = restart-silent a (length out) fits t _
-pairs-told (command.Slot lost missed) fits t out = slot-told lost missed fits t out .0
+pairs-told (command.Slot lost missed jobs) fits t out = slot-told lost missed jobs fits t out .0
 pairs-told (command.Look lost) fits t out = look-silent lost (length out) fits t _
 
-pub bytes-told : (c : Command) (fits : Bool) (t : Table) (out : List ℕ) → let o = orderFor c (length out) fits t in writtenBy o (notesOf o t) out ≡ bytesBy c t (calledFit c (length out) fits t) out
+pub bytes-told : (c : Command) (fits : Beside) (t : Table) (out : List ℕ) → let o = orderFor c (length out) fits t in writtenBy o (notesOf o t) out ≡ bytesBy c t (calledFit c (length out) fits t) out
 bytes-told (command.SetUp cable) fits t out = silent-written (command.SetUp cable) fits t out (set-up-silent cable (length out) fits t)
 bytes-told (command.Off a) fits t out = silent-written (command.Off a) fits t out (off-silent a (length out) fits t)
 bytes-told (command.Restart a) fits t out = silent-written (command.Restart a) fits t out (restart-silent a (length out) fits t)
-bytes-told (command.Slot lost missed) fits t out =
-    slot-told lost missed fits t out .1 ∙ ap (λ (called : Called). slotBytes t called out) (called-by (command.Slot lost missed) (length out) fits t)
+bytes-told (command.Slot lost missed jobs) fits t out =
+    slot-told lost missed jobs fits t out .1 ∙ ap (λ (called : Called). slotBytes t called out) (called-by (command.Slot lost missed jobs) (length out) fits t)
 bytes-told (command.Look lost) fits t out = silent-written (command.Look lost) fits t out (look-silent lost (length out) fits t)

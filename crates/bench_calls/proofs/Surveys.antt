@@ -9,7 +9,7 @@ use native.Mathlib.Omega.{arith}
 use lib.Dec.{eqb}
 use lib.ListN.{length, getD}
 use borrow.Author.Tests.{eqb-true, eqb-false, eq-eqb, ne-eqb, leb-true}
-use Rattle.nodeset.specs.Sets.{has, with}
+use Rattle.nodeset.specs.Sets.{has, with, withIf}
 use Rattle.nodeset.proofs.Tests.{by-cases, both, chosen, otherwise}
 use Rattle.nodeset.proofs.Bits.{has-none}
 use Rattle.nodeset.proofs.Laws.{has-with, has-with-other}
@@ -17,6 +17,7 @@ use Rattle.ring.specs.declared.Cable.{Cable}
 use Rattle.ring.specs.Ring.{ringSize, nodeNumber, sender}
 use Rattle.ring.proofs.Ranges.{ring-size, node-number}
 use Rattle.ring.proofs.Senders.{sender-range}
+use Rattle.bench.specs.Reports.{jobsOn}
 use Rattle.node_record.specs.declared.Node.{Node}
 use Rattle.node_record.specs.States.{isOut}
 use Rattle.node_record.specs.Soundness.{sound, limit}
@@ -25,7 +26,7 @@ use Rattle.node.specs.Calls.{noNode}
 use Rattle.bench_walks.specs.declared.Survey.{Survey}
 use Rattle.bench.specs.Table.{Table, recordOf, inPlace, placedFrom, tableSound, slotsOf, speaker}
 use Rattle.bench.proofs.Places.{in-place}
-use Rattle.bench_walks.specs.Survey.{foldFrom, nodeIn, senderAfter, begun, outWith, seen, surveyed, unseen, surveyOf, fineTable}
+use Rattle.bench_walks.specs.Survey.{foldFrom, nodeIn, senderAfter, begun, seen, surveyed, unseen, surveyOf, fineTable}
 
 -- ---- the first record begins the survey, and then each is only seen
 
@@ -82,14 +83,20 @@ unfolding foldFrom
 speaker-is s i [] = refl
 speaker-is s i (v ∷ t) = speaker-is (seen s i v) (suc i) t
 
-abbrev outFrom : ℕ → Table → ℕ
-outFrom out [] = out
-outFrom out (v ∷ t) = outFrom (outWith out v) t
+-- the nodes of which a test holds, with those of a table
+abbrev notedFrom : (Node → Bool) → ℕ → Table → ℕ
+notedFrom g nodes [] = nodes
+notedFrom g nodes (v ∷ t) = notedFrom g (withIf (g v) nodes (v .own)) t
 
-out-is : (s : Survey) (i : ℕ) (t : Table) → foldFrom seen s i t .out ≡ outFrom (s .out) t
+out-is : (s : Survey) (i : ℕ) (t : Table) → foldFrom seen s i t .out ≡ notedFrom (λ v. isOut (v .state)) (s .out) t
 unfolding foldFrom
 out-is s i [] = refl
 out-is s i (v ∷ t) = out-is (seen s i v) (suc i) t
+
+listers-is : (s : Survey) (i : ℕ) (t : Table) → foldFrom seen s i t .listers ≡ notedFrom (λ v. has (v .set) (s .sender)) (s .listers) t
+unfolding foldFrom
+listers-is s i [] = refl
+listers-is s i (v ∷ t) = listers-is (seen s i v) (suc i) t
 
 -- ---- records in their places
 
@@ -130,39 +137,33 @@ module _ {X : Type 0} (g : Node → X) (cable : Cable) (slots : ℕ) where
       ∙ found-at (suc i) x d e t (p .rest) (omega (arith, l, not)) (omega (arith, m))
       ∙ ap (λ (j : ℕ). g (getD (v ∷ t) j e)) (let z : suc (x - suc i) ≡ x - i = omega (arith, l, not) in z))
 
--- who is out
-module _ (cable : Cable) (slots : ℕ) where
-  with-other : (out x : ℕ) (v : Node) → (v .own ≡ x → ⊥) → has (outWith out v) x ≡ has out x
-  with-other out x v h = go (isOut (v .state))
-    where
-      go : (b : Bool) → has (cond b (with out (v .own)) out) x ≡ has out x
-      go true = has-with-other out (v .own) x h
-      go false = refl
+-- of whom a test holds
+pub noted-own : (b : Bool) (nodes x y : ℕ) → y ≡ x → 1 ≤ x → x ≤ 32 → has nodes x ≡ false → has (withIf b nodes y) x ≡ b
+noted-own true nodes x y own low high none = ap (λ (z : ℕ). has (with nodes z) x) own ∙ has-with nodes x low high
+noted-own false nodes x y own low high none = none
 
-  out-before : (i x out : ℕ) (t : Table) → placedFrom cable slots i t ≡ true → x < i → has (outFrom out t) x ≡ has out x
-  out-before i x out [] e l = refl
-  out-before i x out (v ∷ t) e l =
+module _ (g : Node → Bool) (cable : Cable) (slots : ℕ) where
+  noted-other : (b : Bool) (nodes x y : ℕ) → (y ≡ x → ⊥) → has (withIf b nodes y) x ≡ has nodes x
+  noted-other true nodes x y h = has-with-other nodes y x h
+  noted-other false nodes x y h = refl
+
+  noted-before : (i x nodes : ℕ) (t : Table) → placedFrom cable slots i t ≡ true → x < i → has (notedFrom g nodes t) x ≡ has nodes x
+  noted-before i x nodes [] e l = refl
+  noted-before i x nodes (v ∷ t) e l =
       let p = placed cable slots i v t e in
-      out-before (suc i) x (outWith out v) t (p .rest) (omega (arith, l)) ∙ with-other out x v (λ h. omega (arith, h, l, p .own))
+      noted-before (suc i) x (withIf (g v) nodes (v .own)) t (p .rest) (omega (arith, l)) ∙ noted-other (g v) nodes x (v .own) (λ h. omega (arith, h, l, p .own))
 
-  pub with-own : (out x : ℕ) (v : Node) → v .own ≡ x → 1 ≤ x → x ≤ 32 → has out x ≡ false → has (outWith out v) x ≡ isOut (v .state)
-  with-own out x v own low high none = go (isOut (v .state))
-    where
-      go : (b : Bool) → has (cond b (with out (v .own)) out) x ≡ b
-      go true = ap (λ (y : ℕ). has (with out y) x) own ∙ has-with out x low high
-      go false = none
-
-  out-at : (i x out : ℕ) (t : Table) → placedFrom cable slots i t ≡ true → 1 ≤ i → i ≤ x → x < i + length t → x ≤ 32 → has out x ≡ false → has (outFrom out t) x ≡ isOut (getD t (x - i) noNode .state)
-  out-at i x out [] e one l m top none = absurd (let q : ⊥ = omega (arith, l, m) in q)
-  out-at i x out (v ∷ t) e one l m top none =
+  noted-at : (i x nodes : ℕ) (t : Table) → placedFrom cable slots i t ≡ true → 1 ≤ i → i ≤ x → x < i + length t → x ≤ 32 → has nodes x ≡ false → has (notedFrom g nodes t) x ≡ g (getD t (x - i) noNode)
+  noted-at i x nodes [] e one l m top none = absurd (let q : ⊥ = omega (arith, l, m) in q)
+  noted-at i x nodes (v ∷ t) e one l m top none =
       let p = placed cable slots i v t e in
       by-cases (eqb i x)
       (λ q. let is : i ≡ x = eqb-true i x q in
-      out-before (suc i) x (outWith out v) t (p .rest) (omega (arith, is)) ∙ with-own out x v (omega (arith, is, p .own)) (omega (arith, one, is)) top none
-      ∙ ap (λ (j : ℕ). isOut (getD (v ∷ t) j noNode .state)) (let z : 0 ≡ x - i = omega (arith, is) in z))
+      noted-before (suc i) x (withIf (g v) nodes (v .own)) t (p .rest) (omega (arith, is)) ∙ noted-own (g v) nodes x (v .own) (omega (arith, is, p .own)) (omega (arith, one, is)) top none
+      ∙ ap (λ (j : ℕ). g (getD (v ∷ t) j noNode)) (let z : 0 ≡ x - i = omega (arith, is) in z))
       (λ q. let not : i ≡ x → ⊥ = eqb-false i x q in
-      out-at (suc i) x (outWith out v) t (p .rest) (omega arith) (omega (arith, l, not)) (omega (arith, m)) top (with-other out x v (λ f. not (omega (arith, f, p .own))) ∙ none)
-      ∙ ap (λ (j : ℕ). isOut (getD (v ∷ t) j noNode .state)) (let z : suc (x - suc i) ≡ x - i = omega (arith, l, not) in z))
+      noted-at (suc i) x (withIf (g v) nodes (v .own)) t (p .rest) (omega arith) (omega (arith, l, not)) (omega (arith, m)) top (noted-other (g v) nodes x (v .own) (λ f. not (omega (arith, f, p .own))) ∙ none)
+      ∙ ap (λ (j : ℕ). g (getD (v ∷ t) j noNode)) (let z : suc (x - suc i) ≡ x - i = omega (arith, l, not) in z))
 
 -- ---- a table and its survey
 
@@ -181,10 +182,12 @@ pub record Said (t : Table) : Type 0 where
   pub rows : placedFrom (recordOf t 1 .cable) (slotsOf t) 1 t ≡ true
   pub bounded : slotsOf t ≤ limit
   pub n : surveyOf t .cable .n ≡ length t
+  pub jobs : surveyOf t .cable .m ≡ jobsOn t
   pub slots : surveyOf t .slots ≡ slotsOf t
   pub sender : surveyOf t .sender ≡ speaker t
   pub spoken : surveyOf t .speaker ≡ recordOf t (speaker t)
   pub out : (a : ℕ) → nodeNumber (length t) a ≡ true → has (surveyOf t .out) a ≡ isOut (recordOf t a .state)
+  pub listers : (a : ℕ) → nodeNumber (length t) a ≡ true → has (surveyOf t .listers) a ≡ has (recordOf t a .set) (speaker t)
 
 -- the sender of a record of a ring
 pub sender-after : (v : Node) → ringSize (v .cable .n) ≡ true → senderAfter v ≡ sender (v .cable .n) (v .slots + 1)
@@ -205,7 +208,7 @@ unfolding recordOf
 first-is v t = refl
 
 pub said : (t : Table) → tableSound t ≡ true → Said t
-unfolding tableSound slotsOf speaker
+unfolding tableSound slotsOf speaker jobsOn
 said [] e = absurd (true≢false (sym e))
 said (v ∷ t) e =
     let c = both (eqb (v .cable .n) (suc (length t))) (placedFrom (v .cable) (v .slots) 1 (v ∷ t)) e in
@@ -214,6 +217,9 @@ said (v ∷ t) e =
     let ring-v : ringSize (v .cable .n) ≡ true = clauses v (p .good) .choices .ring in
     let range = sender-range (v .cable .n) (omega (arith, ring-size (v .cable .n) ring-v .0)) (v .slots + 1) in
     let first = first-is v t in
+    let noted : (g : Node → Bool) (a : ℕ) → nodeNumber (suc (length t)) a ≡ true → has (notedFrom g 0 (v ∷ t)) a ≡ g (recordOf (v ∷ t) a)
+    = λ g a h. let m = node-number (suc (length t)) a h in
+    noted-at g (v .cable) (v .slots) 1 a 0 (v ∷ t) (c .1) (omega arith) (m .0) (omega (arith, m .1)) (omega (arith, m .1, ring-size (v .cable .n) ring-v .1, n-is′)) (has-none a) ∙ ap g (there-is (v ∷ t) a) in
     let speaks : sender (v .cable .n) (v .slots + 1) ≡ sender (suc (length t)) (recordOf (v ∷ t) 1 .slots + 1) = ap₂ (λ (m s : ℕ). sender m (s + 1)) n-is′ (sym (ap (λ (w : Node). w .slots) first)) in
     record {
       ring = subst (λ (m : ℕ). ringSize m ≡ true) n-is′ ring-v;
@@ -221,14 +227,15 @@ said (v ∷ t) e =
       rows = subst (λ (w : Node). placedFrom (w .cable) (w .slots) 1 (v ∷ t) ≡ true) (sym first) (c .1);
       bounded = omega (arith, leb-true (v .slots) limit (clauses v (p .good) .slots), ap (λ (w : Node). w .slots) first);
       n = ap (λ (s : Survey). s .cable .n) (survey-is v t) ∙ ap (λ (c : Cable). c .n) (cable-is (begun true v) 0 (v ∷ t)) ∙ n-is′;
+      jobs = ap (λ (s : Survey). s .cable .m) (survey-is v t) ∙ ap (λ (c : Cable). c .m) (cable-is (begun true v) 0 (v ∷ t)) ∙ sym (ap (λ (w : Node). w .cable .m) first);
       slots = ap (λ (s : Survey). s .slots) (survey-is v t) ∙ slots-is (begun true v) 0 (v ∷ t) ∙ sym (ap (λ (w : Node). w .slots) first);
       sender = ap (λ (s : Survey). s .sender) (survey-is v t) ∙ sender-is (begun true v) 0 (v ∷ t) ∙ sender-after v ring-v ∙ speaks;
       spoken = ap (λ (s : Survey). s .speaker) (survey-is v t) ∙ speaker-is (begun true v) 0 (v ∷ t)
           ∙ there (λ w. w) (v .cable) (v .slots) (senderAfter v) v (v ∷ t) (c .1) (omega (arith, range .0, sender-after v ring-v)) (omega (arith, range .1, sender-after v ring-v, n-is′))
           ∙ ap (recordOf (v ∷ t)) (sender-after v ring-v ∙ speaks);
       out = λ a h.
-          let m = node-number (suc (length t)) a h in
-          let r = ring-size (v .cable .n) ring-v in
-          ap (λ (s : Survey). has (s .out) a) (survey-is v t) ∙ ap (λ (x : ℕ). has x a) (out-is (begun true v) 0 (v ∷ t))
-          ∙ out-at (v .cable) (v .slots) 1 a 0 (v ∷ t) (c .1) (omega arith) (m .0) (omega (arith, m .1)) (omega (arith, m .1, r .1, n-is′)) (has-none a) ∙ ap (λ (w : Node). isOut (w .state)) (there-is (v ∷ t) a);
+          ap (λ (s : Survey). has (s .out) a) (survey-is v t) ∙ ap (λ (x : ℕ). has x a) (out-is (begun true v) 0 (v ∷ t)) ∙ noted (λ w. isOut (w .state)) a h;
+      listers = λ a h.
+          ap (λ (s : Survey). has (s .listers) a) (survey-is v t) ∙ ap (λ (x : ℕ). has x a) (listers-is (begun true v) 0 (v ∷ t)) ∙ noted (λ w. has (w .set) (senderAfter v)) a h
+          ∙ ap (has (recordOf (v ∷ t) a .set)) (sender-after v ring-v ∙ speaks);
     }

@@ -11,7 +11,6 @@ use lib.Dec.{eqb, leb, ltb}
 use lib.ListN.{length, getD}
 use borrow.Author.Tests.{eqb-true, ltb-true, lt-ltb}
 use Rattle.refusal.specs.declared.Refusal.{Refusal}
-use Rattle.refusal.specs.declared.Refusal.the-variants.{SponsorCount, Unsound, JobCount}
 use Rattle.refusal.specs.Causes.{cause}
 use Rattle.nodeset.specs.Sets.{has, within}
 use Rattle.nodeset.proofs.Tests.{by-cases, chosen}
@@ -19,6 +18,9 @@ use Rattle.ring.specs.declared.Cable.{Cable}
 use Rattle.ring.specs.Ring.{ringSize, sponsorCount, jobCount, nodeNumber, sender}
 use Rattle.ring.proofs.Ranges.{ring-size}
 use Rattle.ring.proofs.Senders.{sender-range}
+use Rattle.bench.specs.Reports.{jobsOn}
+use Rattle.message.specs.Message.{jobsWithin}
+use Rattle.bench_walks.specs.declared.Beside.{Beside}
 use Rattle.message.specs.declared.Reading.{Reading}
 use Rattle.node_record.specs.declared.Node.{Node}
 use Rattle.node_record.specs.declared.Cause.the-variants.{SwitchedOff}
@@ -40,11 +42,11 @@ use Rattle.bench.specs.declared.Fate.{Fate}
 use Rattle.bench.specs.Table.{Table, eachFrom, placedFrom, tableSound, nodeCount, slotsOf, recordOf, speaker}
 use Rattle.bench.specs.Calls as bench
 use Rattle.bench.specs.Calls.{Called, done, ifPassed, setUpOf, startTable, offOf, tableAfterOff, restartOf, tableAfterRestart, slotOf, heardBy, spoken, transmits, unheard, lookOf}
-use Rattle.bench.specs.Outcomes.{calledOf}
+use Rattle.bench.specs.Outcomes.{calledOf, slotGiven}
 use Rattle.bench.proofs.Places.{sound-placed}
 use Rattle.bench.proofs.Counted.{step-done}
 use Rattle.bench_walks.specs.Survey.{surveyOf, fineTable}
-use Rattle.bench_walks.specs.Orders.{ifGood, spokenBy, turnOf, orderFor, heardAt, stepAt, carried, fateBy, answerTo}
+use Rattle.bench_walks.specs.Orders.{ifGood, spokenBy, turnOf, orderFor, heardAt, stepAt, carried, fateBy, answerTo, allFit}
 use Rattle.bench_calls.proofs.Surveys.{Placed, placed, fine-table, Said, said}
 
 -- ---- each record
@@ -89,12 +91,14 @@ by-place f g h i (v ∷ t) l = ap₂ {C = List Node} (λ w r. w ∷ r) (h i v (o
 
 -- ---- an order carried out
 
--- the call that a command asks for, where a ledger fits or not
-abbrev pub calledFit : Command → ℕ → Bool → Table → Called
-calledFit (command.SetUp cable) room fits t = calledOf (command.SetUp cable) room t
-calledFit (command.Off a) room fits t = ifPassed (tableSound t) 4 t (ifPassed (nodeNumber (nodeCount t) a) 3 t (ifPassed fits 13 t (offOf a t)))
+-- the call that a command asks for, where ledger and counts fit or not
+abbrev pub calledFit : Command → ℕ → Beside → Table → Called
+calledFit (command.SetUp cable) room fits t =
+    ifPassed (ringSize (cable .n)) 1 t (ifPassed (sponsorCount cable) 2 t (ifPassed (jobCount (cable .m)) 14 t (ifPassed (fits .reports) 4 t (setUpOf cable t))))
+calledFit (command.Off a) room fits t = ifPassed (tableSound t) 4 t (ifPassed (nodeNumber (nodeCount t) a) 3 t (ifPassed (fits .ledger) 13 t (offOf a t)))
 calledFit (command.Restart a) room fits t = calledOf (command.Restart a) room t
-calledFit (command.Slot lost missed) room fits t = ifPassed (tableSound t) 4 t (ifPassed (within (nodeCount t) missed) 3 t (ifPassed fits 13 t (slotOf lost missed room t)))
+calledFit (command.Slot lost missed jobs) room fits t =
+    ifPassed (tableSound t) 4 t (ifPassed (fits .reports) 4 t (ifPassed (within (nodeCount t) missed) 3 t (ifPassed (fits .ledger) 13 t (slotGiven lost missed jobs room t))))
 calledFit (command.Look lost) room fits t = calledOf (command.Look lost) room t
 
 abbrev pub calledBy : Order → Table → Called
@@ -115,13 +119,13 @@ off-node : (v : Node) → sound v ≡ true → outFor SwitchedOff v ≡ node.off
 unfolding node.offOf
 off-node v e = rw e
 
-off-called : (a room : ℕ) (fits : Bool) (t : Table) → calledBy (orderFor (command.Off a) room fits t) t ≡ calledFit (command.Off a) room fits t
+off-called : (a room : ℕ) (fits : Beside) (t : Table) → calledBy (orderFor (command.Off a) room fits t) t ≡ calledFit (command.Off a) room fits t
 unfolding orderFor offOf carried
 off-called a room fits t =
     passes 4 _ t _ (fine-table t) (λ ok.
     let s = said t ok in
     passes 3 _ t _ (ap (λ (m : ℕ). nodeNumber m a) (s .n)) (λ h.
-    passes {b = fits} 13 (order.Off a) t _ refl (λ _. ap done (tables (s .rows)) ∙ opened ok h)))
+    passes {b = fits .ledger} 13 (order.Off a) t _ refl (λ _. ap done (tables (s .rows)) ∙ opened ok h)))
   where
     opened : tableSound t ≡ true → nodeNumber (nodeCount t) a ≡ true → done (tableAfterOff a t) ≡ offOf a t
     opened ok h = rw (ok, h) refl
@@ -135,7 +139,7 @@ restart-node : (v : Node) → sound v ≡ true → isOut (v .state) ≡ true →
 unfolding node.restartOf
 restart-node v e out = rw (e, out)
 
-restart-called : (a room : ℕ) (fits : Bool) (t : Table) → calledBy (orderFor (command.Restart a) room fits t) t ≡ restartOf a t
+restart-called : (a room : ℕ) (fits : Beside) (t : Table) → calledBy (orderFor (command.Restart a) room fits t) t ≡ restartOf a t
 unfolding orderFor restartOf carried
 restart-called a room fits t =
     passes 4 _ t _ (fine-table t) (λ ok.
@@ -155,19 +159,17 @@ restart-called a room fits t =
         by-record (recordOf t 1 .cable) (slotsOf t) (carried (order.Restart a)) (λ i v. cond (eqb i a) (node.restartOf v .node) v) t rows
         (λ j v u p is. ap (λ (i : ℕ). cond (eqb i a) (fresh v) v) (p .own) ∙ one j v (p .good) out is)
 
-set-up-called : (cable : Cable) (room : ℕ) (fits : Bool) (t : Table) → calledBy (orderFor (command.SetUp cable) room fits t) t ≡ setUpOf cable t
+set-up-called : (cable : Cable) (room : ℕ) (fits : Beside) (t : Table) → calledBy (orderFor (command.SetUp cable) room fits t) t ≡ calledFit (command.SetUp cable) room fits t
 unfolding orderFor setUpOf carried
 set-up-called cable room fits t =
-    passes {b = ringSize n} 1 (ifGood (sponsorCount cable) SponsorCount (ifGood (jobCount (cable .m)) JobCount last)) t _ refl (λ ring.
-    passes {b = sponsorCount cable} 2 (ifGood (jobCount (cable .m)) JobCount last) t _ refl (λ sponsors.
-    passes {b = jobCount (cable .m)} 14 last t _ refl (λ jobs.
-    passes {b = eqb (length t) n} 4 (order.Start cable) t _ refl (λ size. ap done (tables ring size)))))
+    passes {b = ringSize (cable .n)} 1 _ t _ refl (λ ring.
+    passes {b = sponsorCount cable} 2 _ t _ refl (λ sponsors.
+    passes {b = jobCount (cable .m)} 14 _ t _ refl (λ jobs.
+    passes {b = fits .reports} 4 _ t _ refl (λ _.
+    passes {b = eqb (length t) (cable .n)} 4 (order.Start cable) t _ refl (λ size. ap done (tables ring size)) ∙ opened ring sponsors jobs))))
   where
-    n : ℕ
-    n = cable .n
-
-    last : Order
-    last = ifGood (eqb (length t) (cable .n)) Unsound (order.Start cable)
+    opened : ringSize (cable .n) ≡ true → sponsorCount cable ≡ true → jobCount (cable .m) ≡ true → ifPassed (eqb (length t) (cable .n)) 4 t (done (startTable cable t)) ≡ setUpOf cable t
+    opened a b c = rw (a, b, c) refl
 
     at-most : ringSize (cable .n) ≡ true → eqb (length t) (cable .n) ≡ true → 0 + length t ≤ 32
     at-most ring size = let r = ring-size (cable .n) ring .1 in let e = eqb-true (length t) (cable .n) size in omega (arith, r, e)
@@ -178,7 +180,7 @@ set-up-called cable room fits t =
         (λ j v l. ap (starting cable) (chosen (j + 1) 0 (lt-ltb j 32 l) ∙ add-one j)) 0 t (at-most ring size)
 
 -- what a node hears of the speaker
-hears : (lost : Bool) (missed : ℕ) (t : Table) (i : ℕ) (said′ : Node) → said′ ≡ recordOf t (speaker t) → cond (has missed i) unheard (spokenBy lost said′) ≡ heardBy lost missed t i
+pub hears : (lost : Bool) (missed : ℕ) (t : Table) (i : ℕ) (said′ : Node) → said′ ≡ recordOf t (speaker t) → cond (has missed i) unheard (spokenBy lost said′) ≡ heardBy lost missed t i
 unfolding heardBy spoken transmits
 hears lost missed t i v e = ap (λ (w : Node). cond (has missed i) unheard (spokenBy lost w)) e ∙ go lost (has missed i)
   where
@@ -236,40 +238,49 @@ slot-table lost missed t ok below =
     by-record (recordOf t 1 .cable) (slotsOf t) (carried (order.Slot (turnOf lost missed (surveyOf t)))) (λ i v. node.stepOf (heardBy lost missed t i) v .node) t (s .rows)
     (λ j v u p is. step-is lost missed t ok s below j v u p)
 
-slot-called : (lost : Bool) (missed room : ℕ) (fits : Bool) (t : Table) → calledBy (orderFor (command.Slot lost missed) room fits t) t ≡ calledFit (command.Slot lost missed) room fits t
-unfolding orderFor slotOf
-slot-called lost missed room fits t =
+slot-called : (lost : Bool) (missed jobs room : ℕ) (fits : Beside) (t : Table)
+    → calledBy (orderFor (command.Slot lost missed jobs) room fits t) t ≡ calledFit (command.Slot lost missed jobs) room fits t
+unfolding orderFor slotOf slotGiven
+slot-called lost missed jobs room fits t =
     passes 4 _ t _ (fine-table t) (λ ok.
     let s = said t ok in
+    passes {b = fits .reports} 4 _ t _ refl (λ _.
     passes 3 _ t _ (ap (λ (m : ℕ). within m missed) (s .n)) (λ h.
-    passes {b = fits} 13 _ t _ refl (λ _.
+    passes {b = fits .ledger} 13 _ t _ refl (λ _.
     passes 5 _ t _ (ap (λ (m : ℕ). ltb m limit) (s .slots)) (λ l.
-    passes {b = leb 64 room} 9 (order.Slot (turnOf lost missed (surveyOf t))) t _ refl (λ r. ap done (slot-table lost missed t ok (ltb-true (slotsOf t) limit l))))
-    ∙ opened ok h)))
+    passes 8 _ t _ (ap (λ (m : ℕ). jobsWithin m jobs) (s .jobs)) (λ j.
+    passes {b = leb 64 room} 9 (order.Slot (turnOf lost missed (surveyOf t))) t _ refl (λ r. ap done (slot-table lost missed t ok (ltb-true (slotsOf t) limit l))) ∙ opened ok h l))
+    ∙ given ok h))))
   where
-    opened : tableSound t ≡ true → within (nodeCount t) missed ≡ true
-        → ifPassed (ltb (slotsOf t) limit) 5 t (ifPassed (leb 64 room) 9 t (done (bench.tableAfterSlot lost missed t))) ≡ slotOf lost missed room t
-    opened ok h = rw (ok, h) refl
+    opened : tableSound t ≡ true → within (nodeCount t) missed ≡ true → ltb (slotsOf t) limit ≡ true → ifPassed (leb 64 room) 9 t (done (bench.tableAfterSlot lost missed t)) ≡ slotOf lost missed room t
+    opened ok h l = rw (ok, h, l) refl
 
-look-called : (lost : Bool) (room : ℕ) (fits : Bool) (t : Table) → calledBy (orderFor (command.Look lost) room fits t) t ≡ lookOf t
+    given : tableSound t ≡ true → within (nodeCount t) missed ≡ true
+        → ifPassed (ltb (slotsOf t) limit) 5 t (ifPassed (jobsWithin (jobsOn t) jobs) 8 t (slotOf lost missed room t)) ≡ slotGiven lost missed jobs room t
+    given ok h = rw (ok, h) refl
+
+look-called : (lost : Bool) (room : ℕ) (fits : Beside) (t : Table) → calledBy (orderFor (command.Look lost) room fits t) t ≡ lookOf t
 unfolding orderFor lookOf
 look-called lost room fits t =
     passes {b = fineTable (surveyOf t) (length t)} 4 (order.Look (surveyOf t .slots) (surveyOf t .sender) (fateBy lost (surveyOf t .speaker))) t _ (fine-table t)
     (λ ok. ap done (look-table (surveyOf t .slots) (surveyOf t .sender) (fateBy lost (surveyOf t .speaker)) t))
 
 -- the call that a command asks for
-pub called-by : (c : Command) (room : ℕ) (fits : Bool) (t : Table) → calledBy (orderFor c room fits t) t ≡ calledFit c room fits t
+pub called-by : (c : Command) (room : ℕ) (fits : Beside) (t : Table) → calledBy (orderFor c room fits t) t ≡ calledFit c room fits t
 called-by (command.SetUp cable) room fits t = set-up-called cable room fits t
 called-by (command.Off a) room fits t = off-called a room fits t
 called-by (command.Restart a) room fits t = restart-called a room fits t
-called-by (command.Slot lost missed) room fits t = slot-called lost missed room fits t
+called-by (command.Slot lost missed jobs) room fits t = slot-called lost missed jobs room fits t
 called-by (command.Look lost) room fits t = look-called lost room fits t
 
--- where a ledger fits, the call is the one without it
-pub called-fitting : (c : Command) (room : ℕ) (t : Table) → calledFit c room true t ≡ calledOf c room t
-unfolding slotOf offOf
-called-fitting (command.SetUp cable) room t = refl
+-- where ledger and counts fit, the call is the one without them
+pub called-fitting : (c : Command) (room : ℕ) (t : Table) → calledFit c room allFit t ≡ calledOf c room t
+unfolding setUpOf slotGiven offOf
+called-fitting (command.SetUp cable) room t =
+    by-cases (ringSize (cable .n))
+    (λ a. by-cases (sponsorCount cable) (λ b. by-cases (jobCount (cable .m)) (λ c. rw (a, b, c) refl) (λ c. rw (a, b, c) refl)) (λ b. rw (a, b) refl))
+    (λ a. rw a refl)
 called-fitting (command.Off a) room t = by-cases (tableSound t) (λ e. by-cases (nodeNumber (nodeCount t) a) (λ h. rw (e, h) refl) (λ h. rw (e, h) refl)) (λ e. rw e refl)
 called-fitting (command.Restart a) room t = refl
-called-fitting (command.Slot lost missed) room t = by-cases (tableSound t) (λ e. by-cases (within (nodeCount t) missed) (λ h. rw (e, h) refl) (λ h. rw (e, h) refl)) (λ e. rw e refl)
+called-fitting (command.Slot lost missed jobs) room t = by-cases (tableSound t) (λ e. by-cases (within (nodeCount t) missed) (λ h. rw (e, h) refl) (λ h. rw (e, h) refl)) (λ e. rw e refl)
 called-fitting (command.Look lost) room t = refl

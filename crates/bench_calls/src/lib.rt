@@ -1,21 +1,25 @@
 // The bench (document 01, "The bench"): one function carries out every call over a lent table of node
-// records, a lent ledger and lent bytes. It has no branches; what it decides stands in the functions by
+// records, a lent ledger, lent counts and lent bytes. It has no branches; what it decides stands in the functions by
 // value, the walks over the table in `bench_walks`, what is entered in the ledger in `ledger`.
 use bench::Command;
 use bench::Listed;
 use bench::Outcome;
 use bench::Reply;
+use bench_walks::Beside;
 use bench_walks::Members;
 use bench_walks::Notes;
 use bench_walks::Order;
 use bench_walks::Survey;
+use bench_walks::Turn;
+use message::Reading;
 use node_record::Node;
 ghost use mathlib.Core.Path.{_≡_};
 ghost use Prim.Native.Nat.{_≤_};
 ghost use lib.ListN.{length};
 ghost use Rattle.bench.specs.Ledger.{ledgerFits};
 ghost use Rattle.bench.specs.Kept.{keptOf, bytesWith};
-ghost use Rattle.bench_calls.specs.Work.{workOf, dateBy, enteredBy};
+ghost use Rattle.node_steps.specs.Steps.{isHeard};
+ghost use Rattle.bench_calls.specs.Work.{workOf, dateBy, enteredBy, reportsFitBy, besideBy, hearersIn, hearersBy, jobsBy, isStart, reportedBy};
 ghost use Rattle.bench_walks.specs.Orders.{carriedFrom, reachOf, outcomeBy, pairsBy, replyBy, bytesTold, puts, writtenBy};
 
 // How many records are to be looked through for the distance.
@@ -143,6 +147,32 @@ fn date_of(order: Order, slots: u64) -> u64
     }
 }
 
+// Whether the counts lent fit what is asked, where there are so many arrays and this is the greatest
+// count: one array per node at set-up and in a slot, and in a slot no count above the slot count.
+fn reports_fit(command: Command, s: Survey, arrays: usize, greatest: u64) -> bool
+    ensures { λ r. ⌜ r ≡ reportsFitBy command s arrays greatest ⌝ }
+{
+    match command {
+        Command::SetUp(cable) => arrays == cable.n as usize,
+        Command::Off(_) => true,
+        Command::Restart(_) => true,
+        Command::Slot(_, _, _) => (arrays == s.cable.n as usize) & (greatest <= s.slots),
+        Command::Look(_) => true,
+    }
+}
+
+// Whether ledger and counts fit, where the ledger does or not.
+fn beside(counts: &[[[u64; 8]; 32]], s: Survey, command: Command, fits: bool) -> Beside
+    ensures { λ r. ⌜ r ≡ besideBy command s fits (now (counts .entry)) ⌝ }
+{
+    let greatest = node_reports::greatest(counts);
+    let reports = reports_fit(command, s, counts.len(), greatest);
+    Beside {
+        ledger: fits,
+        reports,
+    }
+}
+
 // Enters who left and who joined in an off or a slot.
 fn enter(ledger: &mut [[u64; 3]], s: Survey, order: Order, work: Work)
     ensures { λ _. ⌜ now (ledger .exit) ≡ enteredBy order (s .slots) (work .notes) (now (ledger .entry)) ⌝ }
@@ -160,6 +190,85 @@ fn enter(ledger: &mut [[u64; 3]], s: Survey, order: Order, work: Work)
     }
 }
 
+// Whether a message is heard where it is not missed.
+fn is_heard(heard: Reading) -> bool
+    ensures { λ r. ⌜ r ≡ isHeard heard ⌝ }
+{
+    match heard {
+        Reading::Heard {
+            acknowledgements: _,
+            return_bit: _,
+        } => true,
+        Reading::Refused(_) => false,
+    }
+}
+
+// The nodes that count the sender's report in a slot.
+fn hearers_in(turn: Turn, listers: u32) -> u32
+    ensures { λ r. ⌜ r ≡ hearersIn turn listers ⌝ }
+{
+    let heard = turn.heard;
+    if !is_heard(heard) {
+        return NOBODY;
+    }
+    nodeset::without(nodeset::minus(listers, turn.missed), turn.sender)
+}
+
+// The set of no node.
+const NOBODY: u32 = 0;
+
+// The nodes that count the sender's report in an order.
+fn hearers_of(order: Order, listers: u32) -> u32
+    ensures { λ r. ⌜ r ≡ hearersBy order listers ⌝ }
+{
+    match order {
+        Order::Refuse(_) => NOBODY,
+        Order::Start(_) => NOBODY,
+        Order::Off(_) => NOBODY,
+        Order::Restart(_) => NOBODY,
+        Order::Slot(turn) => hearers_in(turn, listers),
+        Order::Look(_, _, _) => NOBODY,
+    }
+}
+
+// The job byte that a command has the speaker send.
+fn jobs_of(command: Command, speaker: Node) -> u8
+    ensures { λ r. ⌜ r ≡ jobsBy command speaker ⌝ }
+{
+    match command {
+        Command::SetUp(_) => 0,
+        Command::Off(_) => 0,
+        Command::Restart(_) => 0,
+        Command::Slot(_, _, jobs) => node_sending::jobs_sent(jobs, speaker),
+        Command::Look(_) => 0,
+    }
+}
+
+// Whether an order sets up.
+fn is_start(order: Order) -> bool
+    ensures { λ r. ⌜ r ≡ isStart order ⌝ }
+{
+    match order {
+        Order::Refuse(_) => false,
+        Order::Start(_) => true,
+        Order::Off(_) => false,
+        Order::Restart(_) => false,
+        Order::Slot(_) => false,
+        Order::Look(_, _, _) => false,
+    }
+}
+
+// Counts the report of a slot's sender, and clears the counts at set-up.
+fn report(counts: &mut [[[u64; 8]; 32]], s: Survey, order: Order, command: Command)
+    ensures { λ _. ⌜ now (counts .exit) ≡ reportedBy order command s (now (counts .entry)) ⌝ }
+{
+    let speaker = s.speaker;
+    let hearers = hearers_of(order, s.listers);
+    let jobs = jobs_of(command, speaker);
+    node_reports::add_reports(counts, hearers, s.sender, jobs);
+    node_reports::clear_reports(counts, is_start(order));
+}
+
 // Writes the pairs to the buffer, and answers.
 fn tell(pairs: &mut [u8], order: Order, work: Work) -> Reply
     ensures { λ r. ⌜ (r ≡ replyBy order (work .notes) (work .members)) × (now (pairs .exit) ≡ writtenBy order (work .notes) (now (pairs .entry))) ⌝ }
@@ -175,24 +284,28 @@ fn tell(pairs: &mut [u8], order: Order, work: Work) -> Reply
 }
 
 // Carries a call out. The nodes whose state a slot changed stand in `pairs`, those that left first, each with
-// the kind of its change; who left or joined in an off or a slot is entered in `ledger`. The table is tested once; sets
-// are compared only where two members hold different ones.
-// Set-up refuses by 1, 2, 14 and 4, off by 4, 3 and 13, restart by 4, 3 and 11, a slot by 4, 3, 13, 5 and 9,
-// a look by 4.
+// the kind of its change; who left or joined in an off or a slot is entered in `ledger`; the reports heard in
+// a slot are counted in `counts`, which set-up clears. The table is tested once; sets are compared only where
+// two members hold different ones.
+// Set-up refuses by 1, 2, 14 and 4, off by 4, 3 and 13, restart by 4, 3 and 11, a slot by 4, 3, 13, 5, 8 and
+// 9, a look by 4.
 pub fn call(
     table: &mut [Node],
     ledger: &mut [[u64; 3]],
+    counts: &mut [[[u64; 8]; 32]],
     pairs: &mut [u8],
     command: Command,
 ) -> Reply
-    ensures { λ r. ⌜ (record { table = now (table .exit); ledger = now (ledger .exit); reply = r } ≡ keptOf command (length (now (pairs .entry))) (now (ledger .entry)) (now (table .entry)))
-        × (now (pairs .exit) ≡ bytesWith command (now (ledger .entry)) (now (table .entry)) (now (pairs .entry))) ⌝ }
+    ensures { λ r. ⌜ (record { table = now (table .exit); ledger = now (ledger .exit); counts = now (counts .exit); reply = r } ≡ keptOf command (length (now (pairs .entry))) (now (ledger .entry)) (now (counts .entry)) (now (table .entry)))
+        × (now (pairs .exit) ≡ bytesWith command (now (ledger .entry)) (now (counts .entry)) (now (table .entry)) (now (pairs .entry))) ⌝ }
 {
     let size = table.len();
     let survey = bench_walks::look_over(table, size);
     let fit = fits(ledger, survey);
-    let order = bench_walks::order_of(command, survey, size, pairs.len(), fit);
+    let beside = beside(counts, survey, command, fit);
+    let order = bench_walks::order_of(command, survey, size, pairs.len(), beside);
     let work = carry(table, order);
     enter(ledger, survey, order, work);
+    report(counts, survey, order, command);
     tell(pairs, order, work)
 }

@@ -1,24 +1,31 @@
 // Runs calls of the bench for a test. Commands from standard input act on 32 rows, the first of which
-// are the table, and on 33 entries, the first of which are the ledger; the answers go to standard
-// output. Each command is a letter, a byte and further bytes. Numbers have four bytes, figures eight,
-// lowest first; `lost` is a byte, 1 for yes; input that ends within a command counts as followed by
-// zeros.
+// are the table, on 33 entries, the first of which are the ledger, and on 33 arrays of 32 rows of 8
+// counts, the first of which are the counts lent; the answers go to standard output. Each command is a
+// letter, a byte and further bytes. Numbers have four bytes, figures and counts eight, lowest first;
+// `lost` is a byte, 1 for yes; `row`, `job` and `jobs` are a byte each; input that ends within a command
+// counts as followed by zeros.
 //
 //   N size                      the table is the first `size` rows, all if fewer; no answer
 //   L row record                row 0 to 31 becomes this record; no answer
 //   M entries                   the ledger is the first `entries` entries, all if fewer; no answer
 //   G entry left joined last    entry 0 to 32 becomes these figures; no answer
+//   A arrays                    the counts lent are the first `arrays` arrays, all if fewer; no answer
+//   C array row job count       this count becomes that; arrays are 0 to 32, rows 0 to 31, jobs 0 to 7,
+//                               and any other leaves all counts; no answer
+//   K array                     the counts of array 0 to 32; any other number stands for array 0
 //   U room n k m                set-up
 //   F room a                    off
 //   R room a                    restart
-//   S room lost missed          one slot
+//   S room lost missed jobs     one slot
 //   Q room lost                 looks at the table
 //
 // `room` is the length of the lent buffer, each byte of it 0xA5. A call is answered by a byte, 0 or the
 // refusal's number; by 26 bytes of what it tells (`answers`); by the whole buffer; by all 32 rows; and
-// by all 33 entries, three figures each. Any other letter ends the run. Before the first command the
-// table has no row, and a row is of no node; the ledger has no entry, and all figures are 0.
+// by all 33 entries, three figures each. K is answered by the array's 2048 bytes, row by row. Any other
+// letter ends the run. Before the first command the table has no row, and a row is of no node; the
+// ledger has no entry, and all figures are 0; no array is lent, and all counts are 0.
 mod answers;
+mod arrays;
 mod entries;
 
 use bench::Command;
@@ -33,12 +40,14 @@ use run_io::input;
 use run_io::input::Unread;
 use run_io::output;
 
-// What there is from one command to the next beside the entries: the rows, how many are the table, how
-// many entries are the ledger, and the number of bytes that wait in the output.
+// What there is from one command to the next beside the entries and the arrays: the rows, how many are
+// the table, how many entries are the ledger, how many arrays are lent, and the number of bytes that wait
+// in the output.
 struct Held {
     rows: [Node; 32],
     size: u32,
     entries: usize,
+    arrays: usize,
     held: usize,
 }
 
@@ -51,7 +60,8 @@ struct Head {
 
 fn is_command(letter: u8) -> bool {
     match letter {
-        b'N' | b'L' | b'M' | b'G' | b'U' | b'F' | b'R' | b'S' | b'Q' => true,
+        b'N' | b'L' | b'M' | b'G' | b'A' | b'C' | b'K' => true,
+        b'U' | b'F' | b'R' | b'S' | b'Q' => true,
         _ => false,
     }
 }
@@ -61,9 +71,10 @@ fn body(letter: u8) -> u8 {
     match letter {
         b'L' => bytes::RECORD,
         b'G' => 24,
+        b'C' => 10,
         b'U' => 12,
         b'F' | b'R' => 4,
-        b'S' => 5,
+        b'S' => 6,
         b'Q' => 1,
         _ => 0,
     }
@@ -98,7 +109,7 @@ fn command_of(letter: u8, block: &Block) -> Command {
         b'U' => Command::SetUp(cable_of(block)),
         b'F' => Command::Off(block::word(block, 0)),
         b'R' => Command::Restart(block::word(block, 0)),
-        b'S' => Command::Slot(block[0] == 1, block::word(block, 1)),
+        b'S' => Command::Slot(block[0] == 1, block::word(block, 1), block[5]),
         _ => Command::Look(block[0] == 1),
     }
 }
@@ -106,22 +117,42 @@ fn command_of(letter: u8, block: &Block) -> Command {
 // Lends the first `room` bytes.
 fn call(
     ledger: &mut [[u64; 3]],
+    counts: &mut [[[u64; 8]; 32]],
     buffer: &mut [u8],
     room: usize,
     state: Held,
     command: Command,
 ) -> Ran {
     let rows = state.rows;
+    let n = state.size;
     if room <= buffer.len() {
-        bench_by_value::call(ledger, &mut buffer[0..room], rows, state.size, command)
+        bench_by_value::call(ledger, counts, &mut buffer[0..room], rows, n, command)
     } else {
-        bench_by_value::call(ledger, buffer, rows, state.size, command)
+        bench_by_value::call(ledger, counts, buffer, rows, n, command)
+    }
+}
+
+// Lends the first arrays.
+fn call_counting(
+    ledger: &mut [[u64; 3]],
+    arrays: &mut [[[u64; 8]; 32]],
+    buffer: &mut [u8],
+    room: usize,
+    state: Held,
+    command: Command,
+) -> Ran {
+    let end = state.arrays;
+    if end <= arrays.len() {
+        call(ledger, &mut arrays[0..end], buffer, room, state, command)
+    } else {
+        call(ledger, arrays, buffer, room, state, command)
     }
 }
 
 // Lends the first entries.
 fn call_with(
     entries: &mut [[u64; 3]],
+    arrays: &mut [[[u64; 8]; 32]],
     buffer: &mut [u8],
     room: usize,
     state: Held,
@@ -129,9 +160,9 @@ fn call_with(
 ) -> Ran {
     let end = state.entries;
     if end <= entries.len() {
-        call(&mut entries[0..end], buffer, room, state, command)
+        call_counting(&mut entries[0..end], arrays, buffer, room, state, command)
     } else {
-        call(entries, buffer, room, state, command)
+        call_counting(entries, arrays, buffer, room, state, command)
     }
 }
 
@@ -139,26 +170,47 @@ fn call_with(
 fn run_call(
     output: &mut [u8; 4096],
     entries: &mut [[u64; 3]; 33],
+    arrays: &mut [[[u64; 8]; 32]; 33],
     state: Held,
     room: u8,
     command: Command,
 ) -> Held {
     let mut buffer = [0xA5u8; 255];
-    let ran = call_with(entries, &mut buffer, room as usize, state, command);
+    let ran = call_with(entries, arrays, &mut buffer, room as usize, state, command);
     let held = answers::put_told(output, state.held, ran);
     let held = output::put_block(output, held, &buffer, room);
     let rows = ran.rows;
     let held = rows::put_rows(output, held, rows);
     let held = entries::put_entries(output, held, entries);
-    Held {
-        rows: rows,
-        size: state.size,
-        entries: state.entries,
-        held: held,
-    }
+    let mut next = state;
+    next.rows = rows;
+    next.held = held;
+    next
 }
 
-// The commands that have no answer: they say what table and ledger are.
+// The commands on the arrays alone.
+fn run_counts(
+    output: &mut [u8; 4096],
+    arrays: &mut [[[u64; 8]; 32]; 33],
+    state: Held,
+    head: Head,
+    block: &Block,
+) -> Held {
+    let mut next = state;
+    let letter = head.letter;
+    let byte = head.byte;
+    match letter {
+        b'C' => {
+            arrays::load(arrays, byte as usize, block);
+        }
+        _ => {
+            next.held = arrays::put_array(output, state.held, arrays, byte as usize);
+        }
+    }
+    next
+}
+
+// The commands that say what the table, the ledger and the counts lent are.
 fn prepared(entries: &mut [[u64; 3]; 33], state: Held, head: Head, block: &Block) -> Held {
     let mut next = state;
     let letter = head.letter;
@@ -169,6 +221,9 @@ fn prepared(entries: &mut [[u64; 3]; 33], state: Held, head: Head, block: &Block
         }
         b'M' => {
             next.entries = byte as usize;
+        }
+        b'A' => {
+            next.arrays = byte as usize;
         }
         b'L' => {
             let rows = state.rows;
@@ -185,14 +240,23 @@ fn prepared(entries: &mut [[u64; 3]; 33], state: Held, head: Head, block: &Block
 fn run(
     output: &mut [u8; 4096],
     entries: &mut [[u64; 3]; 33],
+    arrays: &mut [[[u64; 8]; 32]; 33],
     state: Held,
     head: Head,
     block: &Block,
 ) -> Held {
     let letter = head.letter;
     match letter {
-        b'N' | b'L' | b'M' | b'G' => prepared(entries, state, head, block),
-        _ => run_call(output, entries, state, head.byte, command_of(letter, block)),
+        b'N' | b'L' | b'M' | b'G' | b'A' => prepared(entries, state, head, block),
+        b'C' | b'K' => run_counts(output, arrays, state, head, block),
+        _ => run_call(
+            output,
+            entries,
+            arrays,
+            state,
+            head.byte,
+            command_of(letter, block),
+        ),
     }
 }
 
@@ -200,10 +264,12 @@ fn run(
 fn run_all(input: &mut [u8; 4096], output: &mut [u8; 4096]) -> usize {
     let mut left = Unread { at: 0, end: 0 };
     let mut entries = [[0u64; 3]; 33];
+    let mut arrays = [node_reports::NO_REPORTS; 33];
     let mut state = Held {
         rows: [node::NO_NODE; 32],
         size: 0,
         entries: 0,
+        arrays: 0,
         held: 0,
     };
     let mut turns = u64::MAX;
@@ -213,7 +279,7 @@ fn run_all(input: &mut [u8; 4096], output: &mut [u8; 4096]) -> usize {
         if !is_command(head.letter) {
             return state.held;
         }
-        state = run(output, &mut entries, state, head, &block);
+        state = run(output, &mut entries, &mut arrays, state, head, &block);
         let rest = head.left;
         left = rest;
         turns -= 1;

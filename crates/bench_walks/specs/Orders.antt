@@ -6,12 +6,13 @@ use mathlib.Core.List.{List}
 use lib.Dec.{eqb, leb, ltb}
 use lib.ListN.{length, getD, set, replicate}
 use Rattle.refusal.specs.declared.Refusal.{Refusal}
-use Rattle.refusal.specs.declared.Refusal.the-variants.{RingSize, SponsorCount, NodeNumber, Unsound, SlotLimit, OutputShort, NotOut, LedgerUnfit, JobCount}
+use Rattle.refusal.specs.declared.Refusal.the-variants.{RingSize, SponsorCount, NodeNumber, Unsound, SlotLimit, SpareBit, OutputShort, NotOut, LedgerUnfit, JobCount}
 use Rattle.nodeset.specs.Sets.{has, within, withIf}
 use Rattle.ring.specs.declared.Cable.{Cable}
 use Rattle.ring.specs.Ring.{ringSize, sponsorCount, jobCount, nodeNumber}
 use Rattle.message.specs.declared.Reading.{Reading}
 use Rattle.message.specs.declared.Reading.the-variants as reading
+use Rattle.message.specs.Message.{jobsWithin}
 use Rattle.node_record.specs.declared.Node.{Node}
 use Rattle.node_record.specs.States.{isMember}
 use Rattle.node_record.specs.Soundness.{limit}
@@ -26,6 +27,7 @@ use Rattle.bench.specs.declared.Command.{Command}
 use Rattle.bench.specs.declared.Command.the-variants as command
 use Rattle.bench_walks.specs.declared.Order.{Order}
 use Rattle.bench_walks.specs.declared.Order.the-variants as order
+use Rattle.bench_walks.specs.declared.Beside.{Beside}
 use Rattle.bench_walks.specs.declared.Turn.{Turn}
 use Rattle.bench_walks.specs.declared.Pairs.{Pairs}
 use Rattle.bench_walks.specs.declared.Moves.{Moves}
@@ -51,13 +53,14 @@ use Rattle.bench_walks.specs.Survey.{foldFrom, surveyOf, fineTable}
 abbrev pub ifGood : Bool → Refusal → Order → Order
 ifGood good cause o = cond good o (order.Refuse cause)
 
-abbrev pub setUpOrder : Cable → ℕ → Order
-setUpOrder cable size =
+abbrev pub setUpOrder : Cable → ℕ → Bool → Order
+setUpOrder cable size reports =
     ifGood (ringSize (cable .n)) RingSize
     (ifGood (sponsorCount cable) SponsorCount
     (ifGood (jobCount (cable .m)) JobCount
+    (ifGood reports Unsound
     (ifGood (eqb size (cable .n)) Unsound
-    (order.Start cable))))
+    (order.Start cable)))))
 
 abbrev pub offOrder : ℕ → Survey → ℕ → Bool → Order
 offOrder a s size fits =
@@ -86,27 +89,33 @@ turnOf lost missed s = record {
   digest = digestOf (s .sender) (spokenBy lost (s .speaker)) (s .speaker .cable) (s .speaker .set);
 }
 
-abbrev pub slotOrder : Bool → ℕ → ℕ → Survey → ℕ → Bool → Order
-slotOrder lost missed room s size fits =
+abbrev pub slotOrder : Bool → ℕ → ℕ → ℕ → Survey → ℕ → Beside → Order
+slotOrder lost missed jobs room s size beside =
     ifGood (fineTable s size) Unsound
+    (ifGood (beside .reports) Unsound
     (ifGood (within (s .cable .n) missed) NodeNumber
-    (ifGood fits LedgerUnfit
+    (ifGood (beside .ledger) LedgerUnfit
     (ifGood (ltb (s .slots) limit) SlotLimit
+    (ifGood (jobsWithin (s .cable .m) jobs) SpareBit
     (ifGood (leb 64 room) OutputShort
-    (order.Slot (turnOf lost missed s))))))
+    (order.Slot (turnOf lost missed s))))))))
 
 abbrev pub lookOrder : Bool → Survey → ℕ → Order
 lookOrder lost s size = ifGood (fineTable s size) Unsound (order.Look (s .slots) (s .sender) (fateBy lost (s .speaker)))
 
-abbrev pub orderOf : Command → Survey → ℕ → ℕ → Bool → Order
-orderOf (command.SetUp cable) s size room fits = setUpOrder cable size
-orderOf (command.Off a) s size room fits = offOrder a s size fits
-orderOf (command.Restart a) s size room fits = restartOrder a s size
-orderOf (command.Slot lost missed) s size room fits = slotOrder lost missed room s size fits
-orderOf (command.Look lost) s size room fits = lookOrder lost s size
+abbrev pub orderOf : Command → Survey → ℕ → ℕ → Beside → Order
+orderOf (command.SetUp cable) s size room beside = setUpOrder cable size (beside .reports)
+orderOf (command.Off a) s size room beside = offOrder a s size (beside .ledger)
+orderOf (command.Restart a) s size room beside = restartOrder a s size
+orderOf (command.Slot lost missed jobs) s size room beside = slotOrder lost missed jobs room s size beside
+orderOf (command.Look lost) s size room beside = lookOrder lost s size
 
-unfoldable pub orderFor : Command → ℕ → Bool → Table → Order
-orderFor c room fits t = orderOf c (surveyOf t) (length t) room fits
+unfoldable pub orderFor : Command → ℕ → Beside → Table → Order
+orderFor c room beside t = orderOf c (surveyOf t) (length t) room beside
+
+-- Nothing lent beside the table is amiss.
+abbrev pub allFit : Beside
+allFit = record { ledger = true; reports = true }
 
 -- ---- carrying an order out
 

@@ -4,7 +4,7 @@ use mathlib.Core.Bool.{Bool, true, false, cond, _&&_}
 use mathlib.Core.List.{List, [], _∷_}
 use lib.Dec.{eqb, leb, ltb}
 use lib.ListN.{getD, length, set, replicate}
-use Rattle.nodeset.specs.Sets.{with, distance}
+use Rattle.nodeset.specs.Sets.{has, withIf, distance}
 use Rattle.ring.specs.Answers.{senderOf}
 use Rattle.ring.specs.declared.Speaker.{Speaker}
 use Rattle.ring.specs.declared.Speaker.the-variants as speaker
@@ -37,11 +37,16 @@ begun fine v = record {
   sender = senderAfter v;
   speaker = v;
   out = 0;
+  listers = 0;
 }
 
 -- The nodes that are out, with one record more.
 abbrev pub outWith : ℕ → Node → ℕ
-outWith out v = cond (isOut (v .state)) (with out (v .own)) out
+outWith out v = withIf (isOut (v .state)) out (v .own)
+
+-- The nodes whose set has the sender, with one record more.
+abbrev pub listersWith : ℕ → ℕ → Node → ℕ
+listersWith listers sender v = withIf (has (v .set) sender) listers (v .own)
 
 -- With the record at index i.
 abbrev pub seen : Survey → ℕ → Node → Survey
@@ -52,6 +57,7 @@ seen s i v = record {
   sender = s .sender;
   speaker = cond (eqb (v .own) (s .sender)) v (s .speaker);
   out = outWith (s .out) v;
+  listers = listersWith (s .listers) (s .sender) v;
 }
 
 -- The first record gives cable and slots.
@@ -86,6 +92,7 @@ glimpsed first speaker other = record {
   sender = senderAfter first;
   speaker = speaker;
   out = outWith 0 other;
+  listers = 0;
 }
 
 abbrev pub recordIn : Table → ℕ → Node

@@ -37,7 +37,7 @@ ghost use Rattle.bench_walks.specs.Survey.{glimpseOf, surveyed, unseen, 
 ghost use Rattle.bench_walks.specs.Orders.{orderOf, carried, carriedFrom, pushed, withPair, noPairs, inGroup, withOne, groupedTo, ordered, movesWith, listWith, sameWith, listsWith, noticed, noNotes, notesOf};
 
 // What a look over a table finds: whether each record stands in its place; the cable and slots of
-// the first; the next sender's number and record; the nodes that are out.
+// the first; the next sender's number and record; the nodes that are out; those whose set has the sender.
 pub struct Survey {
     pub fine: bool,
     pub cable: Cable,
@@ -45,6 +45,13 @@ pub struct Survey {
     pub sender: u32,
     pub speaker: Node,
     pub out: u32,
+    pub listers: u32,
+}
+
+// Whether what is lent beside the table fits: the ledger, and the counts of failure reports.
+pub struct Beside {
+    pub ledger: bool,
+    pub reports: bool,
 }
 
 // The sets of the members, and the greatest distance of two of them.
@@ -125,16 +132,16 @@ pub fn is_fine(s: Survey, size: usize) -> bool
     s.fine & (s.cable.n as usize == size)
 }
 
-// What a command has a table of so many records do, where so many bytes are lent for the pairs, and a
-// ledger that fits or not.
-pub fn order_of(command: Command, s: Survey, size: usize, room: usize, fits: bool) -> Order
-    ensures { λ r. ⌜ r ≡ orderOf command s size room fits ⌝ }
+// What a command has a table of so many records do, where so many bytes are lent for the pairs, and
+// ledger and counts fit or not.
+pub fn order_of(command: Command, s: Survey, size: usize, room: usize, beside: Beside) -> Order
+    ensures { λ r. ⌜ r ≡ orderOf command s size room beside ⌝ }
 {
     match command {
-        Command::SetUp(cable) => set_up_order(cable, size),
-        Command::Off(a) => off_order(a, s, size, fits),
+        Command::SetUp(cable) => set_up_order(cable, size, beside.reports),
+        Command::Off(a) => off_order(a, s, size, beside.ledger),
         Command::Restart(a) => restart_order(a, s, size),
-        Command::Slot(lost, missed) => slot_order(lost, missed, room, s, size, fits),
+        Command::Slot(lost, missed, jobs) => slot_order(lost, missed, jobs, room, s, size, beside),
         Command::Look(lost) => look_order(lost, s, size),
     }
 }

@@ -1,4 +1,5 @@
 // What each record of a table is to do, by value: the tests of each call, in their order.
+use crate::Beside;
 use crate::Order;
 use crate::Survey;
 use crate::Turn;
@@ -12,8 +13,8 @@ ghost use mathlib.Core.Path.{_≡_};
 ghost use Prim.Native.Nat.{_<_, _^_, _-_};
 ghost use Rattle.bench_walks.specs.Orders.{setUpOrder, offOrder, restartOrder, spokenBy, fateBy, turnOf, slotOrder, lookOrder};
 
-pub fn set_up_order(cable: Cable, size: usize) -> Order
-    ensures { λ r. ⌜ r ≡ setUpOrder cable size ⌝ }
+pub fn set_up_order(cable: Cable, size: usize, reports: bool) -> Order
+    ensures { λ r. ⌜ r ≡ setUpOrder cable size reports ⌝ }
 {
     if !ring::is_ring_size(cable.n) {
         return Order::Refuse(Refusal::RingSize);
@@ -23,6 +24,9 @@ pub fn set_up_order(cable: Cable, size: usize) -> Order
     }
     if !ring::is_job_count(cable.m) {
         return Order::Refuse(Refusal::JobCount);
+    }
+    if !reports {
+        return Order::Refuse(Refusal::Unsound);
     }
     if size != cable.n as usize {
         return Order::Refuse(Refusal::Unsound);
@@ -113,20 +117,34 @@ fn turn_of(lost: bool, missed: u32, s: Survey) -> Turn
     }
 }
 
-pub fn slot_order(lost: bool, missed: u32, room: usize, s: Survey, size: usize, fits: bool) -> Order
-    ensures { λ r. ⌜ r ≡ slotOrder lost missed room s size fits ⌝ }
+pub fn slot_order(
+    lost: bool,
+    missed: u32,
+    jobs: u8,
+    room: usize,
+    s: Survey,
+    size: usize,
+    beside: Beside,
+) -> Order
+    ensures { λ r. ⌜ r ≡ slotOrder lost missed jobs room s size beside ⌝ }
 {
     if !is_fine(s, size) {
+        return Order::Refuse(Refusal::Unsound);
+    }
+    if !beside.reports {
         return Order::Refuse(Refusal::Unsound);
     }
     if !nodeset::is_within(s.cable.n, missed) {
         return Order::Refuse(Refusal::NodeNumber);
     }
-    if !fits {
+    if !beside.ledger {
         return Order::Refuse(Refusal::LedgerUnfit);
     }
     if node_record::LIMIT <= s.slots {
         return Order::Refuse(Refusal::SlotLimit);
+    }
+    if !message::jobs_within(s.cable.m, jobs) {
+        return Order::Refuse(Refusal::SpareBit);
     }
     if room < 64 {
         return Order::Refuse(Refusal::OutputShort);

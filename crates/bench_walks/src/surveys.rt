@@ -6,7 +6,7 @@ ghost use mathlib.Core.Path.{_≡_};
 ghost use Prim.Native.Nat.{_+_};
 ghost use lib.Dec.{eqb};
 ghost use Rattle.bench.specs.Table.{inPlace};
-ghost use Rattle.bench_walks.specs.Survey.{senderAfter, begun, glimpsed, indexOf, outWith, seen};
+ghost use Rattle.bench_walks.specs.Survey.{senderAfter, begun, glimpsed, indexOf, outWith, listersWith, seen};
 
 // The sender of the slot that follows those of the record; 0 where its n is no ring's.
 pub fn sender_after(v: Node) -> u32
@@ -32,6 +32,7 @@ pub fn begun(fine: bool, v: Node) -> Survey
         sender,
         speaker: v,
         out: 0,
+        listers: 0,
     }
 }
 
@@ -60,10 +61,14 @@ fn out_with(out: u32, v: Node) -> u32
     ensures { λ r. ⌜ r ≡ outWith out v ⌝ }
 {
     let state = v.state;
-    if node_record::is_out(state) {
-        return nodeset::with(out, v.own);
-    }
-    out
+    nodeset::with_if(node_record::is_out(state), out, v.own)
+}
+
+// The nodes whose set has the sender, with one record more.
+fn listers_with(listers: u32, sender: u32, v: Node) -> u32
+    ensures { λ r. ⌜ r ≡ listersWith listers sender v ⌝ }
+{
+    nodeset::with_if(nodeset::has(v.set, sender), listers, v.own)
 }
 
 // The index of node x among so many records; that of the first where there is no such node.
@@ -91,6 +96,7 @@ pub fn glimpsed(first: Node, speaker: Node, other: Node) -> Survey
         sender,
         speaker,
         out,
+        listers: 0,
     }
 }
 
@@ -101,6 +107,7 @@ pub fn seen(s: Survey, i: usize, v: Node) -> Survey
     let mut next = s;
     next.fine = s.fine & stands(s, i, v);
     next.out = out_with(s.out, v);
+    next.listers = listers_with(s.listers, s.sender, v);
     if v.own == s.sender {
         next.speaker = v;
     }

@@ -15,6 +15,7 @@ use Rattle.ring.specs.declared.Found.{Found}
 use Rattle.ring.specs.declared.Lookup.{Lookup}
 use Rattle.ring.specs.Answers.{beforeOf, onCable}
 use Rattle.ring.specs.Ring.{ringSize, nodeNumber, sponsorCount, jobCount, sponsored, decided}
+use Rattle.bench.specs.Reports.{reportsFit, jobsOn}
 use Rattle.node.specs.declared.Answer.{Answer}
 use Rattle.node_reports.specs.Reports.{Counts, countsWithin}
 use Rattle.message.specs.declared.Reading.{Reading}
@@ -33,9 +34,9 @@ use Rattle.bench.specs.declared.Command.{Command}
 use Rattle.bench.specs.declared.Command.the-variants as command
 use Rattle.bench.specs.Table.{Table, tableSound, nodeCount, slotsOf, recordOf}
 use Rattle.bench.specs.Calls as bench
-use Rattle.bench.specs.Outcomes.{outcomeOf, bytesBy}
+use Rattle.bench.specs.Outcomes.{outcomeOf, bytesBy, slotGiven}
 use Rattle.bench.specs.Ledger.{Ledger, ledgerFits}
-use Rattle.bench.specs.Kept.{slotWith, offWith, calledWith, ledgerWith, keptOf}
+use Rattle.bench.specs.Kept.{slotWith, offWith, calledWith, ledgerWith, keptOf, setUpWith, reportsWith}
 use Rattle.plan_text.specs.Text.{writtenOf}
 use Rattle.plan_text.specs.declared.Written as text
 use Rattle.plan_program.specs.declared.Plan.{Plan}
@@ -156,39 +157,49 @@ sends v jobs out =
 
 -- ---- the bench
 
-abbrev Runs : Command → Table → Ledger → List ℕ → bench.Called → Type 0
-Runs c t ledger out called = RunsBy (numbersFor c) (outcomeOf c t called) (t, ledger, out) (called .table, ledgerWith c t called ledger, bytesBy c t called out)
+abbrev Runs : Command → Table → Ledger → List Counts → List ℕ → bench.Called → Type 0
+Runs c t ledger counts out called =
+    RunsBy (numbersFor c) (outcomeOf c t called) (t, ledger, counts, out) (called .table, ledgerWith c t called ledger, reportsWith c t called counts, bytesBy c t called out)
 
-runs : (c : Command) (t : Table) (ledger : Ledger) (out : List ℕ) → Runs c t ledger out (calledWith c (length out) ledger t)
-unfolding bench.setUpOf bench.slotOf bench.offOf bench.restartOf bench.lookOf slotWith offWith
-runs (command.SetUp cable) t ledger out =
-    let P = Runs (command.SetUp cable) t ledger out in
+runs : (c : Command) (t : Table) (ledger : Ledger) (counts : List Counts) (out : List ℕ) → Runs c t ledger counts out (calledWith c (length out) ledger counts t)
+unfolding bench.setUpOf bench.slotOf bench.offOf bench.restartOf bench.lookOf setUpWith slotWith offWith slotGiven
+runs (command.SetUp cable) t ledger counts out =
+    let P = Runs (command.SetUp cable) t ledger counts out in
     either-passed P (ringSize (cable .n)) 1
     (either-passed P (sponsorCount cable) 2
     (either-passed P (jobCount (cable .m)) 14
-    (either-passed P (eqb (length t) (cable .n)) 4 (tt, tt) (refl, refl)) (refl, refl)) (refl, refl)) (refl, refl)
-runs (command.Slot lost missed) t ledger out =
-    let P = Runs (command.Slot lost missed) t ledger out in
+    (either-passed P (eqb (length counts) (cable .n)) 4
+    (either-passed P (ringSize (cable .n)) 1
+    (either-passed P (sponsorCount cable) 2
+    (either-passed P (jobCount (cable .m)) 14
+    (either-passed P (eqb (length t) (cable .n)) 4 (tt, tt) (refl, refl)) (refl, refl)) (refl, refl)) (refl, refl)) (refl, refl)) (refl, refl)) (refl, refl)) (refl, refl)
+runs (command.Slot lost missed jobs) t ledger counts out =
+    let P = Runs (command.Slot lost missed jobs) t ledger counts out in
     either-passed P (tableSound t) 4
+    (either-passed P (reportsFit t counts) 4
     (either-passed P (within (nodeCount t) missed) 3
     (either-passed P (ledgerFits (nodeCount t) (slotsOf t) ledger) 13
     (either-passed P (tableSound t) 4
     (either-passed P (within (nodeCount t) missed) 3
     (either-passed P (ltb (slotsOf t) limit) 5
-    (either-passed P (leb 64 (length out)) 9 (tt, tt) (refl, refl)) (refl, refl)) (refl, refl)) (refl, refl)) (refl, refl)) (refl, refl)) (refl, refl)
-runs (command.Off a) t ledger out =
-    let P = Runs (command.Off a) t ledger out in
+    (either-passed P (jobsWithin (jobsOn t) jobs) 8
+    (either-passed P (tableSound t) 4
+    (either-passed P (within (nodeCount t) missed) 3
+    (either-passed P (ltb (slotsOf t) limit) 5
+    (either-passed P (leb 64 (length out)) 9 (tt, tt) (refl, refl)) (refl, refl)) (refl, refl)) (refl, refl)) (refl, refl)) (refl, refl)) (refl, refl)) (refl, refl)) (refl, refl)) (refl, refl)) (refl, refl)) (refl, refl)
+runs (command.Off a) t ledger counts out =
+    let P = Runs (command.Off a) t ledger counts out in
     either-passed P (tableSound t) 4
     (either-passed P (nodeNumber (nodeCount t) a) 3
     (either-passed P (ledgerFits (nodeCount t) (slotsOf t) ledger) 13
     (either-passed P (tableSound t) 4 (either-passed P (nodeNumber (nodeCount t) a) 3 (tt, tt) (refl, refl)) (refl, refl)) (refl, refl)) (refl, refl)) (refl, refl)
-runs (command.Restart a) t ledger out =
-    let P = Runs (command.Restart a) t ledger out in
+runs (command.Restart a) t ledger counts out =
+    let P = Runs (command.Restart a) t ledger counts out in
     either-passed P (tableSound t) 4
     (either-passed P (nodeNumber (nodeCount t) a) 3
     (either-passed P (isOut (recordOf t a .state)) 11 (tt, tt) (refl, refl)) (refl, refl)) (refl, refl)
-runs (command.Look lost) t ledger out =
-    either-passed (Runs (command.Look lost) t ledger out) (tableSound t) 4 (tt, tt) (refl, refl)
+runs (command.Look lost) t ledger counts out =
+    either-passed (Runs (command.Look lost) t ledger counts out) (tableSound t) 4 (tt, tt) (refl, refl)
 
 -- ---- plan texts
 

@@ -14,9 +14,9 @@ use Rattle.node.specs.declared.Answer.{Answer}
 use Rattle.node.specs.declared.Answer.the-variants.{Done, Refused}
 use Rattle.bench.specs.Table.{Table}
 use Rattle.bench.specs.declared.Command.the-variants.{Slot}
-use Rattle.bench.specs.Calls.{offOf, restartOf, setUpOf, slotOf}
-use Rattle.bench.specs.Outcomes.{endedOf, quietOutcome, slotOutcome}
-use Rattle.bench.specs.Runs.{Call, slot, isSlot}
+use Rattle.bench.specs.Calls.{offOf, restartOf, setUpOf}
+use Rattle.bench.specs.Outcomes.{endedOf, quietOutcome, slotOutcome, slotGiven}
+use Rattle.bench.specs.Runs.{Call}
 use Rattle.agreement.specs.Demand.{AtEach, EverySequence}
 use Rattle.agreement.specs.Distance as calls
 use Rattle.agreement.specs.Distance.{SlotTells}
@@ -38,21 +38,21 @@ quiet-tells : (a : Answer) → NoOtherDistance (quietOutcome a)
 quiet-tells Done = tt
 quiet-tells (Refused cause) = tt
 
-slot-tells : (lost : Bool) (missed : ℕ) (t : Table) → (isSlot (slot lost missed 64) t ≡ true → calls.NoDistance (endedOf (Slot lost missed) 64 t .reply .outcome))
-    → NoOtherDistance (endedOf (Slot lost missed) 64 t .reply .outcome)
-unfolding endedOf isSlot
-slot-tells lost missed t h = go (slotOf lost missed 64 t .answer) h
+slot-tells : (lost : Bool) (missed : ℕ) (t : Table) → (isDone (slotGiven lost missed 0 64 t .answer) ≡ true → calls.NoDistance (endedOf (Slot lost missed 0) 64 t .reply .outcome))
+    → NoOtherDistance (endedOf (Slot lost missed 0) 64 t .reply .outcome)
+unfolding endedOf
+slot-tells lost missed t h = go (slotGiven lost missed 0 64 t .answer) h
   where
-    go : (a : Answer) → (isDone a ≡ true → calls.NoDistance (slotOutcome lost t (slotOf lost missed 64 t .table) a)) → NoOtherDistance (slotOutcome lost t (slotOf lost missed 64 t .table) a)
+    go : (a : Answer) → (isDone a ≡ true → calls.NoDistance (slotOutcome lost t (slotGiven lost missed 0 64 t .table) a)) → NoOtherDistance (slotOutcome lost t (slotGiven lost missed 0 64 t .table) a)
     go Done h = h refl
     go (Refused cause) h = tt
 
 module _ (cable : Cable) (start : Table) (p : Plan) (l : List ℕ) (cs : List Call) (r : Reached start p cs) where
   said-tells : (said : Line) → AtEach (SlotTells cable start) (madeBy said ++ cs) → NoOtherDistance (ranBy (p .n) (p .rows) (actOf said) .outcome)
   unfolding AtEach by-value.callOf endedOf
-  said-tells lines.Ok tells = slot-tells false 0 (tableOf (p .n) (p .rows)) (rw (r .table) (tells .1))
-  said-tells lines.Lost tells = slot-tells true 0 (tableOf (p .n) (p .rows)) (rw (r .table) (tells .1))
-  said-tells (lines.Miss missed) tells = slot-tells false missed (tableOf (p .n) (p .rows)) (rw (r .table) (tells .1))
+  said-tells lines.Ok tells = slot-tells false 0 (tableOf (p .n) (p .rows)) (rw (r .table) (tells .1 0))
+  said-tells lines.Lost tells = slot-tells true 0 (tableOf (p .n) (p .rows)) (rw (r .table) (tells .1 0))
+  said-tells (lines.Miss missed) tells = slot-tells false missed (tableOf (p .n) (p .rows)) (rw (r .table) (tells .1 0))
   said-tells (lines.Off a) tells = quiet-tells (offOf a (tableOf (p .n) (p .rows)) .answer)
   said-tells (lines.On a) tells = quiet-tells (restartOf a (tableOf (p .n) (p .rows)) .answer)
   said-tells (lines.Refused cause) tells = tt

@@ -94,7 +94,7 @@ abbrev pub Keeps : {A : Type 0} → Ending → A → A → Type 0
 Keeps result before after = Unit {0}
 Keeps (refusal cause) before after = after ≡ before
 
--- Both: of a call that writes into lent bytes, of one on a record, of one on a record and its counts of failure reports, of one on a table with a ledger and lent bytes, and of those on a plan text.
+-- Both: of a call that writes into lent bytes, of one on a record, of one on a record and its counts of failure reports, of one on a table with a ledger, counts and lent bytes, and of those on a plan text.
 abbrev pub WritesBy : List ℕ → List ℕ → Written × List ℕ → Type 0
 WritesBy numbers out r = EndsBy numbers (ofWritten (r .0)) × Keeps (ofWritten (r .0)) out (r .1)
 
@@ -104,7 +104,7 @@ StepsBy numbers v r = EndsBy numbers (ofAnswer (r .answer)) × Keeps (ofAnswer (
 abbrev pub CountsBy : List ℕ → Node → Counts → Counted → Type 0
 CountsBy numbers v counts r = EndsBy numbers (ofAnswer (r .stepped .answer)) × Keeps {A = Node × Counts} (ofAnswer (r .stepped .answer)) (v, counts) (r .stepped .node, r .counts)
 
-abbrev pub RunsBy : List ℕ → Outcome → Table × Ledger × List ℕ → Table × Ledger × List ℕ → Type 0
+abbrev pub RunsBy : List ℕ → Outcome → Table × Ledger × List Counts × List ℕ → Table × Ledger × List Counts × List ℕ → Type 0
 RunsBy numbers o before after = EndsBy numbers (ofOutcome o) × Keeps (ofOutcome o) before after
 
 abbrev pub PrintsBy : List ℕ → List ℕ → text.Written × List ℕ → Type 0
@@ -117,7 +117,7 @@ FeedsBy numbers p part out f =
 -- By which numbers a call of the bench may be refused, in the order of its tests.
 abbrev pub numbersFor : Command → List ℕ
 numbersFor (command.SetUp cable) = 1 ∷ 2 ∷ 14 ∷ 4 ∷ []
-numbersFor (command.Slot lost missed) = 4 ∷ 3 ∷ 13 ∷ 5 ∷ 9 ∷ []
+numbersFor (command.Slot lost missed jobs) = 4 ∷ 3 ∷ 13 ∷ 5 ∷ 8 ∷ 9 ∷ []
 numbersFor (command.Off a) = 4 ∷ 3 ∷ 13 ∷ []
 numbersFor (command.Restart a) = 4 ∷ 3 ∷ 11 ∷ []
 numbersFor (command.Look lost) = 4 ∷ []
@@ -142,8 +142,9 @@ pub record Demand1 : Type 0 where
   pub off : (v : Node) → StepsBy (4 ∷ []) v (offOf v)
   pub restart : (v : Node) → StepsBy (4 ∷ 11 ∷ []) v (restartOf v)
   -- the bench: set-up, slot, off, restart and a look; `out` are the lent bytes
-  pub bench : (c : Command) (t : Table) (ledger : Ledger) (out : List ℕ)
-      → let kept = keptOf c (length out) ledger t in RunsBy (numbersFor c) (kept .reply .outcome) (t, ledger, out) (kept .table, kept .ledger, bytesWith c ledger t out)
+  pub bench : (c : Command) (t : Table) (ledger : Ledger) (counts : List Counts) (out : List ℕ)
+      → let kept = keptOf c (length out) ledger counts t in
+      RunsBy (numbersFor c) (kept .reply .outcome) (t, ledger, counts, out) (kept .table, kept .ledger, kept .counts, bytesWith c ledger counts t out)
   -- plan texts: a whole one; a piece of one, where this part of the next line has come; and the end
   pub print-plan : (input out : List ℕ) → PrintsBy (9 ∷ []) out (printedIn input out)
   pub feed : (p : Plan) (part : Part) (input out : List ℕ) → FeedsBy (4 ∷ 9 ∷ []) p part out (fedOf p part input out)

@@ -1,11 +1,13 @@
 -- Demand 2: every slot changes a node's record exactly as document 01 says, with requests e and f in it; a message written is read back as the same, and each readable message is the one
 -- that would be written.
-use Prim.Native.Nat.{ℕ, _+_, _≤_, _<_}
+use Prim.Native.Nat.{ℕ, _+_, _≤_, _<_, _-_}
 use mathlib.Core.Path.{_≡_}
 use mathlib.Core.Bool.{Bool, true, false}
-use mathlib.Core.List.{List, _++_}
+use mathlib.Core.List.{List, _++_, []}
 use lib.ListN.{length, getD, take, drop}
 use Rattle.ring.specs.Ring.{sender}
+use Rattle.bench.specs.Reports.{receivedBy}
+use Rattle.node_sending.specs.Sending.{jobsSent}
 use Rattle.node_reports.specs.Reports.{Counts, countsWithin}
 use Rattle.message.specs.declared.Reading.{Reading}
 use Rattle.message.specs.declared.Received.{Received}
@@ -46,13 +48,14 @@ pub record Demand2 : Type 0 where
   pub over-count : (received : Received) (v : Node) (held : Counts) → countsWithin (v .slots) held ≡ false → countedOf received v held ≡ withCounts (refused 4 v) held
   -- what is heard is what the reader finds in the bytes that are handed over
   pub by-bytes : (bytes : List ℕ) (v : Node) (held : Counts) → slotOf bytes v held ≡ countedOf (readOf (v .cable .k) (v .cable .m) bytes) v held
-  -- a slot that runs on the bench is this slot of each record, and none is refused
-  pub on-bench : (lost : Bool) (missed room : ℕ) (ledger : Ledger) (t : Table) → slotWith lost missed room ledger t .answer ≡ Done
+  -- a slot that runs on the bench is this slot of each record and its counts, and none is refused
+  pub on-bench : (lost : Bool) (missed jobs room : ℕ) (ledger : Ledger) (counts : List Counts) (t : Table) → slotWith lost missed jobs room ledger counts t .answer ≡ Done
       → (i : ℕ) → 1 ≤ i → i ≤ nodeCount t
-      → stepOf (bench.heardBy lost missed t i) (recordOf t i) ≡ done (recordOf (keptOf (Slot lost missed) room ledger t .table) i)
-  -- and what its message is heard as there is what the reader finds in the bytes that the sender sends, whatever job byte it is given
+      → let kept = keptOf (Slot lost missed jobs) room ledger counts t in
+      countedOf (receivedBy lost missed jobs t i) (recordOf t i) (getD counts (i - 1) []) ≡ withCounts (done (recordOf (kept .table) i)) (getD (kept .counts) (i - 1) [])
+  -- and what its message is heard as there is what the reader finds in the bytes that the sender sends, with the job byte that it is given
   pub heard-on-bench : (t : Table) (jobs : ℕ) (out : List ℕ) (count : ℕ) (after : List ℕ) → sendOf (recordOf t (speaker t)) jobs out ≡ (Bytes count, after)
-      → readOf (recordOf t (speaker t) .cable .k) (recordOf t (speaker t) .cable .m) (take count after) .reading ≡ bench.spoken t
+      → readOf (recordOf t (speaker t) .cable .k) (recordOf t (speaker t) .cable .m) (take count after) ≡ record { reading = bench.spoken t; jobs = jobsSent jobs (recordOf t (speaker t)) }
   -- nothing, where the sender has none to send
   pub silent-on-bench : (t : Table) (jobs : ℕ) (out : List ℕ) → tableSound t ≡ true → sendOf (recordOf t (speaker t)) jobs out ≡ unsent 10 out
       → bench.spoken t ≡ bench.unheard

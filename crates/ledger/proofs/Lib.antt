@@ -1,3 +1,4 @@
+pub mod Made
 pub mod Tallied
 pub mod Entered
-pub mod AnyLedgers
+pub mod AnyLent

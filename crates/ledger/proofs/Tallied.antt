@@ -1,7 +1,7 @@
 -- Each figure of the ledger is its tally (specs/Tallies). Of each node: how often it left, and one more if it is a member, is how often it joined and one more; and it
 -- joins in slots alone. So no count passes the slot count plus one, no call is refused by 13, and each call with the ledger is the call without it. Assumes nothing.
 use Prim.Native.Nat.{ℕ, zero, suc, _+_, _-_, _≤_, _<_}
-use mathlib.Core.Path.{_≡_, refl, sym, ap, _∙_}
+use mathlib.Core.Path.{_≡_, refl, sym, ap, _∙_, subst}
 use mathlib.Core.Logic.{_≢_}
 use mathlib.Core.Bool.{Bool, true, false, cond, not, _&&_, true≢false}
 use mathlib.Core.List.{List, [], _∷_}
@@ -9,11 +9,11 @@ use native.Mathlib.Omega.{arith}
 use native.Mathlib.Nat.{add-zero}
 use lib.Dec.{eqb, leb, ltb}
 use lib.ListN.{length, getD, length-replicate, getD-replicate}
-use borrow.Author.Tests.{le-leb, eq-eqb}
+use borrow.Author.Tests.{le-leb, eq-eqb, eqb-false}
 use Rattle.refusal.specs.Causes.{cause, numberOf}
 use Rattle.nodeset.specs.Sums.{num}
 use Rattle.nodeset.specs.Sets.{within}
-use Rattle.nodeset.proofs.Tests.{by-cases, both, all}
+use Rattle.nodeset.proofs.Tests.{by-cases, chosen, otherwise, both, all}
 use Rattle.ring.specs.declared.Cable.{Cable}
 use Rattle.ring.specs.Ring.{nodeNumber, cableFits}
 use Rattle.ring.proofs.Ranges.{ring-size, fitting}
@@ -23,6 +23,7 @@ use Rattle.node_record.specs.declared.State.{State}
 use Rattle.node_record.specs.declared.State.the-variants.{Member, Listening, Following, Knocking, Out}
 use Rattle.node_record.specs.States.{isMember, isOut}
 use Rattle.node_record.specs.Soundness.{sound, limit}
+use Rattle.message.specs.Message.{jobsWithin}
 use Rattle.node.specs.declared.Answer.{Answer}
 use Rattle.node.specs.declared.Answer.the-variants.{Done, Refused}
 use Rattle.node.specs.Calls as node
@@ -33,13 +34,15 @@ use Rattle.bench.specs.declared.Command.{Command}
 use Rattle.bench.specs.declared.Command.the-variants as command
 use Rattle.bench.specs.declared.Outcome.{Outcome}
 use Rattle.bench.specs.declared.Outcome.the-variants as outcome
-use Rattle.bench.specs.Outcomes.{outcomeOf}
-use Rattle.bench.specs.Kept.{slotWith, offWith, calledWith, dateOf, ledgerWith, keptOf}
+use Rattle.bench.specs.Reports.{reportsFit, jobsOn}
+use Rattle.bench.specs.Outcomes.{slotGiven, outcomeOf}
+use Rattle.bench.specs.Kept.{slotWith, offWith, dateOf, ledgerWith, keptOf}
 use Rattle.bench.specs.Runs.{Call, slot, off, restart, callOf, tableAfter, isSlot}
 use Rattle.bench.proofs.Places.{Placed}
 use Rattle.bench.proofs.Accepted.{slot-refused, off-done, off-refused, restarts, restart-done, restart-refused}
 use Rattle.bench.proofs.Runs.{after-off-record, after-restart-record, start-record, start-placed, never-unsound, run-length, slots-next}
-use Rattle.ledger.specs.Runs.{commandOf, roomOf, numberIn, zeros, benchAfter}
+use Rattle.ledger.specs.Runs.{Bench, Given, commandOf, commanded, calledBy, zeros, benchAfter, madeOf}
+use Rattle.ledger.proofs.Made.{refused-stays, made-is}
 use Rattle.ledger.specs.Tallies.{joins, timesLeft, timesJoined, lastLeaving, LedgerTallies}
 
 -- ---- entries
@@ -181,15 +184,6 @@ refused-table (restart a) t e d =
     done : restarts a t ≡ true → isDone (restartOf a t .answer) ≡ true
     done b = let p = both (nodeNumber (nodeCount t) a) (isOut (recordOf t a .state)) b in rw (e, p .0, p .1) refl
 
--- where the table is sound and the ledger fits, the call is the one without it
-with-fitting : (c : Call) (ledger : Ledger) (t : Table) → tableSound t ≡ true → ledgerFits (nodeCount t) (slotsOf t) ledger ≡ true → calledWith (commandOf c) (roomOf c) ledger t ≡ callOf c t
-unfolding callOf slotOf offOf slotWith offWith
-with-fitting (slot lost missed room) ledger t e f =
-    by-cases (within (nodeCount t) missed) (λ b. rw (e, b, f) refl) (λ b. rw (e, b) refl)
-with-fitting (off a) ledger t e f =
-    by-cases (nodeNumber (nodeCount t) a) (λ b. rw (e, b, f) refl) (λ b. rw (e, b) refl)
-with-fitting (restart a) ledger t e f = refl
-
 -- the ledger after a call, where it is not refused by 13
 module _ (t : Table) (ledger : Ledger) (i : ℕ) (e : tableSound t ≡ true) (h : 1 ≤ i) (l : i ≤ length t) (s : length ledger ≡ length t) where
   abbrev entry-of : Ledger → Figures
@@ -203,17 +197,17 @@ module _ (t : Table) (ledger : Ledger) (i : ℕ) (e : tableSound t ≡ true) (h 
   kept : (date : ℕ) (after : Table) → after ≡ t → entry-of ledger ≡ figuresAfter date (recordOf t i .state) (recordOf after i .state) (entry-of ledger)
   kept date after p = rw p (sym (quiet-figures date (recordOf t i .state) (recordOf t i .state) (entry-of ledger) (same (recordOf t i .state))))
 
-  ledger-next : (c : Call) → entry-of (ledgerWith (commandOf c) t (callOf c t) ledger) ≡ figuresAfter (dateOf (commandOf c) t) (recordOf t i .state) (recordOf (callOf c t .table) i .state) (entry-of ledger)
-  ledger-next (slot lost missed room) = by (callOf (slot lost missed room) t .answer) (λ d. refused-table (slot lost missed room) t e d)
+  ledger-next : (c : Call) (jobs : ℕ) → entry-of (ledgerWith (commandOf c jobs) t (callOf c t) ledger) ≡ figuresAfter (dateOf (commandOf c 0) t) (recordOf t i .state) (recordOf (callOf c t .table) i .state) (entry-of ledger)
+  ledger-next (slot lost missed room) jobs = by (callOf (slot lost missed room) t .answer) (λ d. refused-table (slot lost missed room) t e d)
     where
       after : Table
       after = callOf (slot lost missed room) t .table
 
       by : (a : Answer) → (isDone a ≡ false → after ≡ t)
-          → entry-of (ledgerWith (command.Slot lost missed) t (record { table = after; answer = a }) ledger) ≡ figuresAfter (slotsOf t + 1) (recordOf t i .state) (recordOf after i .state) (entry-of ledger)
+          → entry-of (ledgerWith (command.Slot lost missed jobs) t (record { table = after; answer = a }) ledger) ≡ figuresAfter (slotsOf t + 1) (recordOf t i .state) (recordOf after i .state) (entry-of ledger)
       by Done _ = entered (slotsOf t + 1) after
       by (Refused r) f = kept (slotsOf t + 1) after (f refl)
-  ledger-next (off a) = by (callOf (off a) t .answer) (λ d. refused-table (off a) t e d)
+  ledger-next (off a) jobs = by (callOf (off a) t .answer) (λ d. refused-table (off a) t e d)
     where
       after : Table
       after = callOf (off a) t .table
@@ -222,22 +216,32 @@ module _ (t : Table) (ledger : Ledger) (i : ℕ) (e : tableSound t ≡ true) (h 
           → entry-of (ledgerWith (command.Off a) t (record { table = after; answer = b }) ledger) ≡ figuresAfter (slotsOf t) (recordOf t i .state) (recordOf after i .state) (entry-of ledger)
       by Done _ = entered (slotsOf t) after
       by (Refused r) f = kept (slotsOf t) after (f refl)
-  ledger-next (restart a) = by (callOf (restart a) t .answer) ∙ sym (quiet-figures 0 _ _ (entry-of ledger) (restart-none t e i h l a))
+  ledger-next (restart a) jobs = by (callOf (restart a) t .answer) ∙ sym (quiet-figures 0 _ _ (entry-of ledger) (restart-none t e i h l a))
     where
       by : (b : Answer) → entry-of (ledgerWith (command.Restart a) t (record { table = callOf (restart a) t .table; answer = b }) ledger) ≡ entry-of ledger
       by Done = refl
       by (Refused r) = refl
 
-ledger-length : (c : Call) (t : Table) (called : Called) (ledger : Ledger) → length (ledgerWith (commandOf c) t called ledger) ≡ length ledger
-ledger-length c t called ledger = by c (called .answer)
+ledger-length : (c : Call) (jobs : ℕ) (t : Table) (called : Called) (ledger : Ledger) → length (ledgerWith (commandOf c jobs) t called ledger) ≡ length ledger
+ledger-length c jobs t called ledger = by c (called .answer)
   where
-    by : (k : Call) (a : Answer) → length (ledgerWith (commandOf k) t (record { table = called .table; answer = a }) ledger) ≡ length ledger
+    by : (k : Call) (a : Answer) → length (ledgerWith (commandOf k jobs) t (record { table = called .table; answer = a }) ledger) ≡ length ledger
     by (slot lost missed room) Done = length-entries (slotsOf t + 1) t (called .table) 1 ledger
     by (off a) Done = length-entries (slotsOf t) t (called .table) 1 ledger
     by (restart a) Done = refl
     by (slot lost missed room) (Refused r) = refl
     by (off a) (Refused r) = refl
     by (restart a) (Refused r) = refl
+
+-- a refused call enters nothing
+ledger-stays : (c : Call) (jobs : ℕ) (t : Table) (called : Called) (ledger : Ledger) → isDone (called .answer) ≡ false → ledgerWith (commandOf c jobs) t called ledger ≡ ledger
+ledger-stays c jobs t called ledger e = by c (called .answer) e
+  where
+    by : (k : Call) (a : Answer) → isDone a ≡ false → ledgerWith (commandOf k jobs) t (record { table = called .table; answer = a }) ledger ≡ ledger
+    by k Done f = absurd (true≢false f)
+    by (slot lost missed room) (Refused r) f = refl
+    by (off a) (Refused r) f = refl
+    by (restart a) (Refused r) f = refl
 
 -- ---- a ledger that fits
 
@@ -247,6 +251,11 @@ all-fit slots [] f = refl
 all-fit slots (x ∷ ledger) f = all (f 0 (omega arith)) (all-fit slots ledger (λ j h. f (suc j) (omega arith)))
 
 -- ---- 13 is none of the other refusals
+
+-- the number of a refusal, 0 for none
+abbrev numberIn : Answer → ℕ
+numberIn Done = 0
+numberIn (Refused r) = numberOf r
 
 abbrev numberTold : Outcome → ℕ
 numberTold outcome.Quiet = 0
@@ -261,31 +270,35 @@ told-number c t called = go c (called .answer)
     go (command.SetUp cable) Done = refl
     go (command.Off a) Done = refl
     go (command.Restart a) Done = refl
-    go (command.Slot lost missed) Done = refl
+    go (command.Slot lost missed jobs) Done = refl
     go (command.Look lost) Done = refl
     go (command.SetUp cable) (Refused r) = refl
     go (command.Off a) (Refused r) = refl
     go (command.Restart a) (Refused r) = refl
-    go (command.Slot lost missed) (Refused r) = refl
+    go (command.Slot lost missed jobs) (Refused r) = refl
     go (command.Look lost) (Refused r) = refl
 
 passes : (b : Bool) (number : ℕ) (t : Table) (called : Called) → numberOf (cause number) ≢ 13 → numberIn (called .answer) ≢ 13 → numberIn (ifPassed b number t called .answer) ≢ 13
 passes true number t called p q = q
 passes false number t called p q = p
 
-other : (m : ℕ) → m + 1 ≤ 13 → m ≢ 13
-other m h e = omega arith
+other : (m : ℕ) → eqb m 13 ≡ false → m ≢ 13
+other m h e = eqb-false m 13 h e
 
-pub call-not-13 : (c : Call) (t : Table) → numberIn (callOf c t .answer) ≢ 13
-unfolding callOf slotOf offOf restartOf
-call-not-13 (slot lost missed room) t =
-    passes (tableSound t) 4 t _ (other 4 (omega arith)) (passes (within (nodeCount t) missed) 3 t _ (other 3 (omega arith))
-    (passes (ltb (slotsOf t) limit) 5 t _ (other 5 (omega arith)) (passes (leb 64 room) 9 t _ (other 9 (omega arith)) (other 0 (omega arith)))))
-call-not-13 (off a) t =
-    passes (tableSound t) 4 t _ (other 4 (omega arith)) (passes (nodeNumber (nodeCount t) a) 3 t _ (other 3 (omega arith)) (other 0 (omega arith)))
-call-not-13 (restart a) t =
-    passes (tableSound t) 4 t _ (other 4 (omega arith)) (passes (nodeNumber (nodeCount t) a) 3 t _ (other 3 (omega arith))
-    (passes (isOut (recordOf t a .state)) 11 t _ (other 11 (omega arith)) (other 0 (omega arith))))
+not-13 : (g : Given) (ledger : Ledger) (t : Table) → ledgerFits (nodeCount t) (slotsOf t) ledger ≡ true → numberIn (calledBy g ledger t .answer) ≢ 13
+unfolding slotWith slotGiven slotOf offWith offOf restartOf
+not-13 g ledger t fits = go (g .call)
+  where
+    go : (c : Call) → numberIn (calledBy (record { call = c; counts = g .counts; jobs = g .jobs }) ledger t .answer) ≢ 13
+    go (slot lost missed room) =
+        passes (tableSound t) 4 t _ (other 4 refl) (passes (reportsFit t (g .counts)) 4 t _ (other 4 refl) (passes (within (nodeCount t) missed) 3 t _ (other 3 refl) (rw fits
+        (passes (tableSound t) 4 t _ (other 4 refl) (passes (within (nodeCount t) missed) 3 t _ (other 3 refl) (passes (ltb (slotsOf t) limit) 5 t _ (other 5 refl) (passes (jobsWithin (jobsOn t) (g .jobs)) 8 t _ (other 8 refl)
+        (passes (tableSound t) 4 t _ (other 4 refl) (passes (within (nodeCount t) missed) 3 t _ (other 3 refl) (passes (ltb (slotsOf t) limit) 5 t _ (other 5 refl) (passes (leb 64 room) 9 t _ (other 9 refl) (other 0 refl))))))))))))
+    go (off a) =
+        passes (tableSound t) 4 t _ (other 4 refl) (passes (nodeNumber (nodeCount t) a) 3 t _ (other 3 refl) (rw fits
+        (passes (tableSound t) 4 t _ (other 4 refl) (passes (nodeNumber (nodeCount t) a) 3 t _ (other 3 refl) (other 0 refl)))))
+    go (restart a) =
+        passes (tableSound t) 4 t _ (other 4 refl) (passes (nodeNumber (nodeCount t) a) 3 t _ (other 3 refl) (passes (isOut (recordOf t a .state)) 11 t _ (other 11 refl) (other 0 refl)))
 
 -- ---- a run
 
@@ -325,67 +338,95 @@ module _ (cable : Cable) (fits : cableFits cable ≡ true) (lent : Table) (one-e
         few = omega (arith, r .few, joins-in-slots t (in-order cs) i h (omega (arith, long cs)) c, slots-next cable pos start begins c cs);
       }
 
-  -- table, ledger and figures
-  record Kept (cs : List Call) : Type 0 where
-    tables : benchAfter (record { table = start; ledger = zeros n }) cs .table ≡ tableAfter start cs
-    size : length (benchAfter (record { table = start; ledger = zeros n }) cs .ledger) ≡ n
-    entries : (i : ℕ) → i ≤ n → 1 ≤ i
-        → getD (benchAfter (record { table = start; ledger = zeros n }) cs .ledger) (i - 1) [] ≡ figures (timesLeft start cs i) (timesJoined start cs i) (lastLeaving start cs i)
+  abbrev from : List Given → Bench
+  from gs = benchAfter (record { table = setUpOf cable lent .table; ledger = zeros (cable .n) }) gs
 
-  ledger-fits : (cs : List Call) → Kept cs → ledgerFits (nodeCount (tableAfter start cs)) (slotsOf (tableAfter start cs)) (benchAfter (record { table = start; ledger = zeros n }) cs .ledger) ≡ true
+  -- table, ledger and figures, where these of the calls are made
+  record Kept (gs : List Given) (cs : List Call) : Type 0 where
+    tables : from gs .table ≡ tableAfter start cs
+    size : length (from gs .ledger) ≡ n
+    entries : (i : ℕ) → i ≤ n → 1 ≤ i → getD (from gs .ledger) (i - 1) [] ≡ figures (timesLeft start cs i) (timesJoined start cs i) (lastLeaving start cs i)
+
+  ledger-fits : (gs : List Given) (cs : List Call) → Kept gs cs → ledgerFits (nodeCount (tableAfter start cs)) (slotsOf (tableAfter start cs)) (from gs .ledger) ≡ true
   unfolding ledgerFits
-  ledger-fits cs k = all (eq-eqb _ _ (k .size ∙ sym (long cs))) (all-fit _ _ each)
+  ledger-fits gs cs k = all (eq-eqb _ _ (k .size ∙ sym (long cs))) (all-fit _ _ each)
     where
-      each : (j : ℕ) → j < length (benchAfter (record { table = start; ledger = zeros n }) cs .ledger) → countsFit (slotsOf (tableAfter start cs)) (getD (benchAfter (record { table = start; ledger = zeros n }) cs .ledger) j []) ≡ true
+      each : (j : ℕ) → j < length (from gs .ledger) → countsFit (slotsOf (tableAfter start cs)) (getD (from gs .ledger) j []) ≡ true
       each j h =
           let r = counts cs (suc j) (omega arith) (omega (arith, k .size)) in
           let z : suc j - 1 ≡ j = omega arith in
           let is = rw z at (k .entries (suc j) (omega (arith, k .size)) (omega arith)) in
           ap (countsFit (slotsOf (tableAfter start cs))) is ∙ all (le-leb (timesLeft start cs (suc j)) (slotsOf (tableAfter start cs) + 1) (omega (arith, r .balance, r .few))) (le-leb (timesJoined start cs (suc j)) (slotsOf (tableAfter start cs) + 1) (omega (arith, r .few)))
 
-  kept-run : (cs : List Call) → Kept cs
-  unfolding benchAfter keptOf tableAfter timesLeft timesJoined lastLeaving
+  module _ (g : Given) (gs : List Given) (cs : List Call) (k : Kept gs cs) where
+    abbrev b : Bench
+    b = from gs
+
+    abbrev t : Table
+    t = tableAfter start cs
+
+    abbrev called : Called
+    called = calledBy g (b .ledger) (b .table)
+
+    -- a call that is made is one more
+    made : isDone (called .answer) ≡ true → Kept (g ∷ gs) (g .call ∷ cs)
+    unfolding benchAfter keptOf tableAfter timesLeft timesJoined lastLeaving
+    made e =
+        let c = g .call in
+        let is : called ≡ callOf c t = made-is g (b .ledger) (b .table) e ∙ ap (callOf c) (k .tables) in
+        let ledger-is : ledgerWith (commanded g) (b .table) called (b .ledger) ≡ ledgerWith (commanded g) t (callOf c t) (b .ledger) =
+        ap (λ (x : Called). ledgerWith (commanded g) (b .table) x (b .ledger)) is ∙ ap (λ (x : Table). ledgerWith (commanded g) x (callOf c t) (b .ledger)) (k .tables) in
+        record {
+          tables = ap (λ (x : Called). x .table) is;
+          size = ledger-length c (g .jobs) (b .table) called (b .ledger) ∙ k .size;
+          entries = λ i l h.
+              ap (λ (x : Ledger). getD x (i - 1) []) ledger-is
+              ∙ ledger-next t (b .ledger) i (in-order cs) h (omega (arith, long cs)) (k .size ∙ sym (long cs)) c (g .jobs)
+              ∙ ap (figuresAfter (dateOf (commandOf c 0) t) (recordOf t i .state) (recordOf (callOf c t .table) i .state)) (k .entries i l h)
+              ∙ figures-next (dateOf (commandOf c 0) t) (recordOf t i .state) (recordOf (callOf c t .table) i .state) (timesLeft start cs i) (timesJoined start cs i) (lastLeaving start cs i);
+        }
+
+    -- a refused one changes nothing
+    refused : isDone (called .answer) ≡ false → Kept (g ∷ gs) cs
+    unfolding benchAfter keptOf
+    refused e =
+        let stays = ledger-stays (g .call) (g .jobs) (b .table) called (b .ledger) e in
+        record {
+          tables = refused-stays g (b .ledger) (b .table) e ∙ k .tables;
+          size = ap length stays ∙ k .size;
+          entries = λ i l h. ap (λ (x : Ledger). getD x (i - 1) []) stays ∙ k .entries i l h;
+        }
+
+  kept-run : (gs : List Given) → Kept gs (madeOf (record { table = start; ledger = zeros n }) gs)
+  unfolding benchAfter madeOf tableAfter timesLeft timesJoined lastLeaving
   kept-run [] = record {
     tables = refl;
     size = length-replicate n (figures 0 0 0);
     entries = λ i l h. getD-replicate n (i - 1) (figures 0 0 0) [] (omega arith);
   }
-  kept-run (c ∷ cs) =
-      let k = kept-run cs in
-      let b = benchAfter (record { table = start; ledger = zeros n }) cs in
-      let t = tableAfter start cs in
-      let called : calledWith (commandOf c) (roomOf c) (b .ledger) (b .table) ≡ callOf c t = ap (calledWith (commandOf c) (roomOf c) (b .ledger)) (k .tables) ∙ with-fitting c (b .ledger) t (in-order cs) (ledger-fits cs k) in
-      let ledger-is : ledgerWith (commandOf c) (b .table) (calledWith (commandOf c) (roomOf c) (b .ledger) (b .table)) (b .ledger) ≡ ledgerWith (commandOf c) t (callOf c t) (b .ledger) =
-      ap (λ (x : Called). ledgerWith (commandOf c) (b .table) x (b .ledger)) called ∙ ap (λ (x : Table). ledgerWith (commandOf c) x (callOf c t) (b .ledger)) (k .tables) in
-      record {
-        tables = ap (λ (x : Called). x .table) called;
-        size = ledger-length c (b .table) (calledWith (commandOf c) (roomOf c) (b .ledger) (b .table)) (b .ledger) ∙ k .size;
-        entries = λ i l h.
-            ap (λ (x : Ledger). getD x (i - 1) []) ledger-is
-            ∙ ledger-next t (b .ledger) i (in-order cs) h (omega (arith, long cs)) (k .size ∙ sym (long cs)) c
-            ∙ ap (figuresAfter (dateOf (commandOf c) t) (recordOf t i .state) (recordOf (callOf c t .table) i .state)) (k .entries i l h)
-            ∙ figures-next (dateOf (commandOf c) t) (recordOf t i .state) (recordOf (callOf c t .table) i .state) (timesLeft start cs i) (timesJoined start cs i) (lastLeaving start cs i);
-      }
+  kept-run (g ∷ gs) =
+      let cs = madeOf (record { table = start; ledger = zeros n }) gs in
+      let k = kept-run gs in
+      by-cases (isDone (calledBy g (from gs .ledger) (from gs .table) .answer))
+      (λ e. subst (Kept (g ∷ gs)) (sym (chosen (g .call ∷ cs) cs e)) (made g gs cs k e))
+      (λ e. subst (Kept (g ∷ gs)) (sym (otherwise (g .call ∷ cs) cs e)) (refused g gs cs k e))
 
 -- ---- the claim
 
 pub ledger-tallies : LedgerTallies
 unfolding keptOf
-ledger-tallies cable fits lent one-each cs = record {
+ledger-tallies cable fits lent one-each gs = record {
   tables = k .tables;
   size = k .size;
   entries = k .entries;
-  never-13 = λ c e.
-      call-not-13 c (tableAfter (setUpOf cable lent .table) cs)
-      (sym (ap (λ (x : Called). numberIn (x .answer)) (called c)) ∙ sym (told-number (commandOf c) _ _) ∙ ap numberTold e);
+  never-13 = λ g e.
+      let b = from cable fits lent one-each gs in
+      let fit = subst (λ (t : Table). ledgerFits (nodeCount t) (slotsOf t) (b .ledger) ≡ true) (sym (k .tables)) (ledger-fits cable fits lent one-each gs cs k) in
+      not-13 g (b .ledger) (b .table) fit (sym (told-number (commanded g) (b .table) (calledBy g (b .ledger) (b .table))) ∙ ap numberTold e);
 }
   where
-    k : Kept cable fits lent one-each cs
-    k = kept-run cable fits lent one-each cs
+    cs : List Call
+    cs = madeOf (record { table = setUpOf cable lent .table; ledger = zeros (cable .n) }) gs
 
-    called : (c : Call) → let b = benchAfter (record { table = setUpOf cable lent .table; ledger = zeros (cable .n) }) cs in
-        calledWith (commandOf c) (roomOf c) (b .ledger) (b .table) ≡ callOf c (tableAfter (setUpOf cable lent .table) cs)
-    called c =
-        let b = benchAfter (record { table = setUpOf cable lent .table; ledger = zeros (cable .n) }) cs in
-        ap (calledWith (commandOf c) (roomOf c) (b .ledger)) (k .tables)
-        ∙ with-fitting c (b .ledger) (tableAfter (setUpOf cable lent .table) cs) (in-order cable fits lent one-each cs) (ledger-fits cable fits lent one-each cs k)
+    k : Kept cable fits lent one-each gs (madeOf (record { table = setUpOf cable lent .table; ledger = zeros (cable .n) }) gs)
+    k = kept-run cable fits lent one-each gs

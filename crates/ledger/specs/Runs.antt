@@ -2,25 +2,30 @@
 -- THE LATEST FIRST.
 use Prim.Native.Nat.{ℕ}
 use mathlib.Core.Path.{_≡_}
-use mathlib.Core.Bool.{cond}
+use mathlib.Core.Bool.{Bool, cond}
 use mathlib.Core.List.{List, [], _∷_}
-use lib.Dec.{eqb}
 use lib.ListN.{replicate}
-use Rattle.refusal.specs.Causes.{numberOf}
-use Rattle.node.specs.declared.Answer.{Answer}
-use Rattle.node.specs.declared.Answer.the-variants.{Done, Refused}
+use Rattle.node_reports.specs.Reports.{Counts}
+use Rattle.node.specs.Calls.{isDone}
 use Rattle.bench.specs.declared.Command.{Command}
 use Rattle.bench.specs.declared.Command.the-variants as command
 use Rattle.bench.specs.Table.{Table}
+use Rattle.bench.specs.Calls.{Called}
 use Rattle.bench.specs.Ledger.{Ledger, figures}
 use Rattle.bench.specs.Kept.{Kept, calledWith, keptOf}
 use Rattle.bench.specs.Runs.{Call, slot, off, restart, tableAfter}
 
+-- A call, the counts of failure reports that are lent with it, and the job byte that a slot's sender is given.
+pub record Given : Type 0 where
+  pub call : Call
+  pub counts : List Counts
+  pub jobs : ℕ
+
 -- The command of a call, and how many bytes are lent with it for the pairs.
-abbrev pub commandOf : Call → Command
-commandOf (slot lost missed room) = command.Slot lost missed
-commandOf (off a) = command.Off a
-commandOf (restart a) = command.Restart a
+abbrev pub commandOf : Call → ℕ → Command
+commandOf (slot lost missed room) jobs = command.Slot lost missed jobs
+commandOf (off a) jobs = command.Off a
+commandOf (restart a) jobs = command.Restart a
 
 abbrev pub roomOf : Call → ℕ
 roomOf (slot lost missed room) = room
@@ -28,8 +33,18 @@ roomOf (off a) = 0
 roomOf (restart a) = 0
 
 -- What a call makes of a table and a ledger.
-abbrev pub keptBy : Call → Ledger → Table → Kept
-keptBy c ledger t = keptOf (commandOf c) (roomOf c) ledger t
+abbrev pub commanded : Given → Command
+commanded g = commandOf (g .call) (g .jobs)
+
+abbrev pub calledBy : Given → Ledger → Table → Called
+calledBy g ledger t = calledWith (commanded g) (roomOf (g .call)) ledger (g .counts) t
+
+abbrev pub keptBy : Given → Ledger → Table → Kept
+keptBy g ledger t = keptOf (commanded g) (roomOf (g .call)) ledger (g .counts) t
+
+-- The calls with one more, if it is made: a refused one is no slot, and changes nothing.
+abbrev pub withMade : Bool → Call → List Call → List Call
+withMade made c cs = cond made (c ∷ cs) cs
 
 -- A table and its ledger.
 pub record Bench : Type 0 where
@@ -41,37 +56,35 @@ abbrev pub zeros : ℕ → Ledger
 zeros n = replicate n (figures 0 0 0)
 
 module _ (start : Bench) where
-  unfoldable pub benchAfter : List Call → Bench
+  unfoldable pub benchAfter : List Given → Bench
   benchAfter [] = start
-  benchAfter (c ∷ cs) =
-      let b = benchAfter cs in
-      let kept = keptBy c (b .ledger) (b .table) in
+  benchAfter (g ∷ gs) =
+      let b = benchAfter gs in
+      let kept = keptBy g (b .ledger) (b .table) in
       record { table = kept .table; ledger = kept .ledger }
+
+  -- The calls that are made.
+  unfoldable pub madeOf : List Given → List Call
+  madeOf [] = []
+  madeOf (g ∷ gs) = let b = benchAfter gs in withMade (isDone (calledBy g (b .ledger) (b .table) .answer)) (g .call) (madeOf gs)
 
 -- ---- any ledger at each call
 
 -- A call, and the ledger that is lent with it.
 pub record Lent : Type 0 where
-  pub call : Call
+  pub given : Given
   pub ledger : Ledger
-
--- The number of a refusal, 0 for none.
-abbrev pub numberIn : Answer → ℕ
-numberIn Done = 0
-numberIn (Refused r) = numberOf r
 
 module _ (start : Table) where
   unfoldable pub tableLent : List Lent → Table
   tableLent [] = start
-  tableLent (l ∷ ls) = keptBy (l .call) (l .ledger) (tableLent ls) .table
+  tableLent (l ∷ ls) = keptBy (l .given) (l .ledger) (tableLent ls) .table
 
-  -- The calls that 13 did not refuse.
+  -- The calls that are made.
   unfoldable pub taken : List Lent → List Call
   taken [] = []
-  taken (l ∷ ls) =
-      let c = l .call in
-      cond (eqb (numberIn (calledWith (commandOf c) (roomOf c) (l .ledger) (tableLent ls) .answer)) 13) (taken ls) (c ∷ taken ls)
+  taken (l ∷ ls) = withMade (isDone (calledBy (l .given) (l .ledger) (tableLent ls) .answer)) (l .given .call) (taken ls)
 
--- Whatever ledgers are lent, the tables are those of the calls that 13 did not refuse, made without a ledger: what is said of all sequences of these (demand 3, requests f and g) is said of the bench's calls.
-abbrev pub AnyLedgers : Type 0
-AnyLedgers = (start : Table) (ls : List Lent) → tableLent start ls ≡ tableAfter start (taken start ls)
+-- Whatever ledgers, counts and job bytes are given, the tables are those of the calls that are made, without them: what is said of all sequences of these (demand 3, requests f and g) is said of the bench's calls.
+abbrev pub AnyLent : Type 0
+AnyLent = (start : Table) (ls : List Lent) → tableLent start ls ≡ tableAfter start (taken start ls)

@@ -15,7 +15,7 @@ use Rattle.bench.specs.Calls.{setUpOf}
 use Rattle.bench.specs.Ledger.{figures, isLeaving, isJoining}
 use Rattle.bench.specs.Kept.{dateOf}
 use Rattle.bench.specs.Runs.{Call, callOf, tableAfter}
-use Rattle.ledger.specs.Runs.{Bench, commandOf, keptBy, zeros, benchAfter}
+use Rattle.ledger.specs.Runs.{Bench, Given, commandOf, keptBy, zeros, benchAfter, madeOf}
 
 -- Does node i leave, or join, in a call on a table?
 abbrev pub leaves : Call → Table → ℕ → Bool
@@ -39,26 +39,29 @@ module _ (start : Table) where
   -- "the slot of its last leaving (0 if never)"
   unfoldable pub lastLeaving : List Call → ℕ → ℕ
   lastLeaving [] i = 0
-  lastLeaving (c ∷ cs) i = cond (leaves c (tableAfter start cs) i) (dateOf (commandOf c) (tableAfter start cs)) (lastLeaving cs i)
+  lastLeaving (c ∷ cs) i = cond (leaves c (tableAfter start cs) i) (dateOf (commandOf c 0) (tableAfter start cs)) (lastLeaving cs i)
 
--- The table and the ledger after calls from a start and a ledger of zeros.
-abbrev pub fromZeros : Cable → Table → List Call → Bench
-fromZeros cable start cs = benchAfter (record { table = start; ledger = zeros (cable .n) }) cs
+-- The table and the ledger after calls from a start and a ledger of zeros, and which of them are made.
+abbrev pub fromZeros : Cable → Table → List Given → Bench
+fromZeros cable start gs = benchAfter (record { table = start; ledger = zeros (cable .n) }) gs
 
--- Over every sequence of calls from the common start and a ledger of zeros: the tables are those of the calls without a ledger, the ledger has an entry for each node,
--- each figure is its tally, and no call is refused by 13.
-pub record Tallied (cable : Cable) (start : Table) (cs : List Call) : Type 0 where
-  pub tables : fromZeros cable start cs .table ≡ tableAfter start cs
-  pub size : length (fromZeros cable start cs .ledger) ≡ cable .n
+abbrev pub madeFrom : Cable → Table → List Given → List Call
+madeFrom cable start gs = madeOf (record { table = start; ledger = zeros (cable .n) }) gs
+
+-- Over every sequence of calls from the common start and a ledger of zeros, whatever counts and job bytes are given: the tables are those of the calls that are made, without a ledger, the ledger has an
+-- entry for each node, each figure is its tally, and no call is refused by 13.
+pub record Tallied (cable : Cable) (start : Table) (gs : List Given) : Type 0 where
+  pub tables : fromZeros cable start gs .table ≡ tableAfter start (madeFrom cable start gs)
+  pub size : length (fromZeros cable start gs .ledger) ≡ cable .n
   pub entries : (i : ℕ) → i ≤ cable .n → 1 ≤ i
-      → getD (fromZeros cable start cs .ledger) (i - 1) []
-      ≡ figures (timesLeft start cs i) (timesJoined start cs i) (lastLeaving start cs i)
-  pub never-13 : (c : Call)
-      → let b = fromZeros cable start cs in
-      keptBy c (b .ledger) (b .table) .reply .outcome ≢ Refused (cause 13)
+      → getD (fromZeros cable start gs .ledger) (i - 1) []
+      ≡ let cs = madeFrom cable start gs in figures (timesLeft start cs i) (timesJoined start cs i) (lastLeaving start cs i)
+  pub never-13 : (g : Given)
+      → let b = fromZeros cable start gs in
+      keptBy g (b .ledger) (b .table) .reply .outcome ≢ Refused (cause 13)
 
 abbrev pub LedgerTallies : Type 0
 LedgerTallies =
     (cable : Cable) → cableFits cable ≡ true
     → (lent : Table) → length lent ≡ cable .n
-    → (cs : List Call) → Tallied cable (setUpOf cable lent .table) cs
+    → (gs : List Given) → Tallied cable (setUpOf cable lent .table) gs

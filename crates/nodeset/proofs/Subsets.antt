@@ -10,7 +10,7 @@ use lib.Dec.{eqb, ltb}
 use lib.Pow.{pow-pos, pow-mono}
 use borrow.Author.Tests.{eqb-true, eqb-false, eq-eqb, ne-eqb, ltb-true, lt-ltb}
 use Rattle.nodeset.specs.Sums.{sum, num}
-use Rattle.nodeset.specs.Sets.{has, full, within, subset, size}
+use Rattle.nodeset.specs.Sets.{has, minus, full, within, subset, size}
 use Rattle.nodeset.proofs.Tests.{by-cases}
 use Rattle.nodeset.proofs.Sums.{sum-same, sum-zero, sum-at, num-false}
 use Rattle.nodeset.proofs.Bits.{has-beyond, has-mod, has-and, has-not}
@@ -106,3 +106,9 @@ within-part n a b l = go (within n b) (subset a b) refl refl
         (sym (subset-within n a l) ∙ has-subset a (full n) (λ x p q h. has-full n x p (has-range n b x (ltb-true b (2 ^ n) w) (subset-has a b x l e h) .1) q)))
     go true false w e = sym (and-comm (within n a) false)
     go false v w e = refl
+
+-- ---- one set without another
+
+pub has-minus : (a b x : ℕ) → 1 ≤ x → x ≤ 32 → b < 2 ^ 32 → has (minus a b) x ≡ (has a x && not (has b x))
+has-minus a b zero h l q = absurd (elim h [ ])
+has-minus a b (suc u) h l q = has-and a (2 ^ 32 - 1 - b) u ∙ ap (λ (c : Bool). has a (suc u) && c) (has-not 32 b u (omega arith) q)

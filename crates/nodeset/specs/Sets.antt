@@ -3,7 +3,7 @@
 use Prim.Native.Nat.{ℕ, zero, suc, _+_, _-_, _/_, _%_, _^_, min}
 use mathlib.Core.Bool.{Bool, false, cond, not, xor, _&&_}
 use lib.Dec.{eqb, ltb}
-use lib.Bits.{bitOr}
+use lib.Bits.{bitAnd, bitOr}
 use Rattle.nodeset.specs.Sums.{sum, num}
 
 -- Node x is in the set.
@@ -28,6 +28,10 @@ without s (suc i) = cond (has s (suc i)) (s - 2 ^ i) s
 -- The nodes that are in one of the sets or in both.
 abbrev pub union : ℕ → ℕ → ℕ
 union a b = bitOr a b
+
+-- The nodes of the first set, of 1 to 32, that are not in the second.
+abbrev pub minus : ℕ → ℕ → ℕ
+minus a b = bitAnd a (2 ^ 32 - 1 - b)
 
 -- The set of the nodes 1 to n, all of 1 to 32 where n is more.
 unfoldable pub full : ℕ → ℕ

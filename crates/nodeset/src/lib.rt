@@ -1,7 +1,7 @@
 // Sets of node numbers 1 to 32 in a u32: node 1 is the lowest bit. Every u32 is a set. A number
 // that is not 1 to 32 names no node: no set has it, and with and without leave the set as it is.
 ghost use mathlib.Core.Path.{_≡_};
-ghost use Rattle.nodeset.specs.Sets.{has, with, withIf, without, union, full, within, subset, size, distance, run};
+ghost use Rattle.nodeset.specs.Sets.{has, with, withIf, without, union, minus, full, within, subset, size, distance, run};
 
 // Whether node x is in the set.
 pub fn has(s: u32, x: u32) -> bool
@@ -59,6 +59,13 @@ pub fn union(a: u32, b: u32) -> u32
     a | b
 }
 
+// The nodes of the first set that are not in the second.
+pub fn minus(a: u32, b: u32) -> u32
+    ensures { λ r. ⌜ r ≡ minus a b ⌝ }
+{
+    a & !b
+}
+
 // The set of the nodes 1 to n.
 pub fn full(n: u32) -> u32
     ensures { λ r. ⌜ r ≡ full n ⌝ }
@@ -73,7 +80,7 @@ pub fn full(n: u32) -> u32
 pub fn is_subset(a: u32, b: u32) -> bool
     ensures { λ r. ⌜ r ≡ subset a b ⌝ }
 {
-    a & !b == 0
+    minus(a, b) == 0
 }
 
 // Whether the set holds only numbers 1 to n.

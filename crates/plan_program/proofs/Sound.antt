@@ -13,9 +13,13 @@ use borrow.Author.Tests.{ne-eqb, ltb-false}
 use Rattle.nodeset.proofs.Tests.{by-cases}
 use Rattle.ring.specs.Ring.{cableOf, cableFits}
 use Rattle.ring.proofs.Ranges.{ring-size, fitting}
+use Rattle.bench.specs.Calls.{Called, slotOf}
+use Rattle.bench.specs.declared.Command.the-variants as command
+use Rattle.bench.proofs.Ledgers.{given-none}
+use Rattle.plan_run.specs.declared.Act.the-variants as act
 use Rattle.node.specs.Calls.{noNode}
 use Rattle.bench.specs.Table.{Table, recordOf, slotsOf, tableSound}
-use Rattle.bench.specs.Outcomes.{endedOf}
+use Rattle.bench.specs.Outcomes.{endedOf, slotGiven}
 use Rattle.bench.specs.Runs.{Call, slot, off, restart, callOf, tableAfter}
 use Rattle.bench.proofs.Places.{Placed, sound-placed, placed-sound}
 use Rattle.bench.proofs.Runs.{placed-call, start-placed}
@@ -71,11 +75,18 @@ module _ (n : ℕ) (rows : Rows) (sound : tableSound (tableOf n rows) ≡ true) 
   abbrev t : Table
   t = tableOf n rows
 
+  -- a line's slot has job byte 0
+  slot-table : (lost : Bool) (missed : ℕ) → tableOf n (ranBy n rows (act.Call (command.Slot lost missed 0)) .rows) ≡ slotOf lost missed 64 t .table
+  unfolding by-value.callOf endedOf callOf
+  slot-table lost missed =
+      let is = given-none lost missed 64 t in
+      table-replaced n rows (slotGiven lost missed 0 64 t .table) (ap (λ (c : Called). length (c .table)) is ∙ same-size t sound (slot lost missed 64)) ∙ ap (λ (c : Called). c .table) is
+
   pub line-table : (l : Line) → tableOf n (ranBy n rows (actOf l) .rows) ≡ tableAfter t (madeBy l)
   unfolding tableAfter by-value.callOf endedOf callOf
-  line-table lines.Ok = table-replaced n rows _ (same-size t sound (slot false 0 64))
-  line-table lines.Lost = table-replaced n rows _ (same-size t sound (slot true 0 64))
-  line-table (lines.Miss missed) = table-replaced n rows _ (same-size t sound (slot false missed 64))
+  line-table lines.Ok = slot-table false 0
+  line-table lines.Lost = slot-table true 0
+  line-table (lines.Miss missed) = slot-table false missed
   line-table (lines.Off a) = table-replaced n rows _ (same-size t sound (off a))
   line-table (lines.On a) = table-replaced n rows _ (same-size t sound (restart a))
   line-table (lines.Refused cause) = refl

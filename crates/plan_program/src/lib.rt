@@ -391,8 +391,10 @@ fn is_table(n: u32, rows: [Node; 32]) -> bool
     ensures { λ r. ⌜ r ≡ tableSound (tableOf n rows) ⌝ }
 {
     let mut ledger = [[0u64; 3]; 1];
+    let mut counts = [[[0u64; 8]; 32]; 1];
     let mut pairs = [0u8; 64];
-    let ran = bench_by_value::call(&mut ledger, &mut pairs, rows, n, Command::Look(false));
+    let look = Command::Look(false);
+    let ran = bench_by_value::call(&mut ledger, &mut counts, &mut pairs, rows, n, look);
     let outcome = ran.outcome;
     !is_refused(outcome)
 }

@@ -16,6 +16,7 @@ use Rattle.ring.specs.Ring.{nodeNumber, ringSize, sender}
 use Rattle.ring.proofs.Ranges.{node-number, ring-size}
 use Rattle.ring.proofs.Senders.{sender-range}
 use Rattle.ring.specs.declared.Cable.{Cable}
+use Rattle.bench.specs.Reports.{jobsOn}
 use Rattle.node_record.specs.declared.Node.{Node}
 use Rattle.node_record.specs.States.{isOut}
 use Rattle.node.specs.Calls.{noNode}
@@ -27,9 +28,9 @@ use Rattle.bench.proofs.Places.{sound-placed}
 use Rattle.bench_walks.specs.declared.Order.{Order}
 use Rattle.bench_walks.specs.declared.Order.the-variants as order
 use Rattle.bench_walks.specs.Survey.{fineTable, glimpseOf, recordIn, senderAfter, surveyOf}
-use Rattle.bench_walks.specs.Orders.{carried, carriedFrom, ifGood, orderOf, orderFor}
+use Rattle.bench_walks.specs.Orders.{carried, carriedFrom, ifGood, orderOf, orderFor, allFit}
 use Rattle.bench_walks.proofs.Numbers.{index-in}
-use Rattle.bench_calls.proofs.Surveys.{fine-table, said, sender-after, with-own}
+use Rattle.bench_calls.proofs.Surveys.{fine-table, said, sender-after, noted-own}
 use Rattle.bench_calls.proofs.Works.{calledFit, called-fitting}
 use Rattle.bench_calls.proofs.Outcomes.{done-by, is-ended}
 use Rattle.bench_by_value.specs.ByValue.{Rows, callOf, ended, tableOf}
@@ -75,6 +76,10 @@ module _ (t : Table) (sound : tableSound t ≡ true) where
     unfolding glimpseOf
     n-same = n-is ∙ sym (said t sound .n)
 
+    jobs-same : glimpseOf t a .cable .m ≡ surveyOf t .cable .m
+    unfolding glimpseOf jobsOn
+    jobs-same = ap (λ (v : Node). v .cable .m) (there 1 (omega arith) (omega (arith, in-ring))) ∙ sym (said t sound .jobs)
+
     slots-same : glimpseOf t a .slots ≡ surveyOf t .slots
     unfolding glimpseOf
     slots-same = slots-is ∙ sym (said t sound .slots)
@@ -95,29 +100,29 @@ module _ (t : Table) (sound : tableSound t ≡ true) where
         let placed = sound-placed t sound in
         let is = there a (m .0) (m .1) in
         let own : recordIn t a .own ≡ a = ap (λ (v : Node). v .own) is ∙ placed .at a (m .0) (omega (arith, m .1, placed .length-is)) .own-is in
-        with-own (recordOf t 1 .cable) 0 0 a (recordIn t a) own (m .0) (omega (arith, m .1, in-ring)) (has-none a)
+        noted-own (isOut (recordIn t a .state)) 0 a (recordIn t a .own) own (m .0) (omega (arith, m .1, in-ring)) (has-none a)
         ∙ ap (λ (v : Node). isOut (v .state)) is
         ∙ sym (said t sound .out a named)
 
-  same-order : (c : Command) → orderOf c (glimpseOf t (askedBy c)) (length t) 64 true ≡ orderOf c (surveyOf t) (length t) 64 true
+  same-order : (c : Command) → orderOf c (glimpseOf t (askedBy c)) (length t) 64 allFit ≡ orderOf c (surveyOf t) (length t) 64 allFit
   same-order (command.SetUp cable) = refl
   same-order (command.Off a) = rw (fine-same 0, n-same 0) refl
   same-order (command.Restart a) =
       let by : Bool → Order = λ b. ifGood (fineTable (surveyOf t) (length t)) Unsound (ifGood (nodeNumber (surveyOf t .cable .n) a) NodeNumber (ifGood b NotOut (order.Restart a))) in
       rw (fine-same a, n-same a) (by-cases (nodeNumber (surveyOf t .cable .n) a) (λ e. ap by (out-same a e)) (λ e. simp e))
-  same-order (command.Slot lost missed) = rw (fine-same 0, n-same 0, slots-same 0, sender-same 0, speaker-same 0) refl
+  same-order (command.Slot lost missed jobs) = rw (fine-same 0, n-same 0, jobs-same 0, slots-same 0, sender-same 0, speaker-same 0) refl
   same-order (command.Look lost) = rw (fine-same 0, slots-same 0, sender-same 0, speaker-same 0) refl
 
 -- ---- an order that is carried out
 
-carried-call : (c : Command) (t : Table) (o : Order) → o ≡ orderOf c (surveyOf t) (length t) 64 true → done-by o t ≡ endedOf c 64 t
+carried-call : (c : Command) (t : Table) (o : Order) → o ≡ orderOf c (surveyOf t) (length t) 64 allFit → done-by o t ≡ endedOf c 64 t
 unfolding endedOf orderFor
 carried-call c t o is =
     let out : List ℕ = replicate 64 0 in
     let room : length out ≡ 64 = length-replicate {A = ℕ} 64 0 in
-    ap (λ (x : Order). done-by x t) (is ∙ ap (λ (l : ℕ). orderFor c l true t) (sym room))
-    ∙ is-ended c true t out
-    ∙ ap (λ (l : ℕ). endedBy c t (calledFit c l true t)) room
+    ap (λ (x : Order). done-by x t) (is ∙ ap (λ (l : ℕ). orderFor c l allFit t) (sym room))
+    ∙ is-ended c allFit t out
+    ∙ ap (λ (l : ℕ). endedBy c t (calledFit c l allFit t)) room
     ∙ ap (endedBy c t) (called-fitting c 64 t)
 
 -- a table that is to do nothing
@@ -136,7 +141,7 @@ module _ (n : ℕ) (rows : Rows) where
   abbrev t : Table
   t = tableOf n rows
 
-  called : (c : Command) → orderOn (act.Call c) t ≡ orderOf c (surveyOf t) (length t) 64 true → Does n rows (act.Call c)
+  called : (c : Command) → orderOn (act.Call c) t ≡ orderOf c (surveyOf t) (length t) 64 allFit → Does n rows (act.Call c)
   unfolding callOf
   called c is = let e = carried-call c t (orderOn (act.Call c) t) is in (ap (λ (x : Ended). ended n rows x .rows) e, ap (λ (x : Ended). ended n rows x .outcome) e)
 

@@ -1,6 +1,5 @@
 -- Inner: what a line has a lent table do, where the table is taken as it is. The laws in proofs/Glimpses tie it to specs/Run.
 use Prim.Native.Nat.{ℕ}
-use mathlib.Core.Bool.{true}
 use lib.ListN.{length}
 use Rattle.ring.specs.Ring.{cableOf}
 use Rattle.bench.specs.Table.{Table}
@@ -11,7 +10,7 @@ use Rattle.bench_walks.specs.declared.Order.{Order}
 use Rattle.bench_walks.specs.declared.Order.the-variants as order
 use Rattle.bench_walks.specs.declared.Survey.{Survey}
 use Rattle.bench_walks.specs.Survey.{glimpseOf}
-use Rattle.bench_walks.specs.Orders.{orderOf, replyBy}
+use Rattle.bench_walks.specs.Orders.{allFit, orderOf, replyBy}
 use Rattle.bench_calls.specs.declared.Work.{Work}
 use Rattle.bench_calls.specs.Work.{workOf}
 use Rattle.plan_line.specs.declared.Opening.{Opening}
@@ -29,16 +28,16 @@ abbrev pub askedBy : Command → ℕ
 askedBy (command.SetUp cable) = 0
 askedBy (command.Off a) = 0
 askedBy (command.Restart a) = a
-askedBy (command.Slot lost missed) = 0
+askedBy (command.Slot lost missed jobs) = 0
 askedBy (command.Look lost) = 0
 
 abbrev pub asked : Act → ℕ
 asked (act.Call c) = askedBy c
 asked (act.Refuse cause) = 0
 
--- What each record is to do, with room for all pairs. No ledger is kept.
+-- What each record is to do, with room for all pairs. Neither ledger nor counts are kept.
 abbrev pub orderBy : Act → Survey → ℕ → Order
-orderBy (act.Call c) s size = orderOf c s size 64 true
+orderBy (act.Call c) s size = orderOf c s size 64 allFit
 orderBy (act.Refuse cause) s size = order.Refuse cause
 
 unfoldable pub orderOn : Act → Table → Order

@@ -23,9 +23,9 @@ use Rattle.plan_run.specs.declared.Opened.{Opened}
 -- "Then `ok`, `lost`, `miss a b` .. each run a slot; `off a` and `on a` switch or restart a node, no slot". A slot takes: "message lost to all or not, and which
 -- nodes miss it" ("The bench").
 abbrev pub actOf : Line → Act
-actOf lines.Ok = act.Call (command.Slot false 0)
-actOf lines.Lost = act.Call (command.Slot true 0)
-actOf (lines.Miss missed) = act.Call (command.Slot false missed)
+actOf lines.Ok = act.Call (command.Slot false 0 0)
+actOf lines.Lost = act.Call (command.Slot true 0 0)
+actOf (lines.Miss missed) = act.Call (command.Slot false missed 0)
 actOf (lines.Off a) = act.Call (command.Off a)
 actOf (lines.On a) = act.Call (command.Restart a)
 actOf (lines.Refused cause) = act.Refuse cause

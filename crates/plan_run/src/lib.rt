@@ -4,6 +4,7 @@
 use bench::Command;
 use bench::Outcome;
 use bench_calls::Work;
+use bench_walks::Beside;
 use bench_walks::Order;
 use bench_walks::Survey;
 use node_record::Node;
@@ -33,6 +34,12 @@ pub struct Opened {
     pub outcome: Outcome,
 }
 
+// Nothing is lent beside the table that could be amiss.
+const ALL_FIT: Beside = Beside {
+    ledger: true,
+    reports: true,
+};
+
 // Rows of no node.
 pub fn no_rows() -> [Node; 32]
     ensures { λ r. ⌜ r ≡ noRows ⌝ }
@@ -45,9 +52,9 @@ fn act_of(line: Line) -> Act
     ensures { λ r. ⌜ r ≡ actOf line ⌝ }
 {
     match line {
-        Line::Ok => Act::Call(Command::Slot(false, 0)),
-        Line::Lost => Act::Call(Command::Slot(true, 0)),
-        Line::Miss(missed) => Act::Call(Command::Slot(false, missed)),
+        Line::Ok => Act::Call(Command::Slot(false, 0, 0)),
+        Line::Lost => Act::Call(Command::Slot(true, 0, 0)),
+        Line::Miss(missed) => Act::Call(Command::Slot(false, missed, 0)),
         Line::Off(a) => Act::Call(Command::Off(a)),
         Line::On(a) => Act::Call(Command::Restart(a)),
         Line::Refused(cause) => Act::Refuse(cause),
@@ -91,7 +98,7 @@ fn asked_by(command: Command) -> u32
         Command::SetUp(_) => 0,
         Command::Off(_) => 0,
         Command::Restart(a) => a,
-        Command::Slot(_, _) => 0,
+        Command::Slot(_, _, _) => 0,
         Command::Look(_) => 0,
     }
 }
@@ -105,12 +112,12 @@ fn asked(act: Act) -> u32
     }
 }
 
-// What each record is to do, with room for all pairs. No ledger is kept.
+// What each record is to do, with room for all pairs. Neither ledger nor counts are kept.
 fn order_by(act: Act, s: Survey, size: usize) -> Order
     ensures { λ r. ⌜ r ≡ orderBy act s size ⌝ }
 {
     match act {
-        Act::Call(command) => bench_walks::order_of(command, s, size, 64, true),
+        Act::Call(command) => bench_walks::order_of(command, s, size, 64, ALL_FIT),
         Act::Refuse(cause) => Order::Refuse(cause),
     }
 }

@@ -1,9 +1,10 @@
 //! Document 01, "The bench", with the order of changes of document 02, request c. The calls take a table of
-//! records and change it, slot and off also the ledger of request a; a refused call gives the number of the
-//! refusal and leaves both as they were.
+//! records and change it, slot and off also the ledger of request a, set-up and slot also the counts of request h; a
+//! refused call gives the number of the refusal and leaves all as it was.
 
+use super::counts::{self, Counts};
 use super::ledger::{self, Figures};
-use super::message::Said;
+use super::message::{self, Said};
 use super::node::{Node, State};
 use super::refusal;
 use super::ring::{self, Set};
@@ -79,6 +80,18 @@ pub fn set_up(n: u32, k: u32, m: u32, length: usize) -> Result<Vec<Node>, u32> {
     Ok((1..=n).map(|own| Node { own, ..first }).collect())
 }
 
+/// The same beside the counts, which it clears: "not one array of counts per node in set-up .. gives 4".
+pub fn counted_set_up(
+    (n, k, m): (u32, u32, u32),
+    length: usize,
+    counts: &mut [Counts],
+) -> Result<Vec<Node>, u32> {
+    let table = set_up(n, k, m, length)?;
+    counts::check_number(counts, table.len())?;
+    counts.fill(counts::NONE);
+    Ok(table)
+}
+
 /// "one per node in number order, all with the same n, k and slot count", each of them sound; "so does a kept choice
 /// .. not the same throughout the table"
 pub fn check_table(nodes: &[Node]) -> Result<(), u32> {
@@ -99,9 +112,15 @@ fn check_node(nodes: &[Node], x: u32) -> Result<(), u32> {
     ring::check_node(nodes[0].n, x)
 }
 
-/// 4, then 3.
-fn check_missed(nodes: &[Node], missed: Set) -> Result<(), u32> {
+/// A table that is none, or counts that do not fit it: 4.
+fn check_counted(nodes: &[Node], counts: &[Counts]) -> Result<(), u32> {
     check_table(nodes)?;
+    counts::check_number(counts, nodes.len())?;
+    counts.iter().try_for_each(|counts| counts::check(counts, nodes[0].slots))
+}
+
+/// "node number not 1 to n", of those who miss a message
+fn check_missed(nodes: &[Node], missed: Set) -> Result<(), u32> {
     if missed.within(Set::full(nodes[0].n)) {
         Ok(())
     } else {
@@ -109,31 +128,50 @@ fn check_missed(nodes: &[Node], missed: Set) -> Result<(), u32> {
     }
 }
 
-/// 5, then 9.
-fn check_room(nodes: &[Node], room: usize) -> Result<(), u32> {
-    if nodes[0].slots == ring::LIMIT {
-        return Err(refusal::LIMIT);
+fn check_limit(nodes: &[Node]) -> Result<(), u32> {
+    if nodes[0].slots < ring::LIMIT {
+        Ok(())
+    } else {
+        Err(refusal::LIMIT)
     }
-    if room < ROOM {
-        return Err(refusal::OUTPUT);
-    }
-    Ok(())
 }
 
-/// One slot: the message is lost to all or not, and these nodes miss it; `room` is the length of the
-/// lent buffer. A leaving is dated with the slot's number. "13, just before 5"
-pub fn slot(
-    nodes: &mut [Node],
-    ledger: &mut [Figures],
-    lost: bool,
-    missed: Set,
-    room: usize,
-) -> Result<Slot, u32> {
-    check_missed(nodes, missed)?;
+fn check_room(room: usize) -> Result<(), u32> {
+    if room >= ROOM {
+        Ok(())
+    } else {
+        Err(refusal::OUTPUT)
+    }
+}
+
+/// One slot's message: lost to all or not, missed by these nodes, with this job byte given to the sender.
+#[derive(Clone, Copy)]
+pub struct Message {
+    pub lost: bool,
+    pub missed: Set,
+    pub jobs: u8,
+}
+
+/// What is lent beside the table: the ledger, and an array of counts for each node.
+pub struct Beside<'a> {
+    pub ledger: &'a mut [Figures],
+    pub counts: &'a mut [Counts],
+}
+
+/// One slot; `room` is the length of the lent buffer. A leaving is dated with the slot's number. "13, just before 5";
+/// a job past m is 8, in table order.
+pub fn slot(nodes: &mut [Node], beside: Beside, message: Message, room: usize) -> Result<Slot, u32> {
+    let Beside { ledger, counts } = beside;
+    check_counted(nodes, counts)?;
+    check_missed(nodes, message.missed)?;
     ledger::check(ledger, nodes)?;
-    check_room(nodes, room)?;
+    check_limit(nodes)?;
+    message::check_jobs(nodes[0].m, message.jobs)?;
+    check_room(room)?;
     let before = nodes.to_vec();
-    let slot = run_slot(&Document01, nodes, lost, missed);
+    let slot = run_slot(&Document01, nodes, message, |node, heard| {
+        counts::enter(&mut counts[node.own as usize - 1], node, heard);
+    });
     ledger::enter(ledger, &before, nodes, before[0].slots + 1);
     Ok(slot)
 }
@@ -165,13 +203,15 @@ pub fn restart(nodes: &mut [Node], x: u32) -> Result<(), u32> {
     Ok(())
 }
 
-/// Any of the calls on a table that has no ledger, by these rules; what happened, if it is a slot.
+/// Any of the calls on a table that has neither ledger nor counts, by these rules; what happened, if it is a slot. No
+/// job is reported.
 pub fn run(rules: &impl Rules, nodes: &mut [Node], call: Call) -> Result<Option<Slot>, u32> {
     match call {
         Call::Slot { lost, missed } => {
+            check_table(nodes)?;
             check_missed(nodes, missed)?;
-            check_room(nodes, ROOM)?;
-            Ok(Some(run_slot(rules, nodes, lost, missed)))
+            check_limit(nodes)?;
+            Ok(Some(run_slot(rules, nodes, Message { lost, missed, jobs: 0 }, |_, _| {})))
         }
         Call::Off(x) => {
             check_table(nodes)?;
@@ -211,11 +251,17 @@ pub fn next_sender(nodes: &[Node]) -> u32 {
     ring::sender(nodes[0].n, nodes[0].slots + 1)
 }
 
-/// One slot of a table that is as it must be and below the limit.
-fn run_slot(rules: &impl Rules, nodes: &mut [Node], lost: bool, missed: Set) -> Slot {
+/// One slot of a table that is as it must be and below the limit. `hear` is told of each node as the slot begins, and
+/// what it hears.
+fn run_slot(
+    rules: &impl Rules,
+    nodes: &mut [Node],
+    Message { lost, missed, jobs }: Message,
+    mut hear: impl FnMut(&Node, Option<Said>),
+) -> Slot {
     let sender = next_sender(nodes);
     let speaker = &nodes[sender as usize - 1];
-    let said = rules.says(speaker, 0);
+    let said = rules.says(speaker, jobs);
     let fate = fate(speaker, said, lost);
     // "A lost message is heard by nobody, named or not."
     let said = if lost { None } else { said };
@@ -223,7 +269,9 @@ fn run_slot(rules: &impl Rules, nodes: &mut [Node], lost: bool, missed: Set) -> 
     for node in nodes {
         // "A sender or silent slot is unaffected by being named." What it says the sender does not hear.
         let hears = node.own != sender && !missed.has(node.own);
-        let next = rules.step(node, if hears { said } else { None });
+        let heard = if hears { said } else { None };
+        hear(node, heard);
+        let next = rules.step(node, heard);
         match change(node.state, next.state) {
             Some(Kind::Left) => left.push((node.own, Kind::Left)),
             Some(kind) => others.push((node.own, kind)),

@@ -20,6 +20,15 @@ pub fn check(counts: &Counts, slots: u64) -> Result<(), u32> {
     }
 }
 
+/// "not one array of counts per node in set-up or bench slot"
+pub fn check_number(counts: &[Counts], n: usize) -> Result<(), u32> {
+    if counts.len() == n {
+        Ok(())
+    } else {
+        Err(refusal::UNSOUND)
+    }
+}
+
 /// What the next slot of this record adds, with this heard in it. What becomes of the node in it does not matter: "even
 /// if that message makes it leave". A listening or out node has an empty set.
 pub fn enter(counts: &mut Counts, node: &Node, heard: Option<Said>) {

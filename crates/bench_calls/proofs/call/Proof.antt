@@ -1,5 +1,5 @@
 -- `bench_calls::call` meets its contract: a walk of its MIR, by hand, by the shared steps of bench_walks' `Calls.antt`. The table is lent to `look_over` and `carry`, the ledger to `fits` and
--- `enter`, the buffer to `tell`, and all come back; that this is the call of the definitions is `Kept.antt`. Assumes nothing.
+-- `enter`, the counts to `beside` and `report`, the buffer to `tell`, and all come back; that this is the call of the definitions is `Kept.antt`. Assumes nothing.
 use mathlib.Core.Path.{_≡_, refl}
 use Prim.Native.Nat.{ℕ}
 use mathlib.Core.List.{[], _∷_, List}
@@ -16,7 +16,7 @@ use ghost.Atoms.{Atoms}
 use contract.Monad.{Fun}
 use contract.Running.{givenOf, tables, tablesOf}
 use types.Kit.{Given, ⋆, ‵, _⊛_, _$_, _∵_, !, qed, by, move, keep, split, join, fsplit, fjoin, suffices, frame, done}
-use types.Run.{look, init, stop, hop, fld, from, load, addr, of-opd, and-then, no-more, assigns, returns, enter as enters, alloc1, alloc0, params1, pass1, pass0, free0}
+use types.Run.{look, init, forget, stop, hop, fld, from, load, addr, of-opd, and-then, no-more, assigns, returns, enter as enters, alloc1, alloc0, params1, pass1, pass0, free0}
 use types.Part.{agg, whole, sub, look-in}
 use sound.WpLaws.{fmOf, WpFn-mono}
 use denote.Laws.{Is}
@@ -42,8 +42,11 @@ use Rattle.bench.proofs.Reply as Rp
 use Rattle.bench.proofs.Reply.Laws as Rp′
 use Rattle.bench_walks.proofs.Survey as S
 use Rattle.bench_walks.proofs.Survey.Laws as S′
+use Rattle.bench_walks.proofs.Beside as B
+use Rattle.bench_walks.proofs.Beside.Laws as B′
 use Rattle.bench_walks.proofs.Order as O
 use Rattle.bench_walks.proofs.Order.Laws as O′
+use Rattle.node_reports.specs.Reports.{Counts}
 use Rattle.bench.specs.Ledger.{Ledger, ledgerFits}
 use Rattle.bench.specs.Kept.{Kept, keptOf, bytesWith}
 use Rattle.bench_walks.specs.Survey.{surveyOf}
@@ -51,7 +54,7 @@ use Rattle.bench_walks.specs.Orders.{orderOf, carriedFrom, replyBy, writtenBy}
 use Rattle.bench_walks.proofs.Calls.{Plain, uint, boolean, unit, a-struct, an-enum, Known, Does, at, does, lends, shares, arg, frees}
 use Rattle.bench_calls.proofs.Work as Wk
 use Rattle.bench_calls.proofs.Work.Laws as Wk′
-use Rattle.bench_calls.specs.Work.{workOf, enteredBy}
+use Rattle.bench_calls.specs.Work.{workOf, besideBy, enteredBy, reportedBy}
 use Rattle.bench_calls.proofs.Kept.{call-run}
 use Rattle.bench_walks.proofs.look_over as look-over
 use Rattle.bench_walks.proofs.look_over.Symbol as look-over-def
@@ -61,6 +64,10 @@ use Rattle.bench_calls.proofs.fits as fits
 use Rattle.bench_calls.proofs.fits.Symbol as fits-def
 use Rattle.bench_calls.proofs.fits.Symbol.{name as #fits}
 use Rattle.bench_calls.proofs.fits.Met as fits-thm
+use Rattle.bench_calls.proofs.beside as beside
+use Rattle.bench_calls.proofs.beside.Symbol as beside-def
+use Rattle.bench_calls.proofs.beside.Symbol.{name as #beside}
+use Rattle.bench_calls.proofs.beside.Met as beside-thm
 use Rattle.bench_walks.proofs.order_of as order-of
 use Rattle.bench_walks.proofs.order_of.Symbol as order-of-def
 use Rattle.bench_walks.proofs.order_of.Symbol.{name as #order-of}
@@ -73,6 +80,10 @@ use Rattle.bench_calls.proofs.enter as enter
 use Rattle.bench_calls.proofs.enter.Symbol as enter-def
 use Rattle.bench_calls.proofs.enter.Symbol.{name as #enter}
 use Rattle.bench_calls.proofs.enter.Met as enter-thm
+use Rattle.bench_calls.proofs.report as report
+use Rattle.bench_calls.proofs.report.Symbol as report-def
+use Rattle.bench_calls.proofs.report.Symbol.{name as #report}
+use Rattle.bench_calls.proofs.report.Met as report-thm
 use Rattle.bench_calls.proofs.tell as tell
 use Rattle.bench_calls.proofs.tell.Symbol as tell-def
 use Rattle.bench_calls.proofs.tell.Symbol.{name as #tell}
@@ -86,16 +97,22 @@ use Rattle.bench_calls.proofs.call.Code as code
 abbrev E : RattleType
 E = Array (UInt w64) 3
 
-abbrev stayed : Stays (this.ended .signature .params) (this.ended .kept)
-stayed = (stay-slice (0 ∷ []) tt (plain (λ _. T.the-row)), (stay-slice (1 ∷ []) tt (plain (λ _. E)), (stay-slice (2 ∷ []) tt (plain (λ _. UInt w8)), (stay-dropped (plain (λ _. Q.the-row)) yes, tt))))
+-- a node's counts
+abbrev grid : RattleType
+grid = Array (Array (UInt w64) 8) 32
 
-abbrev kept : List Node → Ledger → Reply → Kept
-kept zs ls r = record { table = zs; ledger = ls; reply = r }
+abbrev stayed : Stays (this.ended .signature .params) (this.ended .kept)
+stayed =
+    (stay-slice (0 ∷ []) tt (plain (λ _. T.the-row)), (stay-slice (1 ∷ []) tt (plain (λ _. E)), (stay-slice (2 ∷ []) tt (plain (λ _. grid)), (stay-slice (3 ∷ []) tt (plain (λ _. UInt w8)), (stay-dropped (plain (λ _. Q.the-row)) yes, tt)))))
+
+abbrev kept : List Node → Ledger → List Counts → Reply → Kept
+kept zs ls cs r = record { table = zs; ledger = ls; counts = cs; reply = r }
 
 module _ {M : Type 1} (𝓤 : URA M) (H : Heap 𝓤) (A : Atoms 𝓤) (W : Given 𝓤 H A) (mem : Memory → SProp 𝓤) (run : Routine → Fun 𝓤) (𝓣 : Tables 𝓤 H)
     (known-over : Known 𝓤 H A (𝓣 .C) #look-over look-over.ended (look-over.clauses 𝓤 H A mem run)) (known-fits : Known 𝓤 H A (𝓣 .C) #fits fits.ended (fits.clauses 𝓤 H A mem run))
-    (known-order : Known 𝓤 H A (𝓣 .C) #order-of order-of.ended (order-of.clauses 𝓤 H A mem run)) (known-carry : Known 𝓤 H A (𝓣 .C) #carry carry.ended (carry.clauses 𝓤 H A mem run))
-    (known-enter : Known 𝓤 H A (𝓣 .C) #enter enter.ended (enter.clauses 𝓤 H A mem run)) (known-tell : Known 𝓤 H A (𝓣 .C) #tell tell.ended (tell.clauses 𝓤 H A mem run)) where
+    (known-beside : Known 𝓤 H A (𝓣 .C) #beside beside.ended (beside.clauses 𝓤 H A mem run)) (known-order : Known 𝓤 H A (𝓣 .C) #order-of order-of.ended (order-of.clauses 𝓤 H A mem run))
+    (known-carry : Known 𝓤 H A (𝓣 .C) #carry carry.ended (carry.clauses 𝓤 H A mem run)) (known-enter : Known 𝓤 H A (𝓣 .C) #enter enter.ended (enter.clauses 𝓤 H A mem run))
+    (known-report : Known 𝓤 H A (𝓣 .C) #report report.ended (report.clauses 𝓤 H A mem run)) (known-tell : Known 𝓤 H A (𝓣 .C) #tell tell.ended (tell.clauses 𝓤 H A mem run)) where
   abbrev size : Plain 𝓤 H A (UInt w64)
   size = uint 𝓤 H A W w64
 
@@ -104,6 +121,9 @@ module _ {M : Type 1} (𝓤 : URA M) (H : Heap 𝓤) (A : Atoms 𝓤) (W : Given
 
   abbrev survey : Plain 𝓤 H A S.the-row
   survey = a-struct 𝓤 H A W S.the-type S′.the-laws S′.the-plain
+
+  abbrev fit : Plain 𝓤 H A B.the-row
+  fit = a-struct 𝓤 H A W B.the-type B′.the-laws B′.the-plain
 
   abbrev order : Plain 𝓤 H A O.the-row
   order = an-enum 𝓤 H A W O.the-type O′.the-laws O′.the-plain tt
@@ -114,18 +134,21 @@ module _ {M : Type 1} (𝓤 : URA M) (H : Heap 𝓤) (A : Atoms 𝓤) (W : Given
   abbrev reply : Plain 𝓤 H A Rp.the-row
   reply = a-struct 𝓤 H A W Rp.the-type Rp′.the-laws Rp′.the-plain
 
-  does-order : Does 𝓤 H A (𝓣 .C) #order-of (plain (λ _. Q.the-row) ∷ plain (λ _. S.the-row) ∷ plain (λ _. UInt w64) ∷ plain (λ _. UInt w64) ∷ plain (λ _. Boolean) ∷ []) (yes, (yes, (yes, (yes, (yes, tt))))) (plain (λ _. O.the-row)) (λ a r. r ≡ orderOf (a .0) (a .1 .0) (a .1 .1 .0) (a .1 .1 .1 .0) (a .1 .1 .1 .1 .0))
+  does-order : Does 𝓤 H A (𝓣 .C) #order-of (plain (λ _. Q.the-row) ∷ plain (λ _. S.the-row) ∷ plain (λ _. UInt w64) ∷ plain (λ _. UInt w64) ∷ plain (λ _. B.the-row) ∷ []) (yes, (yes, (yes, (yes, (yes, tt))))) (plain (λ _. O.the-row)) (λ a r. r ≡ orderOf (a .0) (a .1 .0) (a .1 .1 .0) (a .1 .1 .1 .0) (a .1 .1 .1 .1 .0))
   does-order = record { clauses = order-of.clauses 𝓤 H A mem run; known = known-order; ghosts = λ a. tt; needs = λ a. id⊢ 𝓤 _; says = λ a r ws. id⊢ 𝓤 _ }
 
-  module _ (κ κ′ κ″ : Lft) (q q′ q″ : Share) (b o b′ o′ b″ o″ : ℕ) (γ γ′ γ″ : GName) (xs : List Node) (ls : Ledger) (out : List ℕ) (room : Room T.the-row (length xs)) (room′ : Room E (length ls)) (room″ : Room (UInt w8) (length out)) (c : Command) (g-c : Is Q.the-row c (command .val c ∷ [])) where
+  module _ (κ κ′ κ″ κ‴ : Lft) (q q′ q″ q‴ : Share) (b o b′ o′ b″ o″ b‴ o‴ : ℕ) (γ γ′ γ″ γ‴ : GName) (xs : List Node) (ls : Ledger) (cs : List Counts) (out : List ℕ) (room : Room T.the-row (length xs)) (room′ : Room E (length ls)) (room″ : Room grid (length cs)) (room‴ : Room (UInt w8) (length out)) (c : Command) (g-c : Is Q.the-row c (command .val c ∷ [])) where
     abbrev x : RefT (List Node)
     x = at T.the-row b o xs γ
 
     abbrev y : RefT Ledger
     y = at E b′ o′ ls γ′
 
-    abbrev z : RefT (List ℕ)
-    z = at (UInt w8) b″ o″ out γ″
+    abbrev z : RefT (List Counts)
+    z = at grid b″ o″ cs γ″
+
+    abbrev p : RefT (List ℕ)
+    p = at (UInt w8) b‴ o‴ out γ‴
 
     abbrev s : Val
     s = sliceVal (b, o) (length xs)
@@ -134,73 +157,89 @@ module _ {M : Type 1} (𝓤 : URA M) (H : Heap 𝓤) (A : Atoms 𝓤) (W : Given
     s′ = sliceVal (b′, o′) (length ls)
 
     abbrev s″ : Val
-    s″ = sliceVal (b″, o″) (length out)
+    s″ = sliceVal (b″, o″) (length cs)
+
+    abbrev s‴ : Val
+    s‴ = sliceVal (b‴, o‴) (length out)
 
     abbrev Post : Val → SProp 𝓤
-    Post = walkOf 𝓤 H A this.ended stayed (this.clauses 𝓤 H A mem run) .post (((κ, (κ′, (κ″, tt))), (q, (q′, (q″, tt))), tt, (x, (y, (z, (c, tt)))), (s ∷ [], (s′ ∷ [], (s″ ∷ [], (command .val c ∷ [], tt))))), tt)
+    Post = walkOf 𝓤 H A this.ended stayed (this.clauses 𝓤 H A mem run) .post (((κ, (κ′, (κ″, (κ‴, tt)))), (q, (q′, (q″, (q‴, tt)))), tt, (x, (y, (z, (p, (c, tt))))), (s ∷ [], (s′ ∷ [], (s″ ∷ [], (s‴ ∷ [], (command .val c ∷ [], tt)))))), tt)
 
-    exits : (zs : List Node) (ms : Ledger) (ws : List ℕ) (r : Reply) → Is Rp.the-row r (reply .val r ∷ []) → (kept zs ms r ≡ keptOf c (length out) ls xs) × (ws ≡ bytesWith c ls xs out)
-        → length zs ≡ length xs → length ms ≡ length ls → length ws ≡ length out
-        → ent 𝓤 (⋆ 𝓤 H A (‵ (MutSlice (named 2) κ″ (UInt w8) .own (at (UInt w8) b″ o″ ws γ″) (s″ ∷ [])) ∷ ‵ (flft κ″ q″) ∷ ‵ (MutSlice (named 1) κ′ E .own (at E b′ o′ ms γ′) (s′ ∷ [])) ∷ ‵ (flft κ′ q′) ∷ ‵ (MutSlice (named 0) κ T.the-row .own (at T.the-row b o zs γ) (s ∷ [])) ∷ ‵ (flft κ q) ∷ [])) (Post (reply .val r))
-    exits zs ms ws r g-r e l l′ l″ =
-        qed W (‵ (MutSlice (named 2) κ″ (UInt w8) .own (at (UInt w8) b″ o″ ws γ″) (s″ ∷ [])) ∷ ‵ (flft κ″ q″) ∷ ‵ (MutSlice (named 1) κ′ E .own (at E b′ o′ ms γ′) (s′ ∷ [])) ∷ ‵ (flft κ′ q′) ∷ ‵ (MutSlice (named 0) κ T.the-row .own (at T.the-row b o zs γ) (s ∷ [])) ∷ ‵ (flft κ q) ∷ []) ∵
-        suffices ! _ (ends-at 𝓤 H A this.ended stayed (this.clauses 𝓤 H A mem run) W (((κ, (κ′, (κ″, tt))), (q, (q′, (q″, tt))), tt, (x, (y, (z, (c, tt)))), (s ∷ [], (s′ ∷ [], (s″ ∷ [], (command .val c ∷ [], tt))))), tt) (reply .val r) r (zs, (ms, (ws, (tt, tt)))) (l, (l′, (l″, (tt, tt))))) $ says ! e $
-        nothing ! $ move ! (2 ∷ 0 ∷ []) $ join ! $ move ! (3 ∷ 0 ∷ []) $ join ! $ move ! (4 ∷ 0 ∷ []) $ join ! $ frame ! $
-        nothing ! $ nothing ! $ fjoin ! $ move ! (1 ∷ 0 ∷ []) $ fjoin ! $ move ! (1 ∷ 0 ∷ []) $ fjoin ! $ move ! (1 ∷ 0 ∷ []) $ fjoin ! $ frame ! $
+    exits : (zs : List Node) (ms : Ledger) (ds : List Counts) (ws : List ℕ) (r : Reply) → Is Rp.the-row r (reply .val r ∷ []) → (kept zs ms ds r ≡ keptOf c (length out) ls cs xs) × (ws ≡ bytesWith c ls cs xs out)
+        → length zs ≡ length xs → length ms ≡ length ls → length ds ≡ length cs → length ws ≡ length out
+        → ent 𝓤 (⋆ 𝓤 H A (‵ (MutSlice (named 3) κ‴ (UInt w8) .own (at (UInt w8) b‴ o‴ ws γ‴) (s‴ ∷ [])) ∷ ‵ (flft κ‴ q‴) ∷ ‵ (MutSlice (named 2) κ″ grid .own (at grid b″ o″ ds γ″) (s″ ∷ [])) ∷ ‵ (flft κ″ q″) ∷ ‵ (MutSlice (named 1) κ′ E .own (at E b′ o′ ms γ′) (s′ ∷ [])) ∷ ‵ (flft κ′ q′) ∷ ‵ (MutSlice (named 0) κ T.the-row .own (at T.the-row b o zs γ) (s ∷ [])) ∷ ‵ (flft κ q) ∷ [])) (Post (reply .val r))
+    exits zs ms ds ws r g-r e l l′ l″ l‴ =
+        qed W (‵ (MutSlice (named 3) κ‴ (UInt w8) .own (at (UInt w8) b‴ o‴ ws γ‴) (s‴ ∷ [])) ∷ ‵ (flft κ‴ q‴) ∷ ‵ (MutSlice (named 2) κ″ grid .own (at grid b″ o″ ds γ″) (s″ ∷ [])) ∷ ‵ (flft κ″ q″) ∷ ‵ (MutSlice (named 1) κ′ E .own (at E b′ o′ ms γ′) (s′ ∷ [])) ∷ ‵ (flft κ′ q′) ∷ ‵ (MutSlice (named 0) κ T.the-row .own (at T.the-row b o zs γ) (s ∷ [])) ∷ ‵ (flft κ q) ∷ []) ∵
+        suffices ! _ (ends-at 𝓤 H A this.ended stayed (this.clauses 𝓤 H A mem run) W (((κ, (κ′, (κ″, (κ‴, tt)))), (q, (q′, (q″, (q‴, tt)))), tt, (x, (y, (z, (p, (c, tt))))), (s ∷ [], (s′ ∷ [], (s″ ∷ [], (s‴ ∷ [], (command .val c ∷ [], tt)))))), tt) (reply .val r) r (zs, (ms, (ds, (ws, (tt, tt))))) (l, (l′, (l″, (l‴, (tt, tt)))))) $ says ! e $
+        nothing ! $ move ! (2 ∷ 0 ∷ []) $ join ! $ move ! (3 ∷ 0 ∷ []) $ join ! $ move ! (4 ∷ 0 ∷ []) $ join ! $ move ! (5 ∷ 0 ∷ []) $ join ! $ frame ! $
+        nothing ! $ nothing ! $ fjoin ! $ move ! (1 ∷ 0 ∷ []) $ fjoin ! $ move ! (1 ∷ 0 ∷ []) $ fjoin ! $ move ! (1 ∷ 0 ∷ []) $ fjoin ! $ move ! (1 ∷ 0 ∷ []) $ fjoin ! $ frame ! $
         owned ! Rp.the-row (Is Rp.the-row) (reply .makes) r _ g-r $ done !
 
-    walk : ent 𝓤 (onEntry 𝓤 H A this.signature (κ, (κ′, (κ″, tt))) (q, (q′, (q″, tt))) (x, (y, (z, (c, tt)))) (s ∷ [], (s′ ∷ [], (s″ ∷ [], (command .val c ∷ [], tt))))) (WpFn 𝓤 H (𝓣 .C) (𝓣 .Λ) code.function (s ∷ s′ ∷ s″ ∷ command .val c ∷ []) Post)
+    walk : ent 𝓤 (onEntry 𝓤 H A this.signature (κ, (κ′, (κ″, (κ‴, tt)))) (q, (q′, (q″, (q‴, tt)))) (x, (y, (z, (p, (c, tt))))) (s ∷ [], (s′ ∷ [], (s″ ∷ [], (s‴ ∷ [], (command .val c ∷ [], tt)))))) (WpFn 𝓤 H (𝓣 .C) (𝓣 .Λ) code.function (s ∷ s′ ∷ s″ ∷ s‴ ∷ command .val c ∷ []) Post)
     walk =
-        qed W ((‵ (flft κ q) ⊛ (‵ (flft κ′ q′) ⊛ (‵ (flft κ″ q″) ⊛ ‵ ftrue))) ∷ ‵ (owns (MutSlice (named 0) κ T.the-row ∷ MutSlice (named 1) κ′ E ∷ MutSlice (named 2) κ″ (UInt w8) ∷ Q.the-row ∷ []) (x, (y, (z, (c, tt)))) (s ∷ [], (s′ ∷ [], (s″ ∷ [], (command .val c ∷ [], tt))))) ∷ []) ∵
-        split ! $ move ! (1 ∷ []) $ split ! $ move ! (1 ∷ []) $ split ! $ move ! (4 ∷ []) $ fsplit ! $ move ! (1 ∷ []) $ fsplit ! $ move ! (1 ∷ []) $ fsplit ! $ keep ! (3 ∷ 7 ∷ 2 ∷ 6 ∷ 0 ∷ 4 ∷ []) $
-        enters ! (𝓣 .C) (𝓣 .Λ) code.function (s ∷ s′ ∷ s″ ∷ command .val c ∷ []) _ $
-        alloc1 ! (λ l₀. alloc1 ! (λ l₁. alloc1 ! (λ l₂. alloc1 ! (λ l₃. alloc1 ! (λ l₄. alloc1 ! (λ l₅. alloc1 ! (λ l₆. alloc1 ! (λ l₇. alloc1 ! (λ l₈. alloc1 ! (λ l₉. alloc1 ! (λ l₁₀. alloc1 ! (λ l₁₁. alloc1 ! (λ l₁₂. alloc1 ! (λ l₁₃. alloc1 ! (λ l₁₄. alloc1 ! (λ l₁₅. alloc1 ! (λ l₁₆. alloc1 ! (λ l₁₇. alloc1 ! (λ l₁₈. alloc1 ! (λ l₁₉. alloc1 ! (λ l₂₀. alloc1 ! (λ l₂₁. alloc0 ! $ params1 ! $
-        pass1 ! (init ! 40 refl (tt, (tt, (record { fits = room .0 }, tt)))) $ pass1 ! (init ! 38 refl (tt, (tt, (record { fits = room′ .0 }, tt)))) $ pass1 ! (init ! 36 refl (tt, (tt, (record { fits = room″ .0 }, tt)))) $ pass1 ! (init ! 34 refl (command .typed c g-c)) $ pass0 ! $ move ! (44 ∷ 45 ∷ []) $
-        assigns ! (of-opd ! (load ! (from ! (fld ! refl (stop !))) (look-in ! 42 (sub ! 1 refl (whole !))))) (from ! (stop !)) (init ! 34 refl (tt, record { fits = room .0 })) $
+        qed W ((‵ (flft κ q) ⊛ (‵ (flft κ′ q′) ⊛ (‵ (flft κ″ q″) ⊛ (‵ (flft κ‴ q‴) ⊛ ‵ ftrue)))) ∷ ‵ (owns (MutSlice (named 0) κ T.the-row ∷ MutSlice (named 1) κ′ E ∷ MutSlice (named 2) κ″ grid ∷ MutSlice (named 3) κ‴ (UInt w8) ∷ Q.the-row ∷ []) (x, (y, (z, (p, (c, tt))))) (s ∷ [], (s′ ∷ [], (s″ ∷ [], (s‴ ∷ [], (command .val c ∷ [], tt)))))) ∷ []) ∵
+        split ! $ move ! (1 ∷ []) $ split ! $ move ! (1 ∷ []) $ split ! $ move ! (1 ∷ []) $ split ! $ move ! (5 ∷ []) $ fsplit ! $ move ! (1 ∷ []) $ fsplit ! $ move ! (1 ∷ []) $ fsplit ! $ move ! (1 ∷ []) $ fsplit ! $ keep ! (4 ∷ 9 ∷ 3 ∷ 8 ∷ 2 ∷ 7 ∷ 0 ∷ 5 ∷ []) $
+        enters ! (𝓣 .C) (𝓣 .Λ) code.function (s ∷ s′ ∷ s″ ∷ s‴ ∷ command .val c ∷ []) _ $
+        alloc1 ! (λ l₀. alloc1 ! (λ l₁. alloc1 ! (λ l₂. alloc1 ! (λ l₃. alloc1 ! (λ l₄. alloc1 ! (λ l₅. alloc1 ! (λ l₆. alloc1 ! (λ l₇. alloc1 ! (λ l₈. alloc1 ! (λ l₉. alloc1 ! (λ l₁₀. alloc1 ! (λ l₁₁. alloc1 ! (λ l₁₂. alloc1 ! (λ l₁₃. alloc1 ! (λ l₁₄. alloc1 ! (λ l₁₅. alloc1 ! (λ l₁₆. alloc1 ! (λ l₁₇. alloc1 ! (λ l₁₈. alloc1 ! (λ l₁₉. alloc1 ! (λ l₂₀. alloc1 ! (λ l₂₁. alloc1 ! (λ l₂₂. alloc1 ! (λ l₂₃. alloc1 ! (λ l₂₄. alloc1 ! (λ l₂₅. alloc1 ! (λ l₂₆. alloc1 ! (λ l₂₇. alloc0 ! $ params1 ! $
+        pass1 ! (init ! 52 refl (tt, (tt, (record { fits = room .0 }, tt)))) $ pass1 ! (init ! 50 refl (tt, (tt, (record { fits = room′ .0 }, tt)))) $ pass1 ! (init ! 48 refl (tt, (tt, (record { fits = room″ .0 }, tt)))) $ pass1 ! (init ! 46 refl (tt, (tt, (record { fits = room‴ .0 }, tt)))) $ pass1 ! (init ! 44 refl (command .typed c g-c)) $ pass0 ! $ move ! (56 ∷ 57 ∷ []) $
+        assigns ! (of-opd ! (load ! (from ! (fld ! refl (stop !))) (look-in ! 54 (sub ! 1 refl (whole !))))) (from ! (stop !)) (init ! 44 refl (tt, record { fits = room .0 })) $
         -- the table is looked over
-        assigns ! (addr ! (from ! (fld ! refl (hop ! (look-in ! 42 (sub ! 0 refl (whole !))) (stop !))))) (from ! (stop !)) (init ! 24 refl (tt, tt)) $
-        assigns ! (agg ! (and-then ! (arg ! 24 refl) (and-then ! (load ! (from ! (fld ! refl (stop !))) (look-in ! 42 (sub ! 1 refl (whole !)))) (no-more !)))) (from ! (stop !)) (init ! 22 refl (tt, (tt, (record { fits = room .0 }, tt)))) $
+        assigns ! (addr ! (from ! (fld ! refl (hop ! (look-in ! 54 (sub ! 0 refl (whole !))) (stop !))))) (from ! (stop !)) (init ! 32 refl (tt, tt)) $
+        assigns ! (agg ! (and-then ! (arg ! 32 refl) (and-then ! (load ! (from ! (fld ! refl (stop !))) (look-in ! 54 (sub ! 1 refl (whole !)))) (no-more !)))) (from ! (stop !)) (init ! 30 refl (tt, (tt, (record { fits = room .0 }, tt)))) $
         shares ! (fmOf 𝓤 H (W .laws) 𝓣) T.the-row (plain (λ _. UInt w64) ∷ []) (yes, tt) (plain (λ _. S.the-row)) (look-over.clauses 𝓤 H A mem run) known-over κ q γ b o xs (length xs) refl room
         (λ κs. (size, tt)) (λ κs. (length xs, tt)) (λ κs. ((refl, room .0), tt)) (λ κs δ. tt) (λ κs δ. id⊢ 𝓤 _) (λ κs v. v ≡ surveyOf (take (length xs) xs)) (λ κs δ r ws. id⊢ 𝓤 _)
-        (λ ν δ i j. and-then ! (arg ! 22 refl) (and-then ! (arg ! 34 refl) (no-more !))) (λ κs. survey) (λ κs Δ. from ! (stop !)) 30 (λ κs. refl) (λ κs v g-v is-v. move ! (46 ∷ 47 ∷ []) $
+        (λ ν δ i j. and-then ! (arg ! 30 refl) (and-then ! (arg ! 44 refl) (no-more !))) (λ κs. survey) (λ κs Δ. from ! (stop !)) 40 (λ κs. refl) (λ κs v g-v is-v. move ! (58 ∷ 59 ∷ []) $
         -- the ledger is tested
-        assigns ! (addr ! (from ! (fld ! refl (hop ! (look-in ! 42 (sub ! 0 refl (whole !))) (stop !))))) (from ! (stop !)) (init ! 22 refl (tt, tt)) $
-        assigns ! (agg ! (and-then ! (arg ! 22 refl) (and-then ! (load ! (from ! (fld ! refl (stop !))) (look-in ! 42 (sub ! 1 refl (whole !)))) (no-more !)))) (from ! (stop !)) (init ! 20 refl (tt, (tt, (record { fits = room′ .0 }, tt)))) $
+        assigns ! (addr ! (from ! (fld ! refl (hop ! (look-in ! 54 (sub ! 0 refl (whole !))) (stop !))))) (from ! (stop !)) (init ! 30 refl (tt, tt)) $
+        assigns ! (agg ! (and-then ! (arg ! 30 refl) (and-then ! (load ! (from ! (fld ! refl (stop !))) (look-in ! 54 (sub ! 1 refl (whole !)))) (no-more !)))) (from ! (stop !)) (init ! 28 refl (tt, (tt, (record { fits = room′ .0 }, tt)))) $
         shares ! (fmOf 𝓤 H (W .laws) 𝓣) E (plain (λ _. S.the-row) ∷ []) (yes, tt) (plain (λ _. Boolean)) (fits.clauses 𝓤 H A mem run) known-fits κ′ q′ γ′ b′ o′ ls (length ls) refl room′
         (λ κs. (survey, tt)) (λ κs. (v, tt)) (λ κs. (g-v, tt)) (λ κs δ. tt) (λ κs δ. id⊢ 𝓤 _) (λ κs f. f ≡ ledgerFits (v .cable .n) (v .slots) ls) (λ κs δ r ws. id⊢ 𝓤 _)
-        (λ ν δ i j. and-then ! (arg ! 20 refl) (and-then ! (arg ! 34 refl) (no-more !))) (λ κs. boolean 𝓤 H A W) (λ κs Δ. from ! (stop !)) 30 (λ κs. refl) (λ κs f g-f is-f.
-        assigns ! (of-opd ! (load ! (from ! (fld ! refl (stop !))) (look-in ! 40 (sub ! 1 refl (whole !))))) (from ! (stop !)) (init ! 18 refl (tt, record { fits = room″ .0 })) $
-        does ! (fmOf 𝓤 H (W .laws) 𝓣) does-order (command, (survey, (size, (size, (boolean 𝓤 H A W, tt))))) (c, (v, (length xs, (length out, (f, tt))))) (g-c, (g-v, ((refl, room .0), ((refl, room″ .0), (g-f, tt)))))
-        (and-then ! (arg ! 39 refl) (and-then ! (arg ! 35 refl) (and-then ! (arg ! 37 refl) (and-then ! (arg ! 19 refl) (and-then ! (arg ! 33 refl) (no-more !)))))) order (from ! (stop !)) 30 refl (λ w g-w is-w. move ! (2 ∷ 3 ∷ []) $
+        (λ ν δ i j. and-then ! (arg ! 28 refl) (and-then ! (arg ! 44 refl) (no-more !))) (λ κs. boolean 𝓤 H A W) (λ κs Δ. from ! (stop !)) 40 (λ κs. refl) (λ κs f g-f is-f. move ! (60 ∷ 61 ∷ []) $
+        -- the counts are tested
+        assigns ! (addr ! (from ! (fld ! refl (hop ! (look-in ! 54 (sub ! 0 refl (whole !))) (stop !))))) (from ! (stop !)) (init ! 28 refl (tt, tt)) $
+        assigns ! (agg ! (and-then ! (arg ! 28 refl) (and-then ! (load ! (from ! (fld ! refl (stop !))) (look-in ! 54 (sub ! 1 refl (whole !)))) (no-more !)))) (from ! (stop !)) (init ! 26 refl (tt, (tt, (record { fits = room″ .0 }, tt)))) $
+        shares ! (fmOf 𝓤 H (W .laws) 𝓣) grid (plain (λ _. S.the-row) ∷ plain (λ _. Q.the-row) ∷ plain (λ _. Boolean) ∷ []) (yes, (yes, (yes, tt))) (plain (λ _. B.the-row)) (beside.clauses 𝓤 H A mem run) known-beside κ″ q″ γ″ b″ o″ cs (length cs) refl room″
+        (λ κs. (survey, (command, (boolean 𝓤 H A W, tt)))) (λ κs. (v, (c, (f, tt)))) (λ κs. (g-v, (g-c, (g-f, tt)))) (λ κs δ. tt) (λ κs δ. id⊢ 𝓤 _) (λ κs h. h ≡ besideBy c v f cs) (λ κs δ r ws. id⊢ 𝓤 _)
+        (λ ν δ i j. and-then ! (arg ! 26 refl) (and-then ! (arg ! 46 refl) (and-then ! (arg ! 50 refl) (and-then ! (arg ! 44 refl) (no-more !))))) (λ κs. fit) (λ κs Δ. from ! (stop !)) 40 (λ κs. refl) (λ κs h g-h is-h.
+        assigns ! (of-opd ! (load ! (from ! (fld ! refl (stop !))) (look-in ! 52 (sub ! 1 refl (whole !))))) (from ! (stop !)) (init ! 24 refl (tt, record { fits = room‴ .0 })) $
+        does ! (fmOf 𝓤 H (W .laws) 𝓣) does-order (command, (survey, (size, (size, (fit, tt))))) (c, (v, (length xs, (length out, (h, tt))))) (g-c, (g-v, ((refl, room .0), ((refl, room‴ .0), (g-h, tt)))))
+        (and-then ! (arg ! 51 refl) (and-then ! (arg ! 47 refl) (and-then ! (arg ! 49 refl) (and-then ! (arg ! 25 refl) (and-then ! (arg ! 43 refl) (no-more !)))))) order (from ! (stop !)) 40 refl (λ w g-w is-w. move ! (4 ∷ 5 ∷ []) $
         -- the order is carried out
-        assigns ! (addr ! (from ! (fld ! refl (hop ! (look-in ! 44 (sub ! 0 refl (whole !))) (stop !))))) (from ! (stop !)) (init ! 16 refl (tt, tt)) $
-        assigns ! (agg ! (and-then ! (arg ! 16 refl) (and-then ! (load ! (from ! (fld ! refl (stop !))) (look-in ! 44 (sub ! 1 refl (whole !)))) (no-more !)))) (from ! (stop !)) (init ! 14 refl (tt, (tt, (record { fits = room .0 }, tt)))) $
+        assigns ! (addr ! (from ! (fld ! refl (hop ! (look-in ! 58 (sub ! 0 refl (whole !))) (stop !))))) (from ! (stop !)) (init ! 22 refl (tt, tt)) $
+        assigns ! (agg ! (and-then ! (arg ! 22 refl) (and-then ! (load ! (from ! (fld ! refl (stop !))) (look-in ! 58 (sub ! 1 refl (whole !)))) (no-more !)))) (from ! (stop !)) (init ! 20 refl (tt, (tt, (record { fits = room .0 }, tt)))) $
         lends ! (fmOf 𝓤 H (W .laws) 𝓣) T.the-row (plain (λ _. O.the-row) ∷ []) (yes, tt) (plain (λ _. Wk.the-row)) (carry.clauses 𝓤 H A mem run) known-carry κ q γ b o xs (length xs) refl room
         (λ κs. (order, tt)) (λ κs. (w, tt)) (λ κs. (g-w, tt)) (λ κs δ. tt) (λ κs δ. id⊢ 𝓤 _) (λ κs zs m. (zs ≡ carriedFrom w 0 xs) × (m ≡ workOf w xs)) (λ κs δ r ws. id⊢ 𝓤 _)
-        (λ ν δ i j. and-then ! (arg ! 14 refl) (and-then ! (arg ! 30 refl) (no-more !))) (λ κs. work) (λ κs Δ. from ! (stop !)) 26 (λ κs. refl) (λ κs zs m g-m same is-m. move ! (2 ∷ 3 ∷ []) $
+        (λ ν δ i j. and-then ! (arg ! 20 refl) (and-then ! (arg ! 40 refl) (no-more !))) (λ κs. work) (λ κs Δ. from ! (stop !)) 36 (λ κs. refl) (λ κs zs m g-m same is-m. move ! (4 ∷ 5 ∷ []) $
         -- who left and who joined is entered
-        assigns ! (addr ! (from ! (fld ! refl (hop ! (look-in ! 42 (sub ! 0 refl (whole !))) (stop !))))) (from ! (stop !)) (init ! 10 refl (tt, tt)) $
-        assigns ! (agg ! (and-then ! (arg ! 10 refl) (and-then ! (load ! (from ! (fld ! refl (stop !))) (look-in ! 42 (sub ! 1 refl (whole !)))) (no-more !)))) (from ! (stop !)) (init ! 8 refl (tt, (tt, (record { fits = room′ .0 }, tt)))) $
+        assigns ! (addr ! (from ! (fld ! refl (hop ! (look-in ! 56 (sub ! 0 refl (whole !))) (stop !))))) (from ! (stop !)) (init ! 16 refl (tt, tt)) $
+        assigns ! (agg ! (and-then ! (arg ! 16 refl) (and-then ! (load ! (from ! (fld ! refl (stop !))) (look-in ! 56 (sub ! 1 refl (whole !)))) (no-more !)))) (from ! (stop !)) (init ! 14 refl (tt, (tt, (record { fits = room′ .0 }, tt)))) $
         lends ! (fmOf 𝓤 H (W .laws) 𝓣) E (plain (λ _. S.the-row) ∷ plain (λ _. O.the-row) ∷ plain (λ _. Wk.the-row) ∷ []) (yes, (yes, (yes, tt))) (plain (λ _. Nothing)) (enter.clauses 𝓤 H A mem run) known-enter κ′ q′ γ′ b′ o′ ls (length ls) refl room′
         (λ κs. (survey, (order, (work, tt)))) (λ κs. (v, (w, (m, tt)))) (λ κs. (g-v, (g-w, (g-m, tt)))) (λ κs δ. tt) (λ κs δ. id⊢ 𝓤 _) (λ κs ms u. ms ≡ enteredBy w (v .slots) (m .notes) ls) (λ κs δ r ws. id⊢ 𝓤 _)
-        (λ ν δ i j. and-then ! (arg ! 8 refl) (and-then ! (arg ! 34 refl) (and-then ! (arg ! 30 refl) (and-then ! (arg ! 28 refl) (no-more !))))) (λ κs. unit 𝓤 H A W) (λ κs Δ. from ! (stop !)) 10 (λ κs. refl) (λ κs ms u g-u same′ is-ms. move ! (48 ∷ 49 ∷ []) $
+        (λ ν δ i j. and-then ! (arg ! 14 refl) (and-then ! (arg ! 46 refl) (and-then ! (arg ! 40 refl) (and-then ! (arg ! 38 refl) (no-more !))))) (λ κs. unit 𝓤 H A W) (λ κs Δ. from ! (stop !)) 16 (λ κs. refl) (λ κs ms u g-u same′ is-ms. move ! (4 ∷ 5 ∷ []) $
+        -- the report is counted
+        assigns ! (addr ! (from ! (fld ! refl (hop ! (look-in ! 54 (sub ! 0 refl (whole !))) (stop !))))) (from ! (stop !)) (init ! 12 refl (tt, tt)) $
+        assigns ! (agg ! (and-then ! (arg ! 12 refl) (and-then ! (load ! (from ! (fld ! refl (stop !))) (look-in ! 54 (sub ! 1 refl (whole !)))) (no-more !)))) (from ! (stop !)) (init ! 10 refl (tt, (tt, (record { fits = room″ .0 }, tt)))) $
+        forget ! 18 refl $
+        lends ! (fmOf 𝓤 H (W .laws) 𝓣) grid (plain (λ _. S.the-row) ∷ plain (λ _. O.the-row) ∷ plain (λ _. Q.the-row) ∷ []) (yes, (yes, (yes, tt))) (plain (λ _. Nothing)) (report.clauses 𝓤 H A mem run) known-report κ″ q″ γ″ b″ o″ cs (length cs) refl room″
+        (λ κs. (survey, (order, (command, tt)))) (λ κs. (v, (w, (c, tt)))) (λ κs. (g-v, (g-w, (g-c, tt)))) (λ κs δ. tt) (λ κs δ. id⊢ 𝓤 _) (λ κs ds u. ds ≡ reportedBy w c v cs) (λ κs δ r ws. id⊢ 𝓤 _)
+        (λ ν δ i j. and-then ! (arg ! 10 refl) (and-then ! (arg ! 46 refl) (and-then ! (arg ! 40 refl) (and-then ! (arg ! 50 refl) (no-more !))))) (λ κs. unit 𝓤 H A W) (λ κs Δ. from ! (stop !)) 16 (λ κs. refl) (λ κs ds u g-u same″ is-ds. move ! (62 ∷ 63 ∷ []) $
         -- the pairs are written, and the call is answered
-        assigns ! (addr ! (from ! (fld ! refl (hop ! (look-in ! 42 (sub ! 0 refl (whole !))) (stop !))))) (from ! (stop !)) (init ! 8 refl (tt, tt)) $
-        assigns ! (agg ! (and-then ! (arg ! 8 refl) (and-then ! (load ! (from ! (fld ! refl (stop !))) (look-in ! 42 (sub ! 1 refl (whole !)))) (no-more !)))) (from ! (stop !)) (init ! 6 refl (tt, (tt, (record { fits = room″ .0 }, tt)))) $
-        lends ! (fmOf 𝓤 H (W .laws) 𝓣) (UInt w8) (plain (λ _. O.the-row) ∷ plain (λ _. Wk.the-row) ∷ []) (yes, (yes, tt)) (plain (λ _. Rp.the-row)) (tell.clauses 𝓤 H A mem run) known-tell κ″ q″ γ″ b″ o″ out (length out) refl room″
+        assigns ! (addr ! (from ! (fld ! refl (hop ! (look-in ! 54 (sub ! 0 refl (whole !))) (stop !))))) (from ! (stop !)) (init ! 10 refl (tt, tt)) $
+        assigns ! (agg ! (and-then ! (arg ! 10 refl) (and-then ! (load ! (from ! (fld ! refl (stop !))) (look-in ! 54 (sub ! 1 refl (whole !)))) (no-more !)))) (from ! (stop !)) (init ! 8 refl (tt, (tt, (record { fits = room‴ .0 }, tt)))) $
+        lends ! (fmOf 𝓤 H (W .laws) 𝓣) (UInt w8) (plain (λ _. O.the-row) ∷ plain (λ _. Wk.the-row) ∷ []) (yes, (yes, tt)) (plain (λ _. Rp.the-row)) (tell.clauses 𝓤 H A mem run) known-tell κ‴ q‴ γ‴ b‴ o‴ out (length out) refl room‴
         (λ κs. (order, (work, tt))) (λ κs. (w, (m, tt))) (λ κs. (g-w, (g-m, tt))) (λ κs δ. tt) (λ κs δ. id⊢ 𝓤 _) (λ κs ws r. (r ≡ replyBy w (m .notes) (m .members)) × (ws ≡ writtenBy w (m .notes) out)) (λ κs δ r ws. id⊢ 𝓤 _)
-        (λ ν δ i j. and-then ! (arg ! 6 refl) (and-then ! (arg ! 32 refl) (and-then ! (arg ! 30 refl) (no-more !)))) (λ κs. reply) (λ κs Δ. from ! (stop !)) 46 (λ κs. refl) (λ κs ws r g-r same″ is-r.
-        returns ! (look ! 48 refl) $ frees ! 48 {τ = reply .mir} refl refl $ frees ! 46 refl refl $ frees ! 44 refl refl $ frees ! 42 refl refl $ frees ! 40 {τ = command .mir} refl refl $ frees ! 38 refl refl $ frees ! 36 {τ = survey .mir} refl refl $ frees ! 34 refl refl $ frees ! 32 {τ = order .mir} refl refl $ frees ! 30 {τ = work .mir} refl refl $ frees ! 28 refl refl $ frees ! 26 refl refl $ frees ! 24 refl refl $ frees ! 22 refl refl $ frees ! 20 refl refl $ frees ! 18 refl refl $ frees ! 16 refl refl $ frees ! 14 refl refl $ frees ! 12 refl refl $ frees ! 10 refl refl $ frees ! 8 refl refl $ frees ! 6 refl refl $ free0 ! $
-        by ! (exits zs ms ws r g-r (call-run c xs ls out v f w zs m ms r ws is-v is-f is-w is-m is-ms is-r) same same′ same″)))))))))))))))))))))))))))))
+        (λ ν δ i j. and-then ! (arg ! 8 refl) (and-then ! (arg ! 42 refl) (and-then ! (arg ! 40 refl) (no-more !)))) (λ κs. reply) (λ κs Δ. from ! (stop !)) 60 (λ κs. refl) (λ κs ws r g-r same‴ is-r.
+        returns ! (look ! 62 refl) $ frees ! 62 {τ = reply .mir} refl refl $ frees ! 60 refl refl $ frees ! 58 refl refl $ frees ! 56 refl refl $ frees ! 54 refl refl $ frees ! 52 {τ = command .mir} refl refl $ frees ! 50 refl refl $ frees ! 48 {τ = survey .mir} refl refl $ frees ! 46 refl refl $ frees ! 44 {τ = fit .mir} refl refl $ frees ! 42 {τ = order .mir} refl refl $ frees ! 40 {τ = work .mir} refl refl $ frees ! 38 refl refl $ frees ! 36 refl refl $ frees ! 34 refl refl $ frees ! 32 refl refl $ frees ! 30 refl refl $ frees ! 28 refl refl $ frees ! 26 refl refl $ frees ! 24 refl refl $ frees ! 22 refl refl $ frees ! 20 refl refl $ frees ! 18 refl refl $ frees ! 16 refl refl $ frees ! 14 refl refl $ frees ! 12 refl refl $ frees ! 10 refl refl $ frees ! 8 refl refl $ free0 ! $
+        by ! (exits zs ms ds ws r g-r (call-run c xs ls cs out v f h w zs m ms ds r ws is-v is-f is-h is-w is-m is-ms is-ds is-r) same same′ same″ same‴)))))))))))))))))))))))))))))))))))))
 
   meets : Meets 𝓤 H A this.signature (WpFn 𝓤 H (𝓣 .C) (𝓣 .Λ) code.function) (this.spec 𝓤 H A mem run)
   meets =
-      walk-meets 𝓤 H A this.ended stayed W (goes-slice 𝓤 H A W 3 0 tt (plain (λ _. T.the-row)), (goes-slice 𝓤 H A W 3 1 tt (plain (λ _. E)), (goes-slice 𝓤 H A W 3 2 tt (plain (λ _. UInt w8)), (goes-dropped 𝓤 H A W 3 (plain (λ _. Q.the-row)) yes (λ κs x f. refl), tt))))
+      walk-meets 𝓤 H A this.ended stayed W (goes-slice 𝓤 H A W 4 0 tt (plain (λ _. T.the-row)), (goes-slice 𝓤 H A W 4 1 tt (plain (λ _. E)), (goes-slice 𝓤 H A W 4 2 tt (plain (λ _. grid)), (goes-slice 𝓤 H A W 4 3 tt (plain (λ _. UInt w8)), (goes-dropped 𝓤 H A W 4 (plain (λ _. Q.the-row)) yes (λ κs x f. refl), tt)))))
       (this.clauses 𝓤 H A mem run) (WpFn 𝓤 H (𝓣 .C) (𝓣 .Λ) code.function) (WpFn-mono 𝓤 H (W .laws) 𝓣 code.function)
-      (walked 𝓤 H A this.ended stayed (this.clauses 𝓤 H A mem run) (WpFn 𝓤 H (𝓣 .C) (𝓣 .Λ) code.function) (λ κs. (slice-vals, (slice-vals, (slice-vals, (λ c. command .val c ∷ [], tt)))))
-      (λ κs. (mut-slice-tells (named 0) (κs .0) T.the-row, (mut-slice-tells (named 1) (κs .1 .0) E, (mut-slice-tells (named 2) (κs .1 .1 .0) (UInt w8), (command .tells, tt)))))
-      (λ κs qs bounds a g are. via 𝓤 _ (fst∗ 𝓤 _ (emp 𝓤)) (walk (κs .0) (κs .1 .0) (κs .1 .1 .0) (qs .0) (qs .1 .0) (qs .1 .1 .0) (a .0 .ptr .0) (a .0 .ptr .1) (a .1 .0 .ptr .0) (a .1 .0 .ptr .1) (a .1 .1 .0 .ptr .0) (a .1 .1 .0 .ptr .1)
-      (a .0 .name) (a .1 .0 .name) (a .1 .1 .0 .name) (a .0 .now) (a .1 .0 .now) (a .1 .1 .0 .now) (are .0 .0 .1) (are .1 .0 .0 .1) (are .1 .1 .0 .0 .1) (a .1 .1 .1 .0) (are .1 .1 .1 .0))))
+      (walked 𝓤 H A this.ended stayed (this.clauses 𝓤 H A mem run) (WpFn 𝓤 H (𝓣 .C) (𝓣 .Λ) code.function) (λ κs. (slice-vals, (slice-vals, (slice-vals, (slice-vals, (λ c. command .val c ∷ [], tt))))))
+      (λ κs. (mut-slice-tells (named 0) (κs .0) T.the-row, (mut-slice-tells (named 1) (κs .1 .0) E, (mut-slice-tells (named 2) (κs .1 .1 .0) grid, (mut-slice-tells (named 3) (κs .1 .1 .1 .0) (UInt w8), (command .tells, tt))))))
+      (λ κs qs bounds a g are. via 𝓤 _ (fst∗ 𝓤 _ (emp 𝓤)) (walk (κs .0) (κs .1 .0) (κs .1 .1 .0) (κs .1 .1 .1 .0) (qs .0) (qs .1 .0) (qs .1 .1 .0) (qs .1 .1 .1 .0) (a .0 .ptr .0) (a .0 .ptr .1) (a .1 .0 .ptr .0) (a .1 .0 .ptr .1) (a .1 .1 .0 .ptr .0) (a .1 .1 .0 .ptr .1) (a .1 .1 .1 .0 .ptr .0) (a .1 .1 .1 .0 .ptr .1)
+      (a .0 .name) (a .1 .0 .name) (a .1 .1 .0 .name) (a .1 .1 .1 .0 .name) (a .0 .now) (a .1 .0 .now) (a .1 .1 .0 .now) (a .1 .1 .1 .0 .now) (are .0 .0 .1) (are .1 .0 .0 .1) (are .1 .1 .0 .0 .1) (are .1 .1 .1 .0 .0 .1) (a .1 .1 .1 .1 .0) (are .1 .1 .1 .1 .0))))
 
 pub call-spec : {M : Type 1} → stated.statement M
 unfolding code.routine tablesOf
@@ -210,7 +249,9 @@ call-spec 𝓤 H 𝓜 𝓖 𝓡 =
     (meets 𝓤 H (𝓖 .A) (givenOf 𝓤 H 𝓜 𝓖) (𝓜 .mem) (𝓡 .run) (tablesOf 𝓤 H 𝓜 (tables 𝓤 H 𝓜 𝓡 code.env))
     (cited 𝓤 H (tripleOf 𝓤 H (𝓖 .A) look-over.signature (look-over.spec 𝓤 H (𝓖 .A) (𝓜 .mem) (𝓡 .run))) 𝓜 𝓡 code.env #look-over look-over-def.routine code.calls-bench-walks·look-over (look-over-thm.met 𝓤 H 𝓜 𝓖 𝓡))
     (cited 𝓤 H (tripleOf 𝓤 H (𝓖 .A) fits.signature (fits.spec 𝓤 H (𝓖 .A) (𝓜 .mem) (𝓡 .run))) 𝓜 𝓡 code.env #fits fits-def.routine code.calls-bench-calls·fits (fits-thm.met 𝓤 H 𝓜 𝓖 𝓡))
+    (cited 𝓤 H (tripleOf 𝓤 H (𝓖 .A) beside.signature (beside.spec 𝓤 H (𝓖 .A) (𝓜 .mem) (𝓡 .run))) 𝓜 𝓡 code.env #beside beside-def.routine code.calls-bench-calls·beside (beside-thm.met 𝓤 H 𝓜 𝓖 𝓡))
     (cited 𝓤 H (tripleOf 𝓤 H (𝓖 .A) order-of.signature (order-of.spec 𝓤 H (𝓖 .A) (𝓜 .mem) (𝓡 .run))) 𝓜 𝓡 code.env #order-of order-of-def.routine code.calls-bench-walks·order-of (order-of-thm.met 𝓤 H 𝓜 𝓖 𝓡))
     (cited 𝓤 H (tripleOf 𝓤 H (𝓖 .A) carry.signature (carry.spec 𝓤 H (𝓖 .A) (𝓜 .mem) (𝓡 .run))) 𝓜 𝓡 code.env #carry carry-def.routine code.calls-bench-calls·carry (carry-thm.met 𝓤 H 𝓜 𝓖 𝓡))
     (cited 𝓤 H (tripleOf 𝓤 H (𝓖 .A) enter.signature (enter.spec 𝓤 H (𝓖 .A) (𝓜 .mem) (𝓡 .run))) 𝓜 𝓡 code.env #enter enter-def.routine code.calls-bench-calls·enter (enter-thm.met 𝓤 H 𝓜 𝓖 𝓡))
+    (cited 𝓤 H (tripleOf 𝓤 H (𝓖 .A) report.signature (report.spec 𝓤 H (𝓖 .A) (𝓜 .mem) (𝓡 .run))) 𝓜 𝓡 code.env #report report-def.routine code.calls-bench-calls·report (report-thm.met 𝓤 H 𝓜 𝓖 𝓡))
     (cited 𝓤 H (tripleOf 𝓤 H (𝓖 .A) tell.signature (tell.spec 𝓤 H (𝓖 .A) (𝓜 .mem) (𝓡 .run))) 𝓜 𝓡 code.env #tell tell-def.routine code.calls-bench-calls·tell (tell-thm.met 𝓤 H 𝓜 𝓖 𝓡)))

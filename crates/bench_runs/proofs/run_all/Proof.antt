@@ -5,10 +5,10 @@ use Rattle.bench_runs.proofs.run_all.Statement.{statement}
 use Rattle.bench_runs.proofs.run_all.Tie as tie
 
 abbrev Inv-loop : tie.InvT-loop
-Inv-loop input₀ output₀ left₀ entries₀ state₀ turns₀ input output left entries state turns = Unit {0}
+Inv-loop input₀ output₀ left₀ entries₀ arrays₀ state₀ turns₀ input output left entries arrays state turns = Unit {0}
 
 abbrev μ-loop : tie.MeasureT-loop
-μ-loop input₀ output₀ left₀ entries₀ state₀ turns₀ input output left entries state turns = turns
+μ-loop input₀ output₀ left₀ entries₀ arrays₀ state₀ turns₀ input output left entries arrays state turns = turns
 
 loop-holds : tie.Need-loop-holds Inv-loop μ-loop
 loop-holds c = tt

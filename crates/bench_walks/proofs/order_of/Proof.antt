@@ -6,8 +6,8 @@ use Rattle.bench_walks.specs.Orders.{orderOf}
 use Rattle.bench_walks.proofs.order_of.Statement.{statement}
 use Rattle.bench_walks.proofs.order_of.Tie as tie
 
-commanded : (start : tie.Start) {c c′ : Command} → c ≡ c′ → let a = start .args in orderOf c′ (a .s) (a .size) (a .room) (a .fits) ≡ orderOf c (a .s) (a .size) (a .room) (a .fits)
-commanded start e = let a = start .args in sym (ap (λ (c : Command). orderOf c (a .s) (a .size) (a .room) (a .fits)) e)
+commanded : (start : tie.Start) {c c′ : Command} → c ≡ c′ → let a = start .args in orderOf c′ (a .s) (a .size) (a .room) (a .beside) ≡ orderOf c (a .s) (a .size) (a .room) (a .beside)
+commanded start e = let a = start .args in sym (ap (λ (c : Command). orderOf c (a .s) (a .size) (a .room) (a .beside)) e)
 
 enum-known-command : tie.Need-enum-known-command
 enum-known-command c = search needs

@@ -2,8 +2,9 @@
 use Prim.Native.Nat.{ℕ}
 use mathlib.Core.Path.{_≡_, refl, ap, _∙_}
 use mathlib.Core.Bool.{Bool, true, false, not}
-use mathlib.Core.List.{[], _∷_}
+use mathlib.Core.List.{List, [], _∷_}
 use borrow.Author.Needs.{needs}
+use Rattle.node_reports.specs.Reports.{Counts, noReports}
 use Rattle.bench.specs.declared.Command.the-variants.{Look}
 use Rattle.bench.specs.Table.{tableSound}
 use Rattle.bench.specs.Calls.{done, ifPassed, lookOf}
@@ -16,9 +17,9 @@ use Rattle.plan_program.specs.Program.{isRefused}
 use Rattle.plan_program.proofs.is_table.Statement.{statement}
 use Rattle.plan_program.proofs.is_table.Tie as tie
 
-look-tells : (n room : ℕ) (ledger : Ledger) (rows : Rows) → not (isRefused (callWith n (Look false) room ledger rows .0 .outcome)) ≡ tableSound (tableOf n rows)
+look-tells : (n room : ℕ) (ledger : Ledger) (counts : List Counts) (rows : Rows) → not (isRefused (callWith n (Look false) room ledger counts rows .0 .outcome)) ≡ tableSound (tableOf n rows)
 unfolding callWith keptOf lookOf
-look-tells n room ledger rows = go (tableSound (tableOf n rows))
+look-tells n room ledger counts rows = go (tableSound (tableOf n rows))
   where
     go : (b : Bool) → not (isRefused (ended n rows (endedBy (Look false) (tableOf n rows) (ifPassed b 4 (tableOf n rows) (done (tableOf n rows)))) .outcome)) ≡ b
     go true = refl
@@ -30,6 +31,9 @@ slice-aggregate-call c = search needs
 slice-aggregate-call-2 : tie.Need-slice-aggregate-call-2
 slice-aggregate-call-2 c = search needs
 
+slice-aggregate-call-3 : tie.Need-slice-aggregate-call-3
+slice-aggregate-call-3 c = search needs
+
 call-requires : tie.Need-call-requires
 call-requires c κs = search needs
 
@@ -38,10 +42,10 @@ is-refused-requires c κs = search needs
 
 returns : tie.Need-returns
 returns c =
-    let a = c .before .before .before .before .before .before .args in
+    let a = c .before .before .before .before .before .before .before .before .args in
     ap not (c .is-refused .ensures)
-    ∙ ap (λ (r : Ran × Ledger). not (isRefused (r .0 .outcome))) (c .before .before .before .call .ensures .0)
-    ∙ look-tells (a .n) 64 (figures 0 0 0 ∷ []) (a .rows)
+    ∙ ap (λ (r : Ran × Ledger × List Counts). not (isRefused (r .0 .outcome))) (c .before .before .before .before .call .ensures .0)
+    ∙ look-tells (a .n) 64 (figures 0 0 0 ∷ []) (noReports ∷ []) (a .rows)
 
 pub is-table-spec : {M : Type 1} → statement M
-is-table-spec = tie.close (tie.spec slice-aggregate-call slice-aggregate-call-2 call-requires is-refused-requires returns)
+is-table-spec = tie.close (tie.spec slice-aggregate-call slice-aggregate-call-2 slice-aggregate-call-3 call-requires is-refused-requires returns)

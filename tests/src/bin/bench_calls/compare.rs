@@ -1,12 +1,13 @@
 //! One run of the program, call by call beside the model.
 
 use super::protocol::{entries_of, rows_of, Call, Command, Held, Told, FIGURES, HEAD, ROWS, TAIL};
+use super::reports::{self, Reports};
 use super::tally::History;
 use comparison::child;
 use comparison::events::{several, KINDS};
 use comparison::messages::hex;
 use comparison::model::node::{Node, State};
-use comparison::record_bytes::{shown_record, RECORD};
+use comparison::record_bytes::{shown_counts, shown_record, Reader, RECORD};
 use comparison::report::Count;
 use std::io::Read;
 
@@ -37,8 +38,8 @@ pub const OWN_MARKS: [&str; 3] =
     ["members: own mark on, no yes heard", "members: own mark on, yes heard", "members: own mark off"];
 
 /// Runs the program on the commands and compares every answer: what the call tells, each byte of the buffer,
-/// each of the rows, those after the table too, and each of the entries, those after the ledger too. Notes what
-/// is expected.
+/// each of the rows, those after the table too, and each of the entries, those after the ledger too; the counts where
+/// they are asked for. Notes what is expected.
 pub fn compare(count: &mut Count, commands: &[Command]) -> Result<(), String> {
     let mut script = Vec::new();
     commands.iter().for_each(|command| command.push(&mut script));
@@ -50,31 +51,42 @@ fn answers(count: &mut Count, commands: &[Command], output: &mut dyn Read) -> Re
     let mut expected = Vec::new();
     let mut got = Vec::new();
     let mut history = History::default();
+    let mut reports = Reports::default();
     for (i, command) in commands.iter().enumerate() {
-        let (off, before) = (off_of(command, held.table()), held.table().to_vec());
-        let Some(told) = held.run(command, &mut expected) else {
-            history.follow(count, command, (held.size, held.lent), &[])?;
-            continue;
-        };
+        let before = held.table().to_vec();
+        let told = held.run(command, &mut expected);
         let at = || format!("command {}: {}", i + 1, shown_command(command));
-        note(count, command, &told, &expected);
-        if let (Command::Call(Call::Slot { .. }, _), 0) = (command, told.number) {
-            note_own_marks(count, held.table());
-            let departures = before.iter().zip(held.table()).filter_map(|(row, after)| several(row, after));
-            departures.for_each(|name| count.event(name));
+        if let Some(told) = told {
+            note(count, command, &told, &expected);
+            note_tables(count, command, &told, (&before, held.table()));
         }
-        off.filter(|_| told.number == 0).into_iter().for_each(|name| count.event(name));
         child::read_answer(output, expected.len(), &mut got)
             .map_err(|why| format!("{}: the answer cannot be read: {why}", at()))?;
-        count.check(got == expected, || {
-            let (table, difference) = (shown_rows(&expected, held.size), shown_difference(&got, &expected));
-            format!("{}, {} rows, {} entries\n        {difference}{table}", at(), held.size, held.lent)
-        })?;
+        if !expected.is_empty() {
+            count.check(got == expected, || {
+                format!("{}, {}", at(), shown_answers(command, &held, &got, &expected))
+            })?;
+        }
         history
             .follow(count, command, (held.size, held.lent), &got)
+            .and_then(|()| reports.follow(count, command, (held.size, held.counted), &got))
             .map_err(|why| format!("{}: {why}", at()))?;
     }
     Ok(())
+}
+
+/// A call that is carried out, by the tables before and after it.
+fn note_tables(count: &mut Count, command: &Command, told: &Told, (before, after): (&[Node], &[Node])) {
+    if told.number != 0 {
+        return;
+    }
+    off_of(command, before).into_iter().for_each(|name| count.event(name));
+    if let Command::Call(call @ Call::Slot { .. }, _) = *command {
+        note_own_marks(count, after);
+        let departures = before.iter().zip(after).filter_map(|(row, after)| several(row, after));
+        departures.for_each(|name| count.event(name));
+        reports::note(count, call, told, (before, after));
+    }
 }
 
 fn note(count: &mut Count, command: &Command, told: &Told, answer: &[u8]) {
@@ -141,6 +153,11 @@ fn shown_command(command: &Command) -> String {
         Command::Load(row, ref node) => format!("load row {row}: {}", shown_record(node)),
         Command::Lend(entries) => format!("lend {entries} entries"),
         Command::Enter(entry, ref figures) => format!("entry {entry}: {figures:?}"),
+        Command::Arrays(arrays) => format!("lend {arrays} arrays of counts"),
+        Command::Count { array, row, job, count } => {
+            format!("count of array {array}, row {row}, job {job}: {count}")
+        }
+        Command::Counts(array) => format!("counts of array {array}"),
         Command::Call(call, room) => format!("{}, buffer of {room} bytes", shown_call(call)),
     }
 }
@@ -150,9 +167,25 @@ fn shown_call(call: Call) -> String {
         Call::SetUp { n, k, m } => format!("set-up n = {n}, k = {k}, m = {m}"),
         Call::Off(x) => format!("off {x}"),
         Call::Restart(x) => format!("restart {x}"),
-        Call::Slot { lost, missed } => format!("slot, lost {lost}, missed {missed:08x}"),
+        Call::Slot { lost, missed, jobs } => {
+            format!("slot, lost {lost}, missed {missed:08x}, jobs {jobs:02X}")
+        }
         Call::Look { lost } => format!("look, lost {lost}"),
     }
+}
+
+/// Both answers, where they differ.
+fn shown_answers(command: &Command, held: &Held, got: &[u8], expected: &[u8]) -> String {
+    if let (Command::Counts(_), true) = (command, got.len() == expected.len()) {
+        let shown = |answer: &[u8]| shown_counts(&Reader(answer).counts());
+        return format!("\n        program: {}\n        model:   {}", shown(got), shown(expected));
+    }
+    if let Command::Counts(_) = command {
+        return format!("only {} of {} bytes", got.len(), expected.len());
+    }
+    let (table, difference) = (shown_rows(expected, held.size), shown_difference(got, expected));
+    let (rows, entries, arrays) = (held.size, held.lent, held.counted);
+    format!("{rows} rows, {entries} entries, {arrays} arrays\n        {difference}{table}")
 }
 
 /// Where the answers differ first, and both there.

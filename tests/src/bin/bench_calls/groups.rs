@@ -99,7 +99,7 @@ pub fn pairs(count: &mut Count) -> Result<(), String> {
         }
         script.load(&mut random, &table);
         let room = ENOUGH[random.below(6) as usize];
-        script.push(Command::Call(Call::Slot { lost: true, missed: 0 }, room));
+        script.push(Command::Call(Call::Slot { lost: true, missed: 0, jobs: 0 }, room));
         let (got, expected) = (script.buffer(), buffer(&roles, room));
         count.check(got == expected, || {
             format!("n = {n}, sender {sender}, roles {roles:?}\n        by the model {got:?}")

@@ -14,7 +14,7 @@ use comparison::random::Random;
 use comparison::records::{sound_of, STATES};
 use comparison::report::Count;
 
-const SLOT: Call = Call::Slot { lost: false, missed: 0 };
+const SLOT: Call = Call::Slot { lost: false, missed: 0, jobs: 0 };
 
 /// A call, and the refusal's number by request a, or 0.
 fn answered(
@@ -205,7 +205,7 @@ pub fn all_leave(count: &mut Count) -> Result<(), String> {
         for figures in &mut expected[..n as usize] {
             *figures = Figures { left: figures.left + 1, last: 1, ..*figures };
         }
-        for call in [Call::Slot { lost: true, missed: 0 }, SLOT, Call::Off(n), SLOT] {
+        for call in [Call::Slot { lost: true, missed: 0, jobs: 0 }, SLOT, Call::Off(n), SLOT] {
             answered(count, &mut random, &mut script, (call, 0))?;
             kept(count, &script, &expected)?;
         }

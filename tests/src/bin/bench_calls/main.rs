@@ -1,11 +1,14 @@
 //! The bench: the library, behind the program `bench_runs`, beside the model.
 
 mod compare;
+mod count_vectors;
+mod counts;
 mod figures;
 mod groups;
 mod ledgers;
 mod protocol;
 mod refusals;
+mod reports;
 mod runs;
 mod script;
 mod tables;
@@ -48,17 +51,17 @@ const CASES: &[Case] = &[
     },
     Case {
         name: "runs: every n and k, with losses, misses, offs, restarts, looks and refused calls; tally",
-        meets: &[0, 2, 3, 4, 9, 11, 13, 14],
+        meets: &[0, 2, 3, 4, 8, 9, 11, 13, 14],
         run: runs::every_n_and_k,
     },
     Case {
         name: "runs: long ones of n from 3 to 9; tally",
-        meets: &[0, 2, 3, 4, 9, 11, 13, 14],
+        meets: &[0, 2, 3, 4, 8, 9, 11, 13, 14],
         run: runs::small_rings,
     },
     Case {
         name: "runs: 6,000 calls in which the nodes go and come back all the time; tally",
-        meets: &[0, 2, 3, 4, 9, 11, 13, 14],
+        meets: &[0, 2, 3, 4, 8, 9, 11, 13, 14],
         run: runs::lasting,
     },
     Case { name: "tables: any sound records, every call", meets: &[0, 11], run: tables::sound },
@@ -123,6 +126,47 @@ const CASES: &[Case] = &[
         name: "ledgers: any small ones, sound tables of few slots, every call",
         meets: &[0, 11, 13],
         run: ledgers::small,
+    },
+    Case {
+        name: "vectors: counts of reports by request h, after each call, model and program",
+        meets: &[0, 4, 8, 14],
+        run: count_vectors::benches,
+    },
+    Case {
+        name: "counts: runs of every n, every m, after each call; tally, and membership as without jobs",
+        meets: &[0, 2, 3, 4, 8, 9, 11, 13, 14],
+        run: counts::every_n_and_m,
+    },
+    Case {
+        name: "counts: long runs of n from 3 to 7, after each call; tally, and membership as without jobs",
+        meets: &[0, 2, 3, 4, 8, 9, 11, 13, 14],
+        run: counts::small_rings,
+    },
+    Case { name: "counts: any that fit beside any sound table", meets: &[0], run: counts::sound },
+    Case {
+        name: "counts: numbers of arrays from 0 to 33 for every n, every call",
+        meets: &[0, 4],
+        run: counts::numbers,
+    },
+    Case {
+        name: "counts: at the slot count and past it, in arrays lent and not",
+        meets: &[0, 4, 5],
+        run: counts::edges,
+    },
+    Case {
+        name: "counts: each count of every node one above the slot count",
+        meets: &[0, 4],
+        run: counts::every_count,
+    },
+    Case {
+        name: "counts: every choice of causes of a slot's refusal",
+        meets: &[0, 3, 4, 5, 8, 9, 13],
+        run: counts::order,
+    },
+    Case {
+        name: "counts: set-up clears them, every choice of causes of its refusal",
+        meets: &[0, 1, 2, 4, 14],
+        run: counts::set_ups,
     },
 ];
 

@@ -1,17 +1,22 @@
-//! What the program `bench_runs` takes and gives: commands on 32 rows, the first of which are the table, and on
-//! 33 entries, the first of which are the ledger. All numbers are lowest byte first.
+//! What the program `bench_runs` takes and gives: commands on 32 rows, the first of which are the table, on 33 entries,
+//! the first of which are the ledger, and on 33 arrays, the first of which are the counts. All numbers are lowest byte
+//! first.
 
-use comparison::model::bench::{self, Fate};
+use comparison::model::bench::{self, Beside, Fate, Message};
+use comparison::model::counts::{Counts, NONE};
 use comparison::model::ledger::Figures;
 use comparison::model::node::Node;
 use comparison::model::ring::Set;
-use comparison::record_bytes::{record_bytes, Reader, RECORD};
+use comparison::record_bytes::{push_counts, record_bytes, Reader, RECORD};
 
 /// The rows that there are; a table of more is not to be had.
 pub const ROWS: usize = 32;
 
 /// The entries that there are; a ledger of more is not to be had.
 pub const ENTRIES: usize = 33;
+
+/// The arrays of counts that there are; more are not to be had.
+pub const ARRAYS: usize = 33;
 
 /// The bytes of an entry.
 pub const FIGURES: usize = 24;
@@ -30,7 +35,7 @@ pub enum Call {
     SetUp { n: u32, k: u32, m: u32 },
     Off(u32),
     Restart(u32),
-    Slot { lost: bool, missed: u32 },
+    Slot { lost: bool, missed: u32, jobs: u8 },
     Look { lost: bool },
 }
 
@@ -41,6 +46,17 @@ pub enum Command {
     /// The number of entries that are lent with every call.
     Lend(u8),
     Enter(u8, Figures),
+    /// The number of arrays of counts that are lent.
+    Arrays(u8),
+    /// One count of an array becomes this.
+    Count {
+        array: u8,
+        row: u8,
+        job: u8,
+        count: u64,
+    },
+    /// Asks for the counts of an array.
+    Counts(u8),
     /// A call, and the length of the buffer that is lent to it.
     Call(Call, u8),
 }
@@ -58,6 +74,12 @@ impl Command {
                 out.extend([b'G', entry]);
                 push_figures(figures, out);
             }
+            Command::Arrays(arrays) => out.extend([b'A', arrays]),
+            Command::Count { array, row, job, count } => {
+                out.extend([b'C', array, row, job]);
+                out.extend(count.to_le_bytes());
+            }
+            Command::Counts(array) => out.extend([b'K', array]),
             Command::Call(call, room) => call.push(out, room),
         }
     }
@@ -104,9 +126,10 @@ impl Call {
                 out.extend([b'R', room]);
                 out.extend(x.to_le_bytes());
             }
-            Call::Slot { lost, missed } => {
+            Call::Slot { lost, missed, jobs } => {
                 out.extend([b'S', room, u8::from(lost)]);
                 out.extend(missed.to_le_bytes());
+                out.push(jobs);
             }
             Call::Look { lost } => out.extend([b'Q', room, u8::from(lost)]),
         }
@@ -160,17 +183,20 @@ fn fate_number(fate: Fate) -> u8 {
     }
 }
 
-/// The rows and the entries by the model.
+/// The rows, the entries and the arrays by the model.
 pub struct Held {
     pub rows: Vec<Node>,
     pub size: usize,
     pub entries: Vec<Figures>,
     pub lent: usize,
+    pub arrays: Vec<Counts>,
+    /// The arrays that are lent.
+    pub counted: usize,
 }
 
 impl Held {
     /// Before the first command: no table, and all bytes of each row 0 but the state, 7; no ledger, and all
-    /// figures 0.
+    /// figures 0; no counts, and all of them 0.
     pub fn first() -> Held {
         let mut bytes = [0; RECORD];
         bytes[20] = 7;
@@ -179,6 +205,8 @@ impl Held {
             size: 0,
             entries: vec![Figures::default(); ENTRIES],
             lent: 0,
+            arrays: vec![NONE; ARRAYS],
+            counted: 0,
         }
     }
 
@@ -186,8 +214,14 @@ impl Held {
         &self.rows[..self.size]
     }
 
-    /// Carries a command out. The answer's bytes go into `out`, which is emptied first; none for a command that
-    /// has no answer.
+    /// The place of one count: there are 33 arrays of 32 rows of 8, all from 0 on.
+    fn place(&mut self, array: u8, row: u8, job: u8) -> Option<&mut u64> {
+        let counts = self.arrays.get_mut(usize::from(array))?;
+        counts.get_mut(usize::from(row))?.get_mut(usize::from(job))
+    }
+
+    /// Carries a command out; what is told if it is a call. The answer's bytes go into `out`, which is emptied first;
+    /// none for a command that has no answer.
     pub fn run(&mut self, command: &Command, out: &mut Vec<u8>) -> Option<Told> {
         out.clear();
         match *command {
@@ -199,27 +233,43 @@ impl Held {
                     *held = figures;
                 }
             }
-            Command::Call(call, room) => {
-                let mut buffer = vec![FILL; usize::from(room)];
-                let told = self.call(call, &mut buffer).unwrap_or_else(Told::refused);
-                told.push(out);
-                out.extend(buffer);
-                self.rows.iter().for_each(|row| out.extend(record_bytes(row)));
-                self.entries.iter().for_each(|figures| push_figures(figures, out));
-                return Some(told);
+            Command::Arrays(arrays) => self.counted = usize::from(arrays).min(ARRAYS),
+            Command::Count { array, row, job, count } => {
+                self.place(array, row, job).into_iter().for_each(|held| *held = count);
             }
+            Command::Counts(array) => {
+                // Any other number asks for array 0.
+                push_counts(self.arrays.get(usize::from(array)).unwrap_or(&self.arrays[0]), out);
+            }
+            Command::Call(call, room) => return Some(self.answer(call, room, out)),
         }
         None
+    }
+
+    fn answer(&mut self, call: Call, room: u8, out: &mut Vec<u8>) -> Told {
+        let mut buffer = vec![FILL; usize::from(room)];
+        let told = self.call(call, &mut buffer).unwrap_or_else(Told::refused);
+        told.push(out);
+        out.extend(buffer);
+        self.rows.iter().for_each(|row| out.extend(record_bytes(row)));
+        self.entries.iter().for_each(|figures| push_figures(figures, out));
+        told
     }
 
     fn call(&mut self, call: Call, buffer: &mut [u8]) -> Result<Told, u32> {
         let table = &mut self.rows[..self.size];
         let ledger = &mut self.entries[..self.lent];
+        let counts = &mut self.arrays[..self.counted];
         match call {
-            Call::SetUp { n, k, m } => table.copy_from_slice(&bench::set_up(n, k, m, self.size)?),
+            Call::SetUp { n, k, m } => {
+                table.copy_from_slice(&bench::counted_set_up((n, k, m), self.size, counts)?);
+            }
             Call::Off(x) => bench::off(table, ledger, x)?,
             Call::Restart(x) => bench::restart(table, x)?,
-            Call::Slot { lost, missed } => return slot(table, ledger, lost, missed, buffer),
+            Call::Slot { lost, missed, jobs } => {
+                let message = Message { lost, missed: Set(missed), jobs };
+                return slot(table, Beside { ledger, counts }, message, buffer);
+            }
             Call::Look { lost } => return look(table, lost),
         }
         Ok(Told::default())
@@ -238,14 +288,8 @@ fn look(table: &[Node], lost: bool) -> Result<Told, u32> {
     })
 }
 
-fn slot(
-    table: &mut [Node],
-    ledger: &mut [Figures],
-    lost: bool,
-    missed: u32,
-    buffer: &mut [u8],
-) -> Result<Told, u32> {
-    let slot = bench::slot(table, ledger, lost, Set(missed), buffer.len())?;
+fn slot(table: &mut [Node], beside: Beside, message: Message, buffer: &mut [u8]) -> Result<Told, u32> {
+    let slot = bench::slot(table, beside, message, buffer.len())?;
     for (pair, &(node, kind)) in buffer.chunks_exact_mut(2).zip(&slot.changes) {
         pair.copy_from_slice(&[node as u8, kind as u8]);
     }

@@ -13,7 +13,7 @@ use comparison::records::{job_count, sound_of, spoil};
 use comparison::report::Count;
 
 /// Every number of rows, for every n and k that could be one and a few that could not; m takes turns, in range and out
-/// of it. Any ledger is lent.
+/// of it. Any ledger is lent, and mostly as many arrays of counts.
 pub fn set_up(count: &mut Count) -> Result<(), String> {
     let mut random = Random::new(96);
     let mut script = Script::new();
@@ -26,12 +26,13 @@ pub fn set_up(count: &mut Count) -> Result<(), String> {
         script.push(Command::Size(size));
         let ledger = figures::small(&mut random, usize::from(size));
         script.lend(&mut random, &ledger);
+        script.push(Command::Arrays(if random.below(4) == 0 { random.below(36) as u8 } else { size }));
         for n in (0..=34).chain([64, 256 + 4, 1 << 31, u32::MAX]) {
             let near = n.wrapping_sub(1);
             for k in [0, 1, 2, 3, near, n, 31, 32, 256 + 2, u32::MAX] {
                 let room = if random.bit() { 0 } else { ENOUGH[random.below(6) as usize] };
                 let m = counts[random.below(counts.len() as u64) as usize];
-                count.event(set_up_causes(n, k, m, script.table().len()));
+                count.event(set_up_causes(n, k, m, script.lent()));
                 script.push(Command::Call(Call::SetUp { n, k, m }, room));
             }
         }
@@ -53,11 +54,11 @@ const SET_UP: [&str; 9] = [
     "set-up: 1",
 ];
 
-fn set_up_causes(n: u32, k: u32, m: u32, size: usize) -> &'static str {
+fn set_up_causes(n: u32, k: u32, m: u32, lent: (usize, usize)) -> &'static str {
     if !(3..=32).contains(&n) {
         return SET_UP[8];
     }
-    let causes = [k < 2 || k >= n, m > 8, size != n as usize];
+    let causes = [k < 2 || k >= n, m > 8, lent != (n as usize, n as usize)];
     SET_UP[causes.into_iter().fold(0, |bits, yes| 2 * bits + usize::from(yes))]
 }
 
@@ -132,10 +133,11 @@ pub fn order(count: &mut Count) -> Result<(), String> {
         let room = if short { SHORT[random.below(5) as usize] } else { ENOUGH[random.below(6) as usize] };
         let missed = 1 << if outside { random.within(u64::from(n), 31) as u32 } else { x - 1 };
         let x = if outside { no_node(&mut random, n) } else { x };
+        let jobs = script.jobs(&mut random);
         for call in [
             Call::Look { lost: random.bit() },
             Call::Restart(x),
-            Call::Slot { lost: random.bit(), missed },
+            Call::Slot { lost: random.bit(), missed, jobs },
             Call::Off(x),
             Call::Restart(x),
         ] {

@@ -7,6 +7,7 @@ use super::script::{any_record, no_node, one_not_out, Script, SHORT};
 use comparison::adversary::Adversary;
 use comparison::events::{KINDS, SEVERAL};
 use comparison::lasting::Lasting;
+use comparison::messages::spare_job_byte;
 use comparison::model::bench;
 use comparison::model::ledger::Figures;
 use comparison::model::node::Node;
@@ -31,23 +32,24 @@ const TOLD: &[&str] = &[
     "tally: a node that left twice",
 ];
 
-fn call_of(call: bench::Call) -> Call {
+/// The same call, with a job byte for a slot.
+pub fn call_of(call: bench::Call, jobs: u8) -> Call {
     match call {
-        bench::Call::Slot { lost, missed } => Call::Slot { lost, missed: missed.0 },
+        bench::Call::Slot { lost, missed } => Call::Slot { lost, missed: missed.0, jobs },
         bench::Call::Off(x) => Call::Off(x),
         bench::Call::Restart(x) => Call::Restart(x),
     }
 }
 
-/// Sets a table of n rows up, whatever they hold; the ledger holds zeros. The cable has any number of jobs.
-fn set_up(script: &mut Script, random: &mut Random, n: u32, k: u32) {
+/// Sets a table of n rows up, whatever they and the counts hold; the ledger holds zeros.
+pub fn set_up(script: &mut Script, random: &mut Random, (n, k, m): (u32, u32, u32)) {
     for row in 0..ROWS {
         let node = any_record(random);
         script.push(Command::Load(row as u8, node));
     }
     script.push(Command::Size(n as u8));
+    script.push(Command::Arrays(n as u8));
     script.lend(random, &vec![Figures::default(); n as usize]);
-    let m = job_count(random);
     script.call(random, Call::SetUp { n, k, m });
 }
 
@@ -55,30 +57,36 @@ fn set_up(script: &mut Script, random: &mut Random, n: u32, k: u32) {
 /// asked for.
 fn refused(random: &mut Random, table: &[Node]) -> Option<Call> {
     let Node { n, k, m, .. } = table[0];
-    Some(match random.below(8) {
+    Some(match random.below(9) {
         0 => Call::Off(no_node(random, n)),
         1 => Call::Restart(no_node(random, n)),
         2 | 3 => Call::Restart(one_not_out(random, table)?),
-        4 if n < 32 => Call::Slot { lost: random.bit(), missed: 1 << n },
+        4 if n < 32 => Call::Slot { lost: random.bit(), missed: 1 << n, jobs: 0 },
+        7 if m < 8 => Call::Slot { lost: random.bit(), missed: 0, jobs: spare_job_byte(random, m)? },
         5 => Call::SetUp { n, k: if k < n - 1 { n } else { 1 }, m },
         6 => Call::SetUp { n, k, m: 9 },
         _ => Call::SetUp { n: if n < 32 { n + 1 } else { n - 1 }, k: 2, m },
     })
 }
 
-/// A slot and an off for which the ledger is an entry too short or too long.
+/// A slot and an off for which the ledger is an entry too short or too long; a slot for which there is an array of
+/// counts too few or too many.
 fn wrong_length(script: &mut Script, random: &mut Random) {
     let n = script.table()[0].n as u8;
-    let (lost, x) = (random.bit(), random.within(1, u64::from(n)) as u32);
-    script.push(Command::Lend(if random.bit() { n - 1 } else { n + 1 }));
-    script.call(random, Call::Slot { lost, missed: 0 });
+    let (lost, x, jobs) = (random.bit(), random.within(1, u64::from(n)) as u32, script.jobs(random));
+    let other = if random.bit() { n - 1 } else { n + 1 };
+    script.push(Command::Lend(other));
+    script.call(random, Call::Slot { lost, missed: 0, jobs });
     script.call(random, Call::Off(x));
     script.push(Command::Lend(n));
+    script.push(Command::Arrays(other));
+    script.call(random, Call::Slot { lost, missed: 0, jobs });
+    script.push(Command::Arrays(n));
 }
 
 /// What comes between two calls of a run: now and then both looks, a refused call, or a slot with a buffer that
-/// is too short or a ledger of a wrong length.
-fn between(script: &mut Script, random: &mut Random) {
+/// is too short, or a ledger or counts of a wrong length.
+pub fn between(script: &mut Script, random: &mut Random) {
     if random.below(3) == 0 {
         let lost = random.bit();
         script.call(random, Call::Look { lost });
@@ -91,7 +99,8 @@ fn between(script: &mut Script, random: &mut Random) {
     }
     if random.below(16) == 0 {
         let room = SHORT[random.below(5) as usize];
-        script.push(Command::Call(Call::Slot { lost: random.bit(), missed: 0 }, room));
+        let jobs = script.jobs(random);
+        script.push(Command::Call(Call::Slot { lost: random.bit(), missed: 0, jobs }, room));
     }
     if random.below(32) == 0 {
         wrong_length(script, random);
@@ -100,13 +109,16 @@ fn between(script: &mut Script, random: &mut Random) {
 
 /// A run of so many calls, but for those in between.
 fn run(script: &mut Script, adversary: &mut Adversary, n: u32, k: u32, calls: u32) {
-    set_up(script, &mut adversary.random, n, k);
+    let m = job_count(&mut adversary.random);
+    set_up(script, &mut adversary.random, (n, k, m));
     adversary.calm_down(n);
     for _ in 0..calls {
         between(script, &mut adversary.random);
-        let call = call_of(adversary.next(script.table()));
+        let jobs = script.jobs(&mut adversary.random);
+        let call = call_of(adversary.next(script.table()), jobs);
         script.call(&mut adversary.random, call);
     }
+    script.ask_counts(n);
 }
 
 fn compare_met(count: &mut Count, script: &Script) -> Result<(), String> {
@@ -148,13 +160,16 @@ pub fn lasting(count: &mut Count) -> Result<(), String> {
     let mut random = Random::new(83);
     let mut script = Script::new();
     for (n, k) in [(3, 2), (5, 2), (9, 4), (32, 3)] {
-        set_up(&mut script, &mut random, n, k);
+        let m = job_count(&mut random);
+        set_up(&mut script, &mut random, (n, k, m));
         let mut lasting = Lasting::new(u64::from(n));
         for _ in 0..6_000 {
             between(&mut script, &mut random);
-            let call = call_of(lasting.next(script.table()));
+            let jobs = script.jobs(&mut random);
+            let call = call_of(lasting.next(script.table()), jobs);
             script.call(&mut random, call);
         }
+        script.ask_counts(n);
     }
     compare(count, &script.commands)?;
     count.needs(TOLD)?;

@@ -1,7 +1,9 @@
-//! Commands in a row, made with the table and the ledger before each of them in view.
+//! Commands in a row, made with the table, the ledger and the counts before each of them in view.
 
 use super::figures;
 use super::protocol::{buffer_of, Call, Command, Held, Told, ENTRIES, ROWS};
+use comparison::messages::job_byte;
+use comparison::model::counts::{Counts, NONE};
 use comparison::model::ledger::Figures;
 use comparison::model::node::{Node, State};
 use comparison::model::ring::LIMIT;
@@ -34,9 +36,24 @@ impl Script {
         self.held.table()
     }
 
+    /// The lengths of the table and of the counts that are lent.
+    pub fn lent(&self) -> (usize, usize) {
+        (self.held.size, self.held.counted)
+    }
+
     /// All entries, those after the ledger too.
     pub fn entries(&self) -> &[Figures] {
         &self.held.entries
+    }
+
+    /// All arrays of counts, those after the ones lent too.
+    pub fn arrays(&self) -> &[Counts] {
+        &self.held.arrays
+    }
+
+    /// A job byte that fits the table; none reported where there is no table.
+    pub fn jobs(&self, random: &mut Random) -> u8 {
+        self.table().first().filter(|node| node.m <= 8).map_or(0, |node| job_byte(random, node.m))
     }
 
     /// The buffer as the last command, a call, left it.
@@ -54,6 +71,13 @@ impl Script {
     pub fn call(&mut self, random: &mut Random, call: Call) -> u8 {
         let told = self.push(Command::Call(call, ENOUGH[random.below(6) as usize]));
         told.expect("a call is answered").number
+    }
+
+    /// Asks for the counts of each of so many nodes.
+    pub fn ask_counts(&mut self, n: u32) {
+        for array in 0..n as u8 {
+            self.push(Command::Counts(array));
+        }
     }
 
     /// Lends this ledger. An entry after it holds figures of any kind.
@@ -76,9 +100,21 @@ impl Script {
         self.lend(random, &ledger);
     }
 
-    /// Loads the rows of a table. The rows after it hold records of any kind.
+    /// Makes the counts of so many nodes 0 by a set-up, where one is not: most tables have a slot count below it.
+    fn clear_counts(&mut self, arrays: usize) {
+        if self.held.arrays[..arrays].iter().any(|counts| *counts != NONE) {
+            let n = arrays.max(3);
+            self.push(Command::Size(n as u8));
+            self.push(Command::Arrays(n as u8));
+            self.push(Command::Call(Call::SetUp { n: n as u32, k: 2, m: 0 }, 0));
+        }
+    }
+
+    /// Loads the rows of a table and lends as many arrays of counts, all 0. The rows after it hold records of any kind.
     pub fn load_rows(&mut self, random: &mut Random, table: &[Node]) {
+        self.clear_counts(table.len().min(32));
         self.push(Command::Size(table.len() as u8));
+        self.push(Command::Arrays(table.len() as u8));
         for (row, node) in (0..).zip(table) {
             self.push(Command::Load(row, *node));
         }
@@ -94,12 +130,13 @@ impl Script {
         let all = if n < 32 { (1 << n) - 1 } else { u32::MAX };
         let x = random.within(1, u64::from(n)) as u32;
         let missed = all & random.number() as u32;
+        let jobs = self.jobs(random);
         for call in [
             Call::Look { lost: false },
             Call::Look { lost: true },
-            Call::Slot { lost: random.bit(), missed: 0 },
+            Call::Slot { lost: random.bit(), missed: 0, jobs },
             Call::Restart(x),
-            Call::Slot { lost: false, missed },
+            Call::Slot { lost: false, missed, jobs },
             Call::Off(x),
             Call::Restart(x),
             Call::SetUp { n, k, m },

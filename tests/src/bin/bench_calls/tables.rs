@@ -9,6 +9,7 @@ use comparison::model::bench::check_table;
 use comparison::model::node::{Node, State, CLAUSES};
 use comparison::model::refusal;
 use comparison::model::ring::{Set, LIMIT};
+use comparison::numbers::no_job_counts;
 use comparison::random::Random;
 use comparison::record_bytes::shown_record;
 use comparison::records::{job_count, size, sound_of, Break, BREAKS, STATES};
@@ -117,9 +118,10 @@ const WAYS: &[&str] = &[
     "no table: all records of another n",
     "no table: no record",
     "no table: other m",
+    "no table: all records of an m out of range",
 ];
 
-/// Rows that are sound by themselves and no table, in one way; none if this ring does not allow it.
+/// Rows that are no table in one way; none if this ring does not allow it. But for the last way each is sound by itself.
 fn rows_in_way(random: &mut Random, way: usize) -> Option<Vec<Node>> {
     let (n, k, m, slots) = ring(random);
     let mut rows = sound_table(random, (n, k, m, slots));
@@ -139,12 +141,16 @@ fn rows_in_way(random: &mut Random, way: usize) -> Option<Vec<Node>> {
         8 if n < 32 => rows = sound_table(random, (n + 1, k, m, slots)).split_off(1),
         9 => rows.clear(),
         10 => rows[i].m = (m + random.within(1, 8) as u32) % 9,
+        11 => {
+            let m = no_job_counts().nth(random.below(11) as usize).unwrap_or(9);
+            rows.iter_mut().for_each(|row| row.m = m);
+        }
         _ => return None,
     }
     Some(rows)
 }
 
-/// Every record is sound, and together they are no table.
+/// Every record is sound, or all keep the same m that is none, and together they are no table.
 pub fn no_tables(count: &mut Count) -> Result<(), String> {
     let mut random = Random::new(93);
     let mut script = Script::new();
@@ -170,13 +176,14 @@ pub fn limit(count: &mut Count) -> Result<(), String> {
         let table = sound_table(&mut random, (n, k, m, LIMIT - i % 3));
         script.load(&mut random, &table);
         let x = random.within(1, u64::from(n)) as u32;
+        let jobs = script.jobs(&mut random);
         for call in [
             Call::Look { lost: random.bit() },
-            Call::Slot { lost: random.bit(), missed: 0 },
+            Call::Slot { lost: random.bit(), missed: 0, jobs },
             Call::Look { lost: random.bit() },
-            Call::Slot { lost: false, missed: 1 << (x - 1) },
+            Call::Slot { lost: false, missed: 1 << (x - 1), jobs },
             Call::Off(x),
-            Call::Slot { lost: false, missed: 0 },
+            Call::Slot { lost: false, missed: 0, jobs: 0 },
             Call::Restart(x),
             Call::Restart(x),
         ] {
@@ -194,8 +201,9 @@ pub fn rooms(count: &mut Count) -> Result<(), String> {
         let (n, k, m, slots) = ring(&mut random);
         let table = sound_table(&mut random, (n, k, m, slots));
         script.load(&mut random, &table);
+        let jobs = script.jobs(&mut random);
         for call in [
-            Call::Slot { lost: false, missed: 0 },
+            Call::Slot { lost: false, missed: 0, jobs },
             Call::Look { lost: false },
             Call::Off(n),
             Call::Restart(n),
@@ -220,7 +228,7 @@ pub fn most_pairs(count: &mut Count) -> Result<(), String> {
     for n in 3..=32 {
         for room in ENOUGH {
             script.load(&mut random, &all_leave(n));
-            script.push(Command::Call(Call::Slot { lost: true, missed: 0 }, room));
+            script.push(Command::Call(Call::Slot { lost: true, missed: 0, jobs: 0 }, room));
             let all_out = script.table().iter().all(|node| matches!(node.state, State::Out(_)));
             count.check(all_out, || format!("not all of {n} nodes leave by the model"))?;
         }

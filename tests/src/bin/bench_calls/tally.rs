@@ -41,7 +41,9 @@ impl History {
         answer: &[u8],
     ) -> Result<(), String> {
         match *command {
-            Command::Lend(_) => return Ok(()),
+            Command::Lend(_) | Command::Arrays(_) | Command::Count { .. } | Command::Counts(_) => {
+                return Ok(())
+            }
             Command::Enter(entry, _) if usize::from(entry) >= self.n => return Ok(()),
             Command::Size(_) | Command::Load(..) | Command::Enter(..) => {
                 self.moments.clear();

@@ -9,11 +9,11 @@ use comparison::model::ledger::Figures;
 use comparison::random::Random;
 use comparison::report::Count;
 
-const OK: Call = Call::Slot { lost: false, missed: 0 };
-const LOST: Call = Call::Slot { lost: true, missed: 0 };
+const OK: Call = Call::Slot { lost: false, missed: 0, jobs: 0 };
+const LOST: Call = Call::Slot { lost: true, missed: 0, jobs: 0 };
 
 /// Node 2 misses the message.
-const MISS: Call = Call::Slot { lost: false, missed: 2 };
+const MISS: Call = Call::Slot { lost: false, missed: 2, jobs: 0 };
 
 /// Calls in a row, each with its pairs.
 type Run = &'static [(Call, &'static [(u8, u8)])];
@@ -99,7 +99,7 @@ const FOLLOWS_AS_ONE_LEAVES: Run = &[
 /// The model against the pairs; the commands are for the program.
 fn follow(count: &mut Count, (n, k): (u8, u32), runs: &[Run]) -> Result<(Vec<Command>, Held), String> {
     let set_up = Call::SetUp { n: u32::from(n), k, m: 0 };
-    let mut commands = vec![Command::Size(n), Command::Lend(n), Command::Call(set_up, 0)];
+    let mut commands = vec![Command::Size(n), Command::Lend(n), Command::Arrays(n), Command::Call(set_up, 0)];
     let mut held = Held::first();
     let mut answer = Vec::new();
     for command in &commands {
@@ -207,6 +207,7 @@ pub fn lists(count: &mut Count) -> Result<(), String> {
     for &((n, k), off, lists) in LISTS {
         let mut script = Script::new();
         script.push(Command::Size(n as u8));
+        script.push(Command::Arrays(n as u8));
         script.lend(&mut random, &vec![Figures::default(); n as usize]);
         script.call(&mut random, Call::SetUp { n, k, m: 0 });
         for &x in off {
@@ -282,6 +283,7 @@ const KEPT: &[&[Kept]] = &[
 fn keep(count: &mut Count, script: &mut Script, runs: &[Kept]) -> Result<(), String> {
     let mut random = Random::new(99);
     script.push(Command::Size(4));
+    script.push(Command::Arrays(4));
     script.lend(&mut random, &[Figures::default(); 4]);
     script.call(&mut random, Call::SetUp { n: 4, k: 2, m: 0 });
     for &(call, times, [left, joined, last]) in runs.iter().flat_map(|run| run.iter()) {

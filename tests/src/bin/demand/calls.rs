@@ -1,6 +1,7 @@
 //! The refusals of the bench's calls and the pairs of a slot, typed from document 01 and requests a and h.
 
-use comparison::model::bench::{self, Call, Document01, Fate, Kind};
+use comparison::model::bench::{self, Beside, Call, Document01, Fate, Kind, Message};
+use comparison::model::counts::{self, Counts};
 use comparison::model::ledger::Figures;
 use comparison::model::node::{Node, State};
 use comparison::model::ring::{Set, LIMIT};
@@ -83,7 +84,9 @@ fn bad_ledgers(slots: u64) -> Vec<Vec<Figures>> {
 pub fn refusals(count: &mut Count) -> Result<(), String> {
     let slot = |missed, room| {
         move |nodes: &mut [Node], ledger: &mut [Figures]| {
-            bench::slot(nodes, ledger, false, missed, room).map(|_| ())
+            let counts = &mut vec![counts::NONE; nodes.len()];
+            let message = Message { lost: false, missed, jobs: 0 };
+            bench::slot(nodes, Beside { ledger, counts }, message, room).map(|_| ())
         }
     };
     let off = |x| move |nodes: &mut [Node], ledger: &mut [Figures]| bench::off(nodes, ledger, x);
@@ -116,6 +119,72 @@ pub fn refusals(count: &mut Count) -> Result<(), String> {
     let mut ledger = fitting;
     let switched = bench::off(&mut nodes, &mut ledger, 1).and_then(|()| bench::restart(&mut nodes, 1));
     count.check(switched == Ok(()), || format!("off and restart at the limit: {switched:?}"))
+}
+
+/// A slot of a table of four nodes on a cable of three jobs gives this number, and changes counts only if it is 0.
+fn counted(
+    count: &mut Count,
+    (nodes, ledger, counts): (&[Node], &[Figures], &[Counts]),
+    (missed, jobs, room): (u32, u8, usize),
+    expected: u32,
+) -> Result<(), String> {
+    count.expected(expected);
+    let (mut after, mut entries, mut kept) = (nodes.to_vec(), ledger.to_vec(), counts.to_vec());
+    let beside = Beside { ledger: &mut entries, counts: &mut kept };
+    let message = Message { lost: false, missed: Set(missed), jobs };
+    let got = bench::slot(&mut after, beside, message, room).map(|_| ());
+    let number = got.err().unwrap_or(0);
+    let same = (after == nodes && kept == counts) == (number != 0);
+    count.check(number == expected && same, || format!("{got:?}, expected {expected}; counts {same}"))
+}
+
+/// The counts of four nodes, all as large as they may be after seven slots, but for one of these.
+fn with_count(array: usize, sender: usize, job: usize, number: u64) -> Vec<Counts> {
+    let mut counts = vec![[[7; 8]; 32]; 4];
+    counts[array][sender - 1][job - 1] = number;
+    counts
+}
+
+/// Request h: "A report count above the slot count, or not one array of counts per node in .. bench slot, gives 4";
+/// then 3, 13, 5, 8 for a job past m, 9.
+pub fn counts(count: &mut Count) -> Result<(), String> {
+    let mut nodes = bench::set_up(4, 2, 3, 4).expect("n, k and m are in range");
+    nodes.iter_mut().for_each(|node| node.slots = 7);
+    let fitting = with_count(0, 1, 1, 7);
+    let ledger = [Figures::default(); 4];
+    for (array, sender, job) in
+        [(0, 1, 1), (3, 4, 3), (1, 5, 1), (2, 2, 4), (3, 32, 8), (0, 4, 8), (1, 32, 1)]
+    {
+        let counts = with_count(array, sender, job, 8);
+        counted(count, (&nodes, &[], &counts), (0x10, 8, 0), 4)?;
+        counted(count, (&nodes, &ledger, &counts), (0, 0, 64), 4)?;
+    }
+    for arrays in [0, 3, 5] {
+        counted(count, (&nodes, &ledger, &vec![counts::NONE; arrays]), (0, 0, 64), 4)?;
+    }
+    counted(count, (&nodes, &[], &fitting), (0x10, 8, 0), 3)?;
+    counted(count, (&nodes, &[], &fitting), (0, 8, 0), 13)?;
+    for jobs in [0x08, 0x80, 0xFF] {
+        counted(count, (&nodes, &ledger, &fitting), (0, jobs, 0), 8)?;
+    }
+    counted(count, (&nodes, &ledger, &fitting), (0, 7, 63), 9)?;
+    counted(count, (&nodes, &ledger, &fitting), (0, 7, 64), 0)?;
+    nodes.iter_mut().for_each(|node| node.slots = LIMIT);
+    counted(count, (&nodes, &ledger, &fitting), (0, 8, 0), 5)
+}
+
+/// Set-up clears the counts; "not one array of counts per node" gives 4, after 14.
+pub fn cleared(count: &mut Count) -> Result<(), String> {
+    for (m, arrays, expected) in [(9, 3, 14), (8, 3, 4), (0, 5, 4), (8, 0, 4), (8, 4, 0), (0, 4, 0)] {
+        count.expected(expected);
+        let mut counts = vec![[[7; 8]; 32]; arrays];
+        let before = counts.clone();
+        let got = bench::counted_set_up((4, 2, m), 4, &mut counts).map(|nodes| nodes.len());
+        let same = if expected == 0 { got == Ok(4) } else { got == Err(expected) };
+        let kept = counts == if expected == 0 { vec![counts::NONE; arrays] } else { before };
+        count.check(same && kept, || format!("m = {m}, {arrays} arrays: {got:?}, not {expected}"))?;
+    }
+    Ok(())
 }
 
 /// A slot, its fate and its pairs.

@@ -21,6 +21,12 @@ const CASES: &[Case] = &[
         meets: &[3, 4, 5, 9, 11, 13],
         run: calls::refusals,
     },
+    Case {
+        name: "bench: counts that fit and that do not, refusals of a slot in order",
+        meets: &[0, 3, 4, 5, 8, 9, 13],
+        run: calls::counts,
+    },
+    Case { name: "bench: set-up clears the counts", meets: &[0, 4, 14], run: calls::cleared },
     Case { name: "bench: the changes of each slot", meets: &[], run: calls::changes },
     Case {
         name: "premises: each is found broken, and without it a claim fails",

@@ -1,6 +1,6 @@
 -- `bench_walks::orders::set_up_order` meets its contract: its tests are those of the definition. Assumes nothing.
 use borrow.Author.Needs.{needs}
-use mathlib.Core.Path.{sym, _∙_}
+use mathlib.Core.Path.{refl, sym, _∙_}
 use Rattle.nodeset.proofs.Tests.{failed, passed, chosen, otherwise}
 use borrow.Author.Tests.{eq-eqb, ne-eqb}
 use Rattle.bench_walks.proofs.orders.set_up_order.Statement.{statement}
@@ -27,22 +27,31 @@ returns-3 c = sym (
     ∙ chosen _ _ (passed (c .before .before .before .is-sponsor-count .ensures) (c .before .before .if2 .left))
     ∙ otherwise _ _ (failed (c .before .is-job-count .ensures) (c .if3 .taken)))
 
-cast-if4 : tie.Need-cast-if4
-cast-if4 c = search needs
-
 returns-4 : tie.Need-returns-4
 returns-4 c = sym (
-    chosen _ _ (passed (c .before .before .before .before .before .before .before .is-ring-size .ensures) (c .before .before .before .before .before .before .if1 .left))
-    ∙ chosen _ _ (passed (c .before .before .before .before .before .is-sponsor-count .ensures) (c .before .before .before .before .if2 .left))
-    ∙ chosen _ _ (passed (c .before .before .before .is-job-count .ensures) (c .before .before .if3 .left))
-    ∙ otherwise _ _ (ne-eqb _ _ (c .if4 .taken)))
+    chosen _ _ (passed (c .before .before .before .before .before .before .is-ring-size .ensures) (c .before .before .before .before .before .if1 .left))
+    ∙ chosen _ _ (passed (c .before .before .before .before .is-sponsor-count .ensures) (c .before .before .before .if2 .left))
+    ∙ chosen _ _ (passed (c .before .before .is-job-count .ensures) (c .before .if3 .left))
+    ∙ otherwise _ _ (failed {r = c .before .before .before .before .before .before .before .args .reports} refl (c .if4 .taken)))
+
+cast-if5 : tie.Need-cast-if5
+cast-if5 c = search needs
 
 returns-5 : tie.Need-returns-5
 returns-5 c = sym (
-    chosen _ _ (passed (c .before .before .before .before .before .before .before .is-ring-size .ensures) (c .before .before .before .before .before .before .if1 .left))
-    ∙ chosen _ _ (passed (c .before .before .before .before .before .is-sponsor-count .ensures) (c .before .before .before .before .if2 .left))
-    ∙ chosen _ _ (passed (c .before .before .before .is-job-count .ensures) (c .before .before .if3 .left))
-    ∙ chosen _ _ (eq-eqb _ _ (c .if4 .left)))
+    chosen _ _ (passed (c .before .before .before .before .before .before .before .before .is-ring-size .ensures) (c .before .before .before .before .before .before .before .if1 .left))
+    ∙ chosen _ _ (passed (c .before .before .before .before .before .before .is-sponsor-count .ensures) (c .before .before .before .before .before .if2 .left))
+    ∙ chosen _ _ (passed (c .before .before .before .before .is-job-count .ensures) (c .before .before .before .if3 .left))
+    ∙ chosen _ _ (passed {r = c .before .before .before .before .before .before .before .before .before .args .reports} refl (c .before .before .if4 .left))
+    ∙ otherwise _ _ (ne-eqb _ _ (c .if5 .taken)))
+
+returns-6 : tie.Need-returns-6
+returns-6 c = sym (
+    chosen _ _ (passed (c .before .before .before .before .before .before .before .before .is-ring-size .ensures) (c .before .before .before .before .before .before .before .if1 .left))
+    ∙ chosen _ _ (passed (c .before .before .before .before .before .before .is-sponsor-count .ensures) (c .before .before .before .before .before .if2 .left))
+    ∙ chosen _ _ (passed (c .before .before .before .before .is-job-count .ensures) (c .before .before .before .if3 .left))
+    ∙ chosen _ _ (passed {r = c .before .before .before .before .before .before .before .before .before .args .reports} refl (c .before .before .if4 .left))
+    ∙ chosen _ _ (eq-eqb _ _ (c .if5 .left)))
 
 pub set-up-order-spec : {M : Type 1} → statement M
 set-up-order-spec =
@@ -54,6 +63,7 @@ set-up-order-spec =
     returns-2
     is-job-count-requires
     returns-3
-    cast-if4
     returns-4
-    returns-5)
+    cast-if5
+    returns-5
+    returns-6)

@@ -12,7 +12,7 @@ sender-after-requires c κs = search needs
 returns : tie.Need-returns
 returns c =
     let v = c .before .before .args .v in
-    ap {B = Survey} (λ (x : ℕ). record { fine = c .before .before .args .fine; cable = v .cable; slots = v .slots; sender = x; speaker = v; out = 0 }) (c .before .sender-after .ensures)
+    ap {B = Survey} (λ (x : ℕ). record { fine = c .before .before .args .fine; cable = v .cable; slots = v .slots; sender = x; speaker = v; out = 0; listers = 0 }) (c .before .sender-after .ensures)
 
 pub begun-spec : {M : Type 1} → statement M
 begun-spec = tie.close (tie.spec sender-after-requires returns)
