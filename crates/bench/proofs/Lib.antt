@@ -6,3 +6,4 @@ pub mod Runs
 pub mod SlotKinds
 pub mod Computed
 pub mod Ledgers
+pub mod Reports

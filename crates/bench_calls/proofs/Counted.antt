@@ -21,6 +21,7 @@ use Rattle.nodeset.proofs.Subsets.{has-minus}
 use Rattle.ring.specs.declared.Cable.{Cable}
 use Rattle.ring.specs.Ring.{ringSize, sponsorCount, jobCount, nodeNumber, sender}
 use Rattle.ring.proofs.Ranges.{ring-size}
+use Rattle.bench.proofs.Reports.{next-sender}
 use Rattle.node_reports.specs.Reports.{Counts, noReportsAt, countsWith, heardFrom, heardBy}
 use Rattle.node_reports.specs.Inner.{greatestOf}
 use Rattle.node_reports.proofs.Laws.{nobody-hears}
@@ -76,14 +77,6 @@ module _ (lost : Bool) (missed : ℕ) (t : Table) (ok : tableSound t ≡ true) (
     own : v .own ≡ x
     own = let p = sound-placed t ok in p .at x low (omega (arith, high, p .length-is)) .own-is
 
-    -- its next sender is the speaker
-    sender-is : sender (v .cable .n) (v .slots + 1) ≡ speaker t
-    unfolding speaker
-    sender-is =
-        let p = sound-placed t ok in
-        let q = p .at x low (omega (arith, high, p .length-is)) in
-        ap₂ (λ (n s : ℕ). sender n (s + 1)) (ap (λ (c : Cable). c .n) (q .cable-is) ∙ sym (p .length-is)) (q .slots-is)
-
     reading-is : bench.heardBy lost missed t x ≡ cond (has missed x) unheard (turn .heard)
     reading-is = sym (hears lost missed t x (survey .speaker) (said t ok .spoken))
 
@@ -132,7 +125,7 @@ module _ (lost : Bool) (missed : ℕ) (t : Table) (ok : tableSound t ≡ true) (
     counts-are jobs c =
         ap (λ (b : Bool). cond b (countsWith (survey .sender) (jobsSent jobs (survey .speaker)) c) c) hears-is
         ∙ ap₂ (λ (y : ℕ) (w : Node). cond (hearsReport (speaker t) (bench.heardBy lost missed t x) v) (countsWith y (jobsSent jobs w) c) c) (said t ok .sender) (said t ok .spoken)
-        ∙ ap (λ (y : ℕ). cond (hearsReport y (bench.heardBy lost missed t x) v) (countsWith y (jobsSent jobs (recordOf t (speaker t))) c) c) (sym sender-is)
+        ∙ ap (λ (y : ℕ). cond (hearsReport y (bench.heardBy lost missed t x) v) (countsWith y (jobsSent jobs (recordOf t (speaker t))) c) c) (sym (next-sender t ok x low high))
 
 -- ---- the counts of all nodes
 

@@ -1,5 +1,5 @@
 -- Demand 2 holds. Assumes nothing.
-use Prim.Native.Nat.{ℕ, suc, _+_, _≤_, _<_, zero, _-_}
+use Prim.Native.Nat.{ℕ, suc, _+_, _≤_, _<_, _-_}
 use mathlib.Core.Path.{_≡_, refl, sym, ap, _∙_, ap₂}
 use mathlib.Core.Bool.{Bool, true, false, true≢false, _&&_}
 use mathlib.Core.List.{List, [], _∷_}
@@ -12,10 +12,10 @@ use Rattle.nodeset.proofs.Tests.{all, both, by-cases}
 use Rattle.ring.specs.declared.Cable.{Cable}
 use Rattle.ring.specs.Ring.{sender}
 use Rattle.ring.proofs.Senders.{sender-range}
+use Rattle.bench.proofs.Reports.{counts-at}
 use Rattle.bench.specs.Outcomes.{slotGiven}
-use Rattle.bench.specs.Reports.{reportsFit, jobsOn, receivedBy, eachCountsFrom, reportsAfterSlot}
+use Rattle.bench.specs.Reports.{reportsFit, jobsOn, receivedBy}
 use Rattle.node_reports.proofs.Laws.{nodes-each}
-use native.Mathlib.Nat.{add-zero}
 use Rattle.node_reports.specs.Reports.{Counts, countsWithin, allWithin}
 use Rattle.message.specs.declared.Reading.{Reading}
 use Rattle.message.specs.declared.Received.{Received}
@@ -70,21 +70,6 @@ over-count-refused received v held w = simp w
 passed : (b : Bool) (number : ℕ) (t : Table) (c : bench.Called) → bench.ifPassed b number t c .answer ≡ Done → (b ≡ true) × (c .answer ≡ Done)
 passed true number t c e = (refl, e)
 passed false number t c e = let z : _≡_ {A = ℕ} 0 1 = cc in absurd (omega arith)
-
--- the counts of a node after a slot
-each-at : (f : ℕ → Counts → Counts) (i j : ℕ) (counts : List Counts) → j < length counts → getD (eachCountsFrom f i counts) j [] ≡ f (i + j) (getD counts j [])
-unfolding eachCountsFrom
-each-at f i j [] h = absurd (elim h [ ])
-each-at f i zero (c ∷ counts) h = ap (λ (x : ℕ). f x c) (sym (add-zero i))
-each-at f i (suc j) (c ∷ counts) h = let z : suc i + j ≡ i + suc j = omega arith in each-at f (suc i) j counts (omega arith) ∙ ap (λ (x : ℕ). f x (getD counts j [])) z
-
-counts-at : (lost : Bool) (missed jobs : ℕ) (t : Table) (counts : List Counts) (i : ℕ) → 1 ≤ i → i ≤ length counts
-    → getD (reportsAfterSlot lost missed jobs t counts) (i - 1) [] ≡ countsAfter (receivedBy lost missed jobs t i) (recordOf t i) (getD counts (i - 1) [])
-unfolding reportsAfterSlot
-counts-at lost missed jobs t counts i low high =
-    let z : 1 + (i - 1) ≡ i = omega arith in
-    each-at (λ i c. countsAfter (receivedBy lost missed jobs t i) (recordOf t i) c) 1 (i - 1) counts (omega arith)
-    ∙ ap (λ (x : ℕ). countsAfter (receivedBy lost missed jobs t x) (recordOf t x) (getD counts (i - 1) [])) z
 
 each-steps : (lost : Bool) (missed jobs room : ℕ) (ledger : Ledger) (counts : List Counts) (t : Table) → slotWith lost missed jobs room ledger counts t .answer ≡ Done
     → (i : ℕ) → 1 ≤ i → i ≤ nodeCount t

@@ -9,8 +9,8 @@ use native.Mathlib.Omega.{arith}
 use native.Mathlib.Nat.{add-zero}
 use lib.Dec.{eqb, leb, ltb}
 use lib.ListN.{length, getD, length-replicate, getD-replicate}
-use borrow.Author.Tests.{le-leb, eq-eqb, eqb-false}
-use Rattle.refusal.specs.Causes.{cause, numberOf}
+use borrow.Author.Tests.{le-leb, eq-eqb}
+use Rattle.refusal.specs.Causes.{cause}
 use Rattle.nodeset.specs.Sums.{num}
 use Rattle.nodeset.specs.Sets.{within}
 use Rattle.nodeset.proofs.Tests.{by-cases, chosen, otherwise, both, all}
@@ -28,20 +28,19 @@ use Rattle.node.specs.declared.Answer.{Answer}
 use Rattle.node.specs.declared.Answer.the-variants.{Done, Refused}
 use Rattle.node.specs.Calls as node
 use Rattle.bench.specs.Table.{Table, recordOf, nodeCount, slotsOf, tableSound}
-use Rattle.bench.specs.Calls.{Called, done, ifPassed, setUpOf, slotOf, offOf, restartOf}
+use Rattle.bench.specs.Calls.{Called, done, setUpOf, slotOf, offOf, restartOf}
 use Rattle.bench.specs.Ledger.{Ledger, Figures, figures, countsFit, allFit, ledgerFits, isLeaving, isJoining, figuresAfter, entriesFrom, ledgerAfter}
-use Rattle.bench.specs.declared.Command.{Command}
 use Rattle.bench.specs.declared.Command.the-variants as command
-use Rattle.bench.specs.declared.Outcome.{Outcome}
 use Rattle.bench.specs.declared.Outcome.the-variants as outcome
 use Rattle.bench.specs.Reports.{reportsFit, jobsOn}
-use Rattle.bench.specs.Outcomes.{slotGiven, outcomeOf}
+use Rattle.bench.specs.Outcomes.{slotGiven}
 use Rattle.bench.specs.Kept.{slotWith, offWith, dateOf, ledgerWith, keptOf}
 use Rattle.bench.specs.Runs.{Call, slot, off, restart, callOf, tableAfter, isSlot}
 use Rattle.bench.proofs.Places.{Placed}
 use Rattle.bench.proofs.Accepted.{slot-refused, off-done, off-refused, restarts, restart-done, restart-refused}
 use Rattle.bench.proofs.Runs.{after-off-record, after-restart-record, start-record, start-placed, never-unsound, run-length, slots-next}
 use Rattle.ledger.specs.Runs.{Bench, Given, commandOf, commanded, calledBy, zeros, benchAfter, madeOf}
+use Rattle.ledger.proofs.Numbers.{numberIn, numberTold, told-number, unless}
 use Rattle.ledger.proofs.Made.{refused-stays, made-is}
 use Rattle.ledger.specs.Tallies.{joins, timesLeft, timesJoined, lastLeaving, LedgerTallies}
 
@@ -252,53 +251,23 @@ all-fit slots (x ∷ ledger) f = all (f 0 (omega arith)) (all-fit slots ledger (
 
 -- ---- 13 is none of the other refusals
 
--- the number of a refusal, 0 for none
-abbrev numberIn : Answer → ℕ
-numberIn Done = 0
-numberIn (Refused r) = numberOf r
-
-abbrev numberTold : Outcome → ℕ
-numberTold outcome.Quiet = 0
-numberTold (outcome.Slot s sender fate list distance) = 0
-numberTold (outcome.Refused r) = numberOf r
-
--- what is told of a call has its refusal
-told-number : (c : Command) (t : Table) (called : Called) → numberTold (outcomeOf c t called) ≡ numberIn (called .answer)
-told-number c t called = go c (called .answer)
-  where
-    go : (k : Command) (a : Answer) → numberTold (outcomeOf k t (record { table = called .table; answer = a })) ≡ numberIn a
-    go (command.SetUp cable) Done = refl
-    go (command.Off a) Done = refl
-    go (command.Restart a) Done = refl
-    go (command.Slot lost missed jobs) Done = refl
-    go (command.Look lost) Done = refl
-    go (command.SetUp cable) (Refused r) = refl
-    go (command.Off a) (Refused r) = refl
-    go (command.Restart a) (Refused r) = refl
-    go (command.Slot lost missed jobs) (Refused r) = refl
-    go (command.Look lost) (Refused r) = refl
-
-passes : (b : Bool) (number : ℕ) (t : Table) (called : Called) → numberOf (cause number) ≢ 13 → numberIn (called .answer) ≢ 13 → numberIn (ifPassed b number t called .answer) ≢ 13
-passes true number t called p q = q
-passes false number t called p q = p
-
-other : (m : ℕ) → eqb m 13 ≡ false → m ≢ 13
-other m h e = eqb-false m 13 h e
-
 not-13 : (g : Given) (ledger : Ledger) (t : Table) → ledgerFits (nodeCount t) (slotsOf t) ledger ≡ true → numberIn (calledBy g ledger t .answer) ≢ 13
 unfolding slotWith slotGiven slotOf offWith offOf restartOf
 not-13 g ledger t fits = go (g .call)
   where
+    none : _≢_ {A = ℕ} 0 13
+    none e = omega arith
+
     go : (c : Call) → numberIn (calledBy (record { call = c; counts = g .counts; jobs = g .jobs }) ledger t .answer) ≢ 13
     go (slot lost missed room) =
-        passes (tableSound t) 4 t _ (other 4 refl) (passes (reportsFit t (g .counts)) 4 t _ (other 4 refl) (passes (within (nodeCount t) missed) 3 t _ (other 3 refl) (rw fits
-        (passes (tableSound t) 4 t _ (other 4 refl) (passes (within (nodeCount t) missed) 3 t _ (other 3 refl) (passes (ltb (slotsOf t) limit) 5 t _ (other 5 refl) (passes (jobsWithin (jobsOn t) (g .jobs)) 8 t _ (other 8 refl)
-        (passes (tableSound t) 4 t _ (other 4 refl) (passes (within (nodeCount t) missed) 3 t _ (other 3 refl) (passes (ltb (slotsOf t) limit) 5 t _ (other 5 refl) (passes (leb 64 room) 9 t _ (other 9 refl) (other 0 refl))))))))))))
+        unless 13 (tableSound t) 4 t _ refl (unless 13 (reportsFit t (g .counts)) 4 t _ refl (unless 13 (within (nodeCount t) missed) 3 t _ refl (rw fits
+        (unless 13 (tableSound t) 4 t _ refl (unless 13 (within (nodeCount t) missed) 3 t _ refl (unless 13 (ltb (slotsOf t) limit) 5 t _ refl (unless 13 (jobsWithin (jobsOn t) (g .jobs)) 8 t _ refl
+        (unless 13 (tableSound t) 4 t _ refl (unless 13 (within (nodeCount t) missed) 3 t _ refl (unless 13 (ltb (slotsOf t) limit) 5 t _ refl (unless 13 (leb 64 room) 9 t _ refl none)))))))))))
     go (off a) =
-        passes (tableSound t) 4 t _ (other 4 refl) (passes (nodeNumber (nodeCount t) a) 3 t _ (other 3 refl) (rw fits
-        (passes (tableSound t) 4 t _ (other 4 refl) (passes (nodeNumber (nodeCount t) a) 3 t _ (other 3 refl) (other 0 refl)))))
+        unless 13 (tableSound t) 4 t _ refl (unless 13 (nodeNumber (nodeCount t) a) 3 t _ refl (rw fits
+        (unless 13 (tableSound t) 4 t _ refl (unless 13 (nodeNumber (nodeCount t) a) 3 t _ refl none))))
     go (restart a) =
-        passes (tableSound t) 4 t _ (other 4 refl) (passes (nodeNumber (nodeCount t) a) 3 t _ (other 3 refl) (passes (isOut (recordOf t a .state)) 11 t _ (other 11 refl) (other 0 refl)))
+        unless 13 (tableSound t) 4 t _ refl (unless 13 (nodeNumber (nodeCount t) a) 3 t _ refl (unless 13 (isOut (recordOf t a .state)) 11 t _ refl none))
 
 -- ---- a run
 

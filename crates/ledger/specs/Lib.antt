@@ -1,3 +1,4 @@
 pub mod Runs
 pub mod Tallies
 pub mod Entered
+pub mod Reported
