@@ -54,9 +54,7 @@ pub fn record_bytes(record: &Node) -> [u8; RECORD] {
     out.try_into().expect("56 bytes")
 }
 
-/// The bytes of the counts of one node: 32 rows of 8, eight bytes each.
-pub const COUNTS: usize = 32 * 8 * 8;
-
+/// Puts the counts of one node: 32 rows of 8, eight bytes each.
 pub fn push_counts(counts: &Counts, out: &mut Vec<u8>) {
     counts.iter().flatten().for_each(|count| out.extend(count.to_le_bytes()));
 }

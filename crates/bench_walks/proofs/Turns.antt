@@ -22,7 +22,7 @@ use base.Logic.{SProp}
 use base.Fml.{fat, froom}
 use prog.Wp.{Heap, Env, Calls, Loops, Wp, Tables, afterSeq, afterBlock, afterTurn, atReturn}
 use ghost.Atoms.{Atoms}
-use types.Kit.{Given, Item, Goal, Post, prop, Sq, Step, step, runs, anyQ, atRet, ‵, nth, put, _$_, !}
+use types.Kit.{Given, Item, Goal, Post, prop, Sq, Step, step, runs, anyQ, atRet, ‵, nth, put, _$_, ! }
 use types.Run.{Opd, Rv, Finds, Writes, init, lit, bin, assigns, stays, leaves-loop, first, blocks, loops, again, Below, exec}
 use denote.Memory.{pointee}
 use denote.Slice.{sliceTy}
