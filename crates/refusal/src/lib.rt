@@ -18,6 +18,7 @@ pub enum Refusal {
     PlanLine,
     LedgerUnfit,
     JobCount,
+    HasJobs,
 }
 
 // The number of the cause.
@@ -39,5 +40,6 @@ pub fn number(cause: Refusal) -> u32
         Refusal::PlanLine => 12,
         Refusal::LedgerUnfit => 13,
         Refusal::JobCount => 14,
+        Refusal::HasJobs => 15,
     }
 }
