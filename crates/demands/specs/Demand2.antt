@@ -12,7 +12,7 @@ use Rattle.node_reports.specs.Reports.{Counts, countsWithin}
 use Rattle.message.specs.declared.Reading.{Reading}
 use Rattle.message.specs.declared.Received.{Received}
 use Rattle.message.specs.declared.Written.the-variants.{Bytes}
-use Rattle.message.specs.Message.{heard, readOf, writeOf}
+use Rattle.message.specs.Message.{AreBytes, heard, readOf, writeOf}
 use Rattle.node_record.specs.declared.Node.{Node}
 use Rattle.node_record.specs.Soundness.{sound, limit}
 use Rattle.node_changes.specs.Changes.{counted}
@@ -24,10 +24,6 @@ use Rattle.bench.specs.Table.{Table, recordOf, nodeCount, speaker, tableSound}
 use Rattle.bench.specs.Calls as bench
 use Rattle.bench.specs.Ledger.{Ledger}
 use Rattle.bench.specs.Kept.{slotWith, keptOf}
-
--- Numbers that are bytes.
-abbrev pub AreBytes : List ℕ → Type 0
-AreBytes bytes = (i : ℕ) → i < length bytes → getD bytes i 0 < 256
 
 -- The sender of a record's next slot.
 abbrev pub nextSender : Node → ℕ

@@ -9,16 +9,12 @@ use lib.ListN.{length, getD, drop, length-drop}
 use lib.Arith.{digits-lt}
 use lib.Pow.{pow-add, pow-mono, shr-lt}
 use lib.Seq.{drop-cons, getD-drop}
-use Rattle.message.specs.Message.{bytesOf, little}
+use Rattle.message.specs.Message.{AreBytes, bytesOf, little}
 
--- every element is a byte
-abbrev pub Bytes : List ℕ → Type 0
-Bytes l = (i : ℕ) → i < length l → getD l i 0 < 256
-
-pub bytes-tail : (x : ℕ) (l : List ℕ) → Bytes (x ∷ l) → Bytes l
+pub bytes-tail : (x : ℕ) (l : List ℕ) → AreBytes (x ∷ l) → AreBytes l
 bytes-tail x l h i below = h (suc i) (suc-le-suc below)
 
-pub bytes-head : (x : ℕ) (l : List ℕ) → Bytes (x ∷ l) → x < 256
+pub bytes-head : (x : ℕ) (l : List ℕ) → AreBytes (x ∷ l) → x < 256
 bytes-head x l h = h zero (suc-le-suc zero-le)
 
 -- 8 bits more for each byte
@@ -30,12 +26,12 @@ unfolding bytesOf
 length-bytesOf zero a = refl
 length-bytesOf (suc n) a = ap suc (length-bytesOf n (a / 256))
 
-pub bytesOf-bytes : (n a : ℕ) → Bytes (bytesOf n a)
+pub bytesOf-bytes : (n a : ℕ) → AreBytes (bytesOf n a)
 unfolding bytesOf
 bytesOf-bytes (suc n) a zero below = omega arith
 bytesOf-bytes (suc n) a (suc i) below = bytesOf-bytes n (a / 256) i (omega arith)
 
-pub little-lt : (l : List ℕ) → Bytes l → little l < 2 ^ (8 * length l)
+pub little-lt : (l : List ℕ) → AreBytes l → little l < 2 ^ (8 * length l)
 unfolding little
 little-lt [] h = omega arith
 little-lt (x ∷ l) h =
@@ -43,13 +39,13 @@ little-lt (x ∷ l) h =
     let all : little l * 256 + x < 2 ^ (8 * length l) * 256 = digits-lt ih (bytes-head x l h) in
     rw (pow-byte (length l)) (omega arith)
 
-pub bytes-drop : (i : ℕ) (l : List ℕ) → Bytes l → Bytes (drop i l)
+pub bytes-drop : (i : ℕ) (l : List ℕ) → AreBytes l → AreBytes (drop i l)
 bytes-drop i l h j below =
     let within : i + j < length l = omega (arith, length-drop i l) in
     rw getD-drop (h (i + j) within)
 
 -- three bytes are below 2 ^ 24
-pub three-lt : (i : ℕ) (l : List ℕ) → Bytes l → length l ≤ i + 3 → little (drop i l) < 2 ^ 24
+pub three-lt : (i : ℕ) (l : List ℕ) → AreBytes l → length l ≤ i + 3 → little (drop i l) < 2 ^ 24
 three-lt i l h short =
     let few : 8 * length (drop i l) ≤ 24 = omega (arith, length-drop i l) in
     lt-of-lt-of-le (little-lt (drop i l) (bytes-drop i l h)) (pow-mono few)
@@ -69,7 +65,7 @@ little-bytesOf (suc n) a h =
     omega arith
 
 -- bytes are those of the number that they hold
-pub bytesOf-little : (l : List ℕ) → Bytes l → bytesOf (length l) (little l) ≡ l
+pub bytesOf-little : (l : List ℕ) → AreBytes l → bytesOf (length l) (little l) ≡ l
 unfolding bytesOf little
 bytesOf-little [] h = refl
 bytesOf-little (x ∷ l) h =

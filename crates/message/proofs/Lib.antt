@@ -3,5 +3,7 @@ pub mod Bytes
 pub mod Tests
 pub mod Parts
 pub mod RoundTrip
+pub mod TwoSections
+pub mod OtherCount
 pub mod Places
 pub mod From

@@ -15,7 +15,7 @@ pub length-section : (count size bits : ℕ) → length (sectionOf count size bi
 length-section count size bits = omega (arith, length-bytesOf size bits)
 
 -- section one is put to the start
-pub first-put : (k a n : ℕ) (out part : List ℕ) → n ≡ lengthOne k → lengthOf k ≤ length out → part ≡ sectionOf k (length (take n out) - 1) a
+pub first-put : (k a n : ℕ) (out part : List ℕ) → n ≡ lengthOne k → lengthOne k ≤ length out → part ≡ sectionOf k (length (take n out) - 1) a
     → part ++ drop n out ≡ acknowledgementSection k a ++ drop (lengthOne k) out
 first-put k a n out part e room is =
     let size : length (take n out) - 1 ≡ bytesFor k = omega (arith, length-take-le n out (omega arith)) in
@@ -50,18 +50,24 @@ unfolding twoSections
 length-two k a b =
     omega (arith, length-append (acknowledgementSection k a) (returnSection b), length-section k (bytesFor k) a, length-section 1 1 (cond b 1 0))
 
--- the three sections are the message: `one`, `two`, `three` are the lent bytes after each of them
-pub all-put : (k m a : ℕ) (b : Bool) (j : ℕ) (out one two three : List ℕ)
+-- two sections are put: `one`, `two` are the lent bytes after each of them
+pub two-put : (k a : ℕ) (b : Bool) (out one two : List ℕ)
     → one ≡ acknowledgementSection k a ++ drop (lengthOne k) out
     → two ≡ take (lengthOne k) one ++ (returnSection b ++ drop (lengthTwo k) one)
-    → three ≡ take (lengthTwo k) two ++ (jobSection m j ++ drop (lengthOf k) two)
-    → three ≡ messageOf k m a b j ++ drop (lengthOf k) out
-unfolding messageOf twoSections
-all-put k m a b j out one two three e₁ e₂ e₃ =
-    let both : two ≡ twoSections k a b ++ drop (lengthTwo k) out =
+    → two ≡ twoSections k a b ++ drop (lengthTwo k) out
+unfolding twoSections
+two-put k a b out one two e₁ e₂ =
     e₂
     ∙ ap (λ (l : List ℕ). take (lengthOne k) l ++ (returnSection b ++ drop (lengthTwo k) l)) e₁
-    ∙ put-after (lengthOne k) (acknowledgementSection k a) (returnSection b) out (length-section k (bytesFor k) a) in
+    ∙ put-after (lengthOne k) (acknowledgementSection k a) (returnSection b) out (length-section k (bytesFor k) a)
+
+-- with the third they are the message
+pub all-put : (k m a : ℕ) (b : Bool) (j : ℕ) (out two three : List ℕ)
+    → two ≡ twoSections k a b ++ drop (lengthTwo k) out
+    → three ≡ take (lengthTwo k) two ++ (jobSection m j ++ drop (lengthOf k) two)
+    → three ≡ messageOf k m a b j ++ drop (lengthOf k) out
+unfolding messageOf
+all-put k m a b j out two three e₂ e₃ =
     e₃
-    ∙ ap (λ (l : List ℕ). take (lengthTwo k) l ++ (jobSection m j ++ drop (lengthOf k) l)) both
+    ∙ ap (λ (l : List ℕ). take (lengthTwo k) l ++ (jobSection m j ++ drop (lengthOf k) l)) e₂
     ∙ put-after (lengthTwo k) (twoSections k a b) (jobSection m j) out (length-two k a b)

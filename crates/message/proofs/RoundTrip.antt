@@ -16,8 +16,8 @@ use Rattle.message.specs.declared.Received.{Received}
 use Rattle.message.specs.declared.Reading.the-variants.{Heard}
 use Rattle.message.specs.declared.Section.{Section}
 use Rattle.message.specs.declared.Written.the-variants.{Bytes as Written}
-use Rattle.message.specs.Message.{Outcome, acknowledgementSection, bitsIn, bytesFor, bytesOf, heard, ifRead, ifWritten, inRange, jobSection, lengthOf, lengthOne, lengthTwo, little, messageOf, partOne, partThree, partTwo, readOf, returnSection, saidBy, twoSections, sectionIn, sectionOf, writeOf}
-use Rattle.message.proofs.Bytes.{Bytes, bytes-tail, bytes-drop, little-bytesOf, bytesOf-little}
+use Rattle.message.specs.Message.{AreBytes, Outcome, acknowledgementSection, bitsIn, bytesFor, bytesOf, heard, ifRead, ifWritten, inRange, jobSection, lengthOf, lengthOne, lengthTwo, little, messageOf, partOne, partThree, partTwo, readOf, returnSection, saidBy, twoSections, sectionIn, sectionOf, writeOf}
+use Rattle.message.proofs.Bytes.{bytes-tail, bytes-drop, little-bytesOf, bytesOf-little}
 use Rattle.message.proofs.Parts.{length-section, length-two}
 use Rattle.message.proofs.Tests.{both, bit-small, in-range}
 
@@ -31,7 +31,7 @@ found count size bits h fits =
     simp (back, eq-eqb count count refl, lt-ltb bits (2 ^ count) h)
 
 -- A section that holds its count is the one that is written for its bits.
-pub rebuilt : (count size : ℕ) (part : List ℕ) → length part ≡ 1 + size → Bytes part → getD part 0 0 ≡ count → part ≡ sectionOf count size (bitsIn part)
+pub rebuilt : (count size : ℕ) (part : List ℕ) → length part ≡ 1 + size → AreBytes part → getD part 0 0 ≡ count → part ≡ sectionOf count size (bitsIn part)
 rebuilt count size [] long h is = absurd (omega arith)
 rebuilt count size (x ∷ rest) long h is =
     let n : length rest ≡ size = omega arith in
@@ -162,7 +162,7 @@ heard-range k m a b j bytes e =
     let p = passed-all k m a b j bytes e in
     record { low = p .low; high = p .high; few = p .few; within = rw (sym (p .one)) (p .clear-one); counted = rw (sym (p .three)) (p .clear-three) }
 
-bytes-take : (n : ℕ) (l : List ℕ) → Bytes l → Bytes (take n l)
+bytes-take : (n : ℕ) (l : List ℕ) → AreBytes l → AreBytes (take n l)
 bytes-take n l h i below =
     let short = length-take n l in
     let near : i < n = omega (arith, min-le-left n (length l)) in
@@ -174,30 +174,30 @@ bit-is x true small e = let o : x % 2 ≡ 1 = eqb-true (x % 2) 1 e in omega arit
 bit-is x false small e = let o : x % 2 ≡ 1 → ⊥ = eqb-false (x % 2) 1 e in omega arith
 
 -- the sections of a readable message are those that are written
-one-is : (k m a : ℕ) (b : Bool) (j : ℕ) (bytes : List ℕ) → Bytes bytes → Passed k m bytes a b j → partOne k bytes ≡ acknowledgementSection k a
+one-is : (k m a : ℕ) (b : Bool) (j : ℕ) (bytes : List ℕ) → AreBytes bytes → Passed k m bytes a b j → partOne k bytes ≡ acknowledgementSection k a
 one-is k m a b j bytes h p =
     let long = length-take-le (lengthOne k) bytes (omega (arith, p .sized)) in
     rebuilt k (bytesFor k) (partOne k bytes) long (bytes-take (lengthOne k) bytes h) (p .count-one) ∙ ap (sectionOf k (bytesFor k)) (p .one)
 
 -- a section of one byte that holds its count
-byte-is : (count start : ℕ) (bytes : List ℕ) → Bytes bytes → start + 2 ≤ length bytes → getD (take 2 (drop start bytes)) 0 0 ≡ count
+byte-is : (count start : ℕ) (bytes : List ℕ) → AreBytes bytes → start + 2 ≤ length bytes → getD (take 2 (drop start bytes)) 0 0 ≡ count
     → take 2 (drop start bytes) ≡ sectionOf count 1 (bitsIn (take 2 (drop start bytes)))
 byte-is count start bytes h room is =
     let long = length-take-le 2 (drop start bytes) (omega (arith, length-drop start bytes)) in
     rebuilt count 1 (take 2 (drop start bytes)) long (bytes-take 2 (drop start bytes) (bytes-drop start bytes h)) is
 
-two-is : (k m a : ℕ) (b : Bool) (j : ℕ) (bytes : List ℕ) → Bytes bytes → Passed k m bytes a b j → partTwo k bytes ≡ returnSection b
+two-is : (k m a : ℕ) (b : Bool) (j : ℕ) (bytes : List ℕ) → AreBytes bytes → Passed k m bytes a b j → partTwo k bytes ≡ returnSection b
 two-is k m a b j bytes h p =
     byte-is 1 (lengthOne k) bytes h (omega (arith, p .sized)) (p .count-two) ∙ ap (sectionOf 1 1) (bit-is (bitsIn (partTwo k bytes)) b (p .clear-two) (p .two))
 
-three-is : (k m a : ℕ) (b : Bool) (j : ℕ) (bytes : List ℕ) → Bytes bytes → Passed k m bytes a b j → drop (lengthTwo k) bytes ≡ jobSection m j
+three-is : (k m a : ℕ) (b : Bool) (j : ℕ) (bytes : List ℕ) → AreBytes bytes → Passed k m bytes a b j → drop (lengthTwo k) bytes ≡ jobSection m j
 three-is k m a b j bytes h p =
     let rest = drop (lengthTwo k) bytes in
     let all : take 2 rest ≡ rest = take-all 2 rest (omega (arith, length-drop (lengthTwo k) bytes, p .sized)) in
     sym all ∙ byte-is m (lengthTwo k) bytes h (omega (arith, p .sized)) (p .count-three) ∙ ap (sectionOf m 1) (p .three)
 
 -- Readable bytes are the message of what they read as.
-pub message-read : (k m a : ℕ) (b : Bool) (j : ℕ) (bytes : List ℕ) → Bytes bytes → readOf k m bytes ≡ heard a b j → bytes ≡ messageOf k m a b j
+pub message-read : (k m a : ℕ) (b : Bool) (j : ℕ) (bytes : List ℕ) → AreBytes bytes → readOf k m bytes ≡ heard a b j → bytes ≡ messageOf k m a b j
 unfolding messageOf twoSections
 message-read k m a b j bytes h e =
     let p = passed-all k m a b j bytes e in
@@ -211,10 +211,10 @@ message-read k m a b j bytes h e =
 -- ---- what the writer does
 
 -- what passes a test of the writer
-put : (t : Bool) (number : ℕ) (out : List ℕ) (outcome : Outcome) (n : ℕ) (after : List ℕ)
+pub put-passed : (t : Bool) (number : ℕ) (out : List ℕ) (outcome : Outcome) (n : ℕ) (after : List ℕ)
     → ifWritten t number out outcome ≡ (Written n, after) → (t ≡ true) × (outcome ≡ (Written n, after))
-put true number out outcome n after e = (refl, e)
-put false number out outcome n after e =
+put-passed true number out outcome n after e = (refl, e)
+put-passed false number out outcome n after e =
     let answers = ap (λ (o : Outcome). o .0) e in
     let z : _≡_ {A = ℕ} 0 1 = cc in
     absurd (omega arith)
@@ -228,10 +228,10 @@ pub record Put (k m a : ℕ) (b : Bool) (j : ℕ) (out : List ℕ) (n : ℕ) (af
 pub put-all : (k m a : ℕ) (b : Bool) (j : ℕ) (out : List ℕ) (n : ℕ) (after : List ℕ) → writeOf k m a b j out ≡ (Written n, after) → Put k m a b j out n after
 unfolding writeOf
 put-all k m a b j out n after e =
-    let p1 = put (inRange k) 2 out _ n after e in
-    let p2 = put (jobCount m) 14 out _ n after (p1 .1) in
-    let p3 = put (ltb a (2 ^ k) && ltb j (2 ^ m)) 8 out _ n after (p2 .1) in
-    let p4 = put (leb (lengthOf k) (length out)) 9 out _ n after (p3 .1) in
+    let p1 = put-passed (inRange k) 2 out _ n after e in
+    let p2 = put-passed (jobCount m) 14 out _ n after (p1 .1) in
+    let p3 = put-passed (ltb a (2 ^ k) && ltb j (2 ^ m)) 8 out _ n after (p2 .1) in
+    let p4 = put-passed (leb (lengthOf k) (length out)) 9 out _ n after (p3 .1) in
     let r = in-range k (p1 .0) in
     let w = both (ltb a (2 ^ k)) (ltb j (2 ^ m)) (p3 .0) in
     let answer : Written (lengthOf k) ≡ Written n = ap (λ (o : Outcome). o .0) (p4 .1) in
@@ -249,7 +249,7 @@ puts k m a b j out r room =
     simp (le-leb 2 k (r .low), le-leb k 31 (r .high), le-leb m 8 (r .few), lt-ltb a (2 ^ k) (r .within), lt-ltb j (2 ^ m) (r .counted), le-leb (lengthOf k) (length out) room)
 
 -- Each readable message is the one that the writer writes for what it reads as, where there is room; what stood after it stands there still.
-pub written-read : (k m a : ℕ) (b : Bool) (j : ℕ) (bytes out : List ℕ) → Bytes bytes → readOf k m bytes ≡ heard a b j → length bytes ≤ length out
+pub written-read : (k m a : ℕ) (b : Bool) (j : ℕ) (bytes out : List ℕ) → AreBytes bytes → readOf k m bytes ≡ heard a b j → length bytes ≤ length out
     → writeOf k m a b j out ≡ (Written (length bytes), bytes ++ drop (length bytes) out)
 written-read k m a b j bytes out h e room =
     let long : length bytes ≡ lengthOf k = passed-all k m a b j bytes e .sized in

@@ -1,6 +1,6 @@
 -- Document 01, "The message", with the third section of request h: the bytes of a message, what reading finds in bytes, and what writing leaves.
 -- A section is its count and then the bits that are counted. Acknowledgements are a number whose lowest bit is bit 1 of the document.
-use Prim.Native.Nat.{ℕ, zero, suc, _+_, _*_, _/_, _%_, _^_}
+use Prim.Native.Nat.{ℕ, zero, suc, _+_, _*_, _/_, _%_, _^_, _<_}
 use mathlib.Core.List.{List, [], _∷_, _++_}
 use mathlib.Core.Bool.{Bool, true, false, cond, _&&_}
 use lib.ListN.{length, getD, take, drop}
@@ -15,6 +15,10 @@ use Rattle.message.specs.declared.Written.{Written}
 use Rattle.message.specs.declared.Written.the-variants as written
 
 -- ---- the bytes
+
+-- numbers that are bytes
+abbrev pub AreBytes : List ℕ → Type 0
+AreBytes bytes = (i : ℕ) → i < length bytes → getD bytes i 0 < 256
 
 -- "in as few bytes as hold them"
 abbrev pub bytesFor : ℕ → ℕ

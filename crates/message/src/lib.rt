@@ -1,5 +1,5 @@
 // Reads and writes the messages of document 01 ("The message"). A message is its sections in order; each is a count byte and then
-// the bits that are counted, lowest first.
+// the bits that are counted, lowest first. A message has three of them (request h); recorded ones have the first two.
 use refusal::Refusal;
 ghost use mathlib.Core.Path.{_≡_};
 ghost use mathlib.Core.List.{_++_};
@@ -7,7 +7,8 @@ ghost use Prim.Native.Nat.{_+_, _-_, _^_, _≤_, _<_};
 ghost use mathlib.Core.Bool.{_&&_};
 ghost use lib.Dec.{ltb};
 ghost use lib.ListN.{length, take, drop};
-ghost use Rattle.message.specs.Message.{acknowledgementSection, bitsIn, inRange, jobsWithin, lengthOf, lengthOne, messageOf, partOne, readOf, saidBy, sectionIn, sectionOf, unread, writeOf};
+ghost use Rattle.message.specs.Message.{acknowledgementSection, bitsIn, inRange, jobsWithin, lengthOf, lengthOne, lengthTwo, messageOf, partOne, readOf, saidBy, sectionIn, sectionOf, twoSections, unread, writeOf};
+ghost use Rattle.message.specs.TwoSections.{readTwoOf, writeTwoOf};
 
 // What a message says of the members, or why the bytes are no message.
 pub enum Reading {
@@ -79,9 +80,9 @@ fn section_in(count: u32, part: &[u8]) -> Section
     }
 }
 
-// Section one of bytes, the k acknowledgements. Requires bytes as long as a message for k.
+// Section one of bytes, the k acknowledgements. Requires bytes so long.
 fn acknowledgements_in(k: u32, bytes: &[u8]) -> Section
-    requires { ⌜ (k ≤ 31) × (lengthOf k ≤ length (now bytes)) ⌝ }
+    requires { ⌜ (k ≤ 31) × (lengthOne k ≤ length (now bytes)) ⌝ }
     ensures { λ r. ⌜ r ≡ sectionIn k (partOne k (now (bytes .entry))) ⌝ }
 {
     let end = length_one(k);
@@ -146,6 +147,28 @@ pub fn read(k: u32, m: u32, bytes: &[u8]) -> Received
     said_by(one, two, three)
 }
 
+// Reads a message of two sections; its job byte is 0. It takes any bytes, and refuses by 2, 6, 7 and 8,
+// in this order.
+pub fn read_two(k: u32, bytes: &[u8]) -> Received
+    ensures { λ r. ⌜ r ≡ readTwoOf k (now (bytes .entry)) ⌝ }
+{
+    if !in_range(k) {
+        return unread(Refusal::SponsorCount);
+    }
+    let start = length_one(k);
+    if bytes.len() != start + 2 {
+        return unread(Refusal::MessageLength);
+    }
+    let one = acknowledgements_in(k, bytes);
+    let two = byte_section_in(1, start, bytes);
+    let absent = Section {
+        counted: true,
+        clear: true,
+        bits: 0,
+    };
+    said_by(one, two, absent)
+}
+
 // Fills part with a section: the count, then the bits in the bytes that are left. Requires a count that fits a byte, and room for it.
 fn put_section(count: u32, bits: u32, part: &mut [u8])
     requires { ⌜ (count < 256) × (1 ≤ length (now part)) ⌝ }
@@ -161,9 +184,9 @@ fn put_section(count: u32, bits: u32, part: &mut [u8])
     }
 }
 
-// Writes section one to its place in out. Requires room for a message for k.
+// Writes section one to its place in out. Requires room for it.
 fn put_acknowledgements(k: u32, acknowledgements: u32, out: &mut [u8])
-    requires { ⌜ (k ≤ 31) × (lengthOf k ≤ length (now out)) ⌝ }
+    requires { ⌜ (k ≤ 31) × (lengthOne k ≤ length (now out)) ⌝ }
     ensures { λ _. ⌜ now (out .exit) ≡ acknowledgementSection k acknowledgements ++ drop (lengthOne k) (now (out .entry)) ⌝ }
 {
     let end = length_one(k);
@@ -196,15 +219,24 @@ fn no_spare_bit(k: u32, m: u32, acknowledgements: u32, jobs: u8) -> bool
     (acknowledgements >> k == 0) & jobs_within(m, jobs)
 }
 
+// Writes the first two sections, one after the other. Requires room for them.
+fn put_two(k: u32, acknowledgements: u32, return_bit: bool, out: &mut [u8])
+    requires { ⌜ (k ≤ 31) × (lengthTwo k ≤ length (now out)) ⌝ }
+    ensures { λ _. ⌜ now (out .exit) ≡ twoSections k acknowledgements «return_bit» ++ drop (lengthTwo k) (now (out .entry)) ⌝ }
+{
+    let start = length_one(k);
+    put_acknowledgements(k, acknowledgements, out);
+    put_byte_section(1, return_bit as u32, start, out);
+}
+
 // Writes the sections one after the other. Requires counts in range, and room for the message.
 fn put_message(k: u32, m: u32, acknowledgements: u32, return_bit: bool, jobs: u8, out: &mut [u8])
     requires { ⌜ (k ≤ 31) × ((m ≤ 8) × (lengthOf k ≤ length (now out))) ⌝ }
     ensures { λ _. ⌜ now (out .exit) ≡ messageOf k m acknowledgements «return_bit» jobs ++ drop (lengthOf k) (now (out .entry)) ⌝ }
 {
-    let start = length_one(k);
-    put_acknowledgements(k, acknowledgements, out);
-    put_byte_section(1, return_bit as u32, start, out);
-    put_byte_section(m, jobs as u32, start + 2, out);
+    let end = length_one(k) + 2;
+    put_two(k, acknowledgements, return_bit, out);
+    put_byte_section(m, jobs as u32, end, out);
 }
 
 // Writes a message for k and m to the start of out, and leaves the bytes after it. It refuses by 2, 14, 8 and 9, in this order, and then writes nothing.
@@ -232,5 +264,24 @@ pub fn write(
         return Written::Refused(Refusal::OutputShort);
     }
     put_message(k, m, acknowledgements, return_bit, jobs, out);
+    Written::Bytes(length)
+}
+
+// Writes a message of two sections for k to the start of out, and leaves the bytes after it. It refuses
+// by 2, 8 and 9, in this order, and then writes nothing.
+pub fn write_two(k: u32, acknowledgements: u32, return_bit: bool, out: &mut [u8]) -> Written
+    ensures { λ r. ⌜ (r, now (out .exit)) ≡ writeTwoOf k acknowledgements «return_bit» (now (out .entry)) ⌝ }
+{
+    if !in_range(k) {
+        return Written::Refused(Refusal::SponsorCount);
+    }
+    if acknowledgements >> k != 0 {
+        return Written::Refused(Refusal::SpareBit);
+    }
+    let length = length_one(k) + 2;
+    if out.len() < length {
+        return Written::Refused(Refusal::OutputShort);
+    }
+    put_two(k, acknowledgements, return_bit, out);
     Written::Bytes(length)
 }

@@ -1,6 +1,6 @@
 -- The answers of the reader and the writer as numbers, for callers in Rust and C: a refusal is its number in document 01, below 2 ^ 33, and any
 -- other answer is 2 ^ 33 and more.
-use Prim.Native.Nat.{ℕ, _+_, _*_, _^_}
+use Prim.Native.Nat.{ℕ, _+_, _*_, _^_, _≤_}
 use mathlib.Core.List.{List}
 use mathlib.Core.Bool.{cond}
 use Rattle.refusal.specs.Causes.{numberOf}
@@ -27,3 +27,10 @@ writtenNumber (written.Refused cause) = numberOf cause
 -- the same lent bytes beside the number
 abbrev pub outcomeNumber : Outcome → ℕ × List ℕ
 outcomeNumber outcome = (writtenNumber (outcome .0), outcome .1)
+
+-- ---- Inner
+
+-- No more bytes than a message has.
+abbrev pub Short : Written → Type 0
+Short (written.Bytes count) = count ≤ 9
+Short (written.Refused cause) = Unit {0}

@@ -1,9 +1,11 @@
-// The reader and the writer for callers in Rust and C, which take and give numbers and slices alone.
+// The reader, the writer and the converter for callers in Rust and C, which take and give numbers and
+// slices alone.
 use message::Reading;
 use message::Written;
 ghost use mathlib.Core.Path.{_≡_};
 ghost use Rattle.message.specs.Message.{readOf, writeOf};
-ghost use Rattle.message_c.specs.Numbers.{outcomeNumber, readingNumber, receivedNumber};
+ghost use Rattle.converter.specs.Converter.{toThreeOf, toTwoOf};
+ghost use Rattle.message_c.specs.Numbers.{Short, outcomeNumber, readingNumber, receivedNumber, writtenNumber};
 
 // A reading and the job byte as one number.
 fn reading_number(reading: Reading, jobs: u8) -> u64
@@ -34,6 +36,17 @@ pub extern "C" fn message_read(k: u32, m: u32, bytes: &[u8]) -> u64
     reading_number(reading, received.jobs)
 }
 
+// What came of writing as one number. Requires no more bytes than a message has.
+fn written_number(written: Written) -> u64
+    requires { ⌜ Short written ⌝ }
+    ensures { λ r. ⌜ r ≡ writtenNumber written ⌝ }
+{
+    match written {
+        Written::Bytes(count) => 0x2_0000_0000 + count as u64,
+        Written::Refused(cause) => refusal::number(cause) as u64,
+    }
+}
+
 // Writes a message for k and m to the start of out: the refusal's number, or 2^33 and the number of
 // bytes.
 #[no_mangle]
@@ -47,8 +60,26 @@ pub extern "C" fn message_write(
 ) -> u64
     ensures { λ r. ⌜ (r, now (out .exit)) ≡ outcomeNumber (writeOf k m acknowledgements «return_bit» jobs (now (out .entry))) ⌝ }
 {
-    match message::write(k, m, acknowledgements, return_bit, jobs, out) {
-        Written::Bytes(count) => 0x2_0000_0000 + count as u64,
-        Written::Refused(cause) => refusal::number(cause) as u64,
-    }
+    let written = message::write(k, m, acknowledgements, return_bit, jobs, out);
+    written_number(written)
+}
+
+// Brings a message of two sections to three with no jobs, at the start of out. The answer is as that of
+// `message_write`.
+#[no_mangle]
+pub extern "C" fn message_to_three(k: u32, bytes: &[u8], out: &mut [u8]) -> u64
+    ensures { λ r. ⌜ (r, now (out .exit)) ≡ outcomeNumber (toThreeOf k (now (bytes .entry)) (now (out .entry))) ⌝ }
+{
+    let written = converter::to_three(k, bytes, out);
+    written_number(written)
+}
+
+// Takes a message of three sections with no jobs back to two, at the start of out. The answer is as that
+// of `message_write`.
+#[no_mangle]
+pub extern "C" fn message_to_two(k: u32, bytes: &[u8], out: &mut [u8]) -> u64
+    ensures { λ r. ⌜ (r, now (out .exit)) ≡ outcomeNumber (toTwoOf k (now (bytes .entry)) (now (out .entry))) ⌝ }
+{
+    let written = converter::to_two(k, bytes, out);
+    written_number(written)
 }
