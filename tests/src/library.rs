@@ -14,6 +14,20 @@ mod c {
             ptr: *mut u8,
             len: usize,
         ) -> u64;
+        pub unsafe fn message_to_three(
+            k: u32,
+            ptr: *const u8,
+            len: usize,
+            out_ptr: *mut u8,
+            out_len: usize,
+        ) -> u64;
+        pub unsafe fn message_to_two(
+            k: u32,
+            ptr: *const u8,
+            len: usize,
+            out_ptr: *mut u8,
+            out_len: usize,
+        ) -> u64;
         pub safe fn ring_sender(n: u32, done: u64) -> u64;
         pub safe fn ring_before(n: u32, set: u32, x: u32, j: u32) -> u64;
         pub safe fn ring_sponsored(n: u32, k: u32, set: u32, x: u32, j: u32) -> u64;
@@ -69,6 +83,20 @@ pub fn write(k: u32, m: u32, said: Said, out: &mut [u8]) -> Result<u64, u64> {
     let Said { acks, return_bit, jobs } = said;
     // SAFETY: the pointer and the length are those of one slice, lent for the call alone.
     let answer = unsafe { c::message_write(k, m, acks, return_bit, jobs, out.as_mut_ptr(), out.len()) };
+    value(answer)
+}
+
+/// A message in two sections brought to three: the number of bytes written, or the number of the refusal.
+pub fn to_three(k: u32, bytes: &[u8], out: &mut [u8]) -> Result<u64, u64> {
+    // SAFETY: each pointer and its length are those of one slice; one is only read, the other lent for the call alone.
+    let answer = unsafe { c::message_to_three(k, bytes.as_ptr(), bytes.len(), out.as_mut_ptr(), out.len()) };
+    value(answer)
+}
+
+/// A message in three sections with no jobs taken back to two.
+pub fn to_two(k: u32, bytes: &[u8], out: &mut [u8]) -> Result<u64, u64> {
+    // SAFETY: as above.
+    let answer = unsafe { c::message_to_two(k, bytes.as_ptr(), bytes.len(), out.as_mut_ptr(), out.len()) };
     value(answer)
 }
 

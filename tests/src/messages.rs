@@ -10,6 +10,14 @@ pub fn message_of(k: u32, m: u32, said: Said) -> Vec<u8> {
     bytes
 }
 
+/// A message of k in the two-section form of document 01.
+pub fn recorded_of(k: u32, acks: u32, return_bit: bool) -> Vec<u8> {
+    let mut bytes = vec![k as u8];
+    bytes.extend(&acks.to_le_bytes()[..k.div_ceil(8) as usize]);
+    bytes.extend([1, u8::from(return_bit)]);
+    bytes
+}
+
 /// All k acknowledgements yes, for k from 2 to 31.
 pub fn all_yes(k: u32) -> u32 {
     (1 << k) - 1

@@ -3,8 +3,8 @@
 use std::collections::BTreeMap;
 use std::process::ExitCode;
 
-/// The refusals' numbers reach to 14; 0 stands for an accepted call.
-const ANSWERS: usize = 15;
+/// The refusals' numbers reach to 15; 0 stands for an accepted call.
+const ANSWERS: usize = 16;
 
 /// What a case has compared so far.
 #[derive(Default)]
@@ -39,6 +39,14 @@ impl Count {
     pub fn needs(&self, names: &[&str]) -> Result<(), String> {
         match names.iter().find(|&name| !self.events.contains_key(name)) {
             Some(name) => Err(format!("no input leads to: {name}")),
+            None => Ok(()),
+        }
+    }
+
+    /// Fails if one of these answers was expected fewer times.
+    pub fn often(&self, answers: &[u32], times: u64) -> Result<(), String> {
+        match answers.iter().find(|&&number| self.answers[number as usize] < times) {
+            Some(number) => Err(format!("fewer than {times} inputs lead to answer {number} (0: accepted)")),
             None => Ok(()),
         }
     }

@@ -16,7 +16,7 @@ pub struct Said {
 }
 
 /// "reader and writer alone: 2 to 31"
-fn check_k(k: u32) -> Result<(), u32> {
+pub fn check_k(k: u32) -> Result<(), u32> {
     if (2..=31).contains(&k) {
         Ok(())
     } else {

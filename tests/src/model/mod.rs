@@ -9,6 +9,7 @@ pub mod message;
 pub mod node;
 pub mod pieces;
 pub mod program;
+pub mod recorded;
 pub mod refusal;
 pub mod ring;
 pub mod roll;

@@ -28,3 +28,5 @@ pub const LINE: u32 = 12;
 pub const LEDGER: u32 = 13;
 /// request h: "Job count above 8 at set-up, in reader or writer"
 pub const JOBS: u32 = 14;
+/// request i: "Message with a job count of 1 to 8 to be taken back"
+pub const TAKEN_BACK: u32 = 15;

@@ -1,6 +1,11 @@
-//! The reader and writer of messages: the library beside the model.
+//! The reader, the writer and the converter of messages: the library beside the model.
 
 mod compare;
+mod converter;
+mod converter_causes;
+mod converter_trips;
+mod converter_vectors;
+mod converting;
 mod reader;
 mod round_trips;
 mod vectors;
@@ -90,6 +95,86 @@ const CASES: &[Case] = &[
         name: "round trips: what the library reads it writes back, byte for byte",
         meets: &[0],
         run: round_trips::read_then_written,
+    },
+    Case {
+        name: "vectors: recorded messages of document 01 brought to three sections, model and library",
+        meets: &[0, 2, 6, 7, 8, 9],
+        run: converter_vectors::to_three,
+    },
+    Case {
+        name: "vectors: messages taken back to two sections by request i, model and library",
+        meets: &[0, 2, 6, 7, 8, 9, 15],
+        run: converter_vectors::to_two,
+    },
+    Case {
+        name: "to three: every k from 0 to 40 and large ones, lengths 0 to 12 and long ones",
+        meets: &[0, 2, 6, 7, 8, 9],
+        run: converter::every_k_to_three,
+    },
+    Case {
+        name: "to two: every k from 0 to 40 and large ones, lengths 0 to 12 and long ones",
+        meets: &[0, 2, 6, 7, 8, 9, 15],
+        run: converter::every_k_to_two,
+    },
+    Case {
+        name: "to three: messages of every k, each byte changed to every value, three bytes more or fewer",
+        meets: &[0, 6, 7, 8],
+        run: converter::near_to_three,
+    },
+    Case {
+        name: "to two: messages of every k, each byte changed to every value, three bytes more or fewer",
+        meets: &[0, 6, 7, 8, 15],
+        run: converter::near_to_two,
+    },
+    Case {
+        name: "to two: every two bytes as third section",
+        meets: &[0, 7, 8, 15],
+        run: converter::every_third_section,
+    },
+    Case {
+        name: "to three: every choice of causes at once, every k",
+        meets: &[0, 2, 6, 7, 8, 9],
+        run: converter_causes::to_three,
+    },
+    Case {
+        name: "to two: every choice of causes at once, every k",
+        meets: &[0, 2, 6, 7, 8, 9, 15],
+        run: converter_causes::to_two,
+    },
+    Case {
+        name: "to three: every number of lent bytes, every k",
+        meets: &[0, 6, 7, 8, 9],
+        run: converter::every_room_to_three,
+    },
+    Case {
+        name: "to two: every number of lent bytes, every k",
+        meets: &[0, 6, 7, 8, 9, 15],
+        run: converter::every_room_to_two,
+    },
+    Case {
+        name: "to three: random messages, valid and damaged",
+        meets: &[0, 2, 6, 7, 8, 9],
+        run: converter::random_to_three,
+    },
+    Case {
+        name: "to two: random messages, valid and damaged",
+        meets: &[0, 2, 6, 7, 8, 9, 15],
+        run: converter::random_to_two,
+    },
+    Case {
+        name: "there and back: two sections, three, the same two",
+        meets: &[0],
+        run: converter_trips::from_two,
+    },
+    Case {
+        name: "there and back: three sections with no jobs, two, the same three",
+        meets: &[0],
+        run: converter_trips::from_three,
+    },
+    Case {
+        name: "both forms: the library reads from three sections what the model reads from two",
+        meets: &[0],
+        run: converter_trips::reads,
     },
 ];
 
