@@ -30,7 +30,8 @@ returns : tie.Need-returns
 returns c = ap speakerNumber (sym (c .before .x .given .1) ∙ c .before .before .before .sender .ensures)
 
 returns-2 : tie.Need-returns-2
-returns-2 c = cc
+returns-2 c =
+    c .number .ensures ∙ ap speakerNumber (sym (c .before .before .cause .given .1) ∙ c .before .before .before .before .sender .ensures)
 
 pub ring-sender-spec : {M : Type 1} → statement M
 ring-sender-spec =
