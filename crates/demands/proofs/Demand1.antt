@@ -1,6 +1,6 @@
 -- Demand 1 holds: each definition is a chain of tests, and each test that fails gives a number of the call's list and leaves what was lent. Assumes nothing.
 use Prim.Native.Nat.{ℕ, _+_, _*_, _^_}
-use mathlib.Core.Path.{refl, ap}
+use mathlib.Core.Path.{_≡_, refl, ap}
 use mathlib.Core.Bool.{Bool, true, false, cond, _&&_}
 use mathlib.Core.List.{List, [], _∷_}
 use lib.Dec.{eqb, ltb, leb}
@@ -22,7 +22,9 @@ use Rattle.message.specs.declared.Reading.{Reading}
 use Rattle.message.specs.declared.Reading.the-variants as reading
 use Rattle.message.specs.declared.Received.{Received}
 use Rattle.message.specs.declared.Written.the-variants as written
-use Rattle.message.specs.Message.{Outcome, unread, ifRead, unwritten, ifWritten, inRange, jobsWithin, lengthOf, partOne, partTwo, partThree, readOf, saidBy, sectionIn, writeOf}
+use Rattle.message.specs.Message.{Outcome, unread, ifRead, unwritten, ifWritten, inRange, jobsWithin, lengthOf, lengthTwo, partOne, partTwo, partThree, readOf, saidBy, sectionIn, writeOf}
+use Rattle.message.specs.TwoSections.{absent, readTwoOf, writeTwoOf}
+use Rattle.converter.specs.Converter.{jobCountIn, readAnyOf, toThreeOf, toTwoOf, writtenOn}
 use Rattle.node_record.specs.Soundness.{sound, limit}
 use Rattle.node_record.specs.States.{isOut}
 use Rattle.node_record.specs.declared.Node.{Node}
@@ -42,7 +44,7 @@ use Rattle.plan_text.specs.declared.Written as text
 use Rattle.plan_program.specs.declared.Plan.{Plan}
 use Rattle.plan_program.specs.declared.Part.{Part}
 use Rattle.plan_program.specs.Calls.{fedOf, finishedOf, hasRoom, planSound, printedIn}
-use Rattle.demands.specs.Demand1.{Demand1, EndsBy, FeedsBy, PrintsBy, RunsBy, StepsBy, CountsBy, WritesBy, numbersFor, ofLookup, ofReading, ofSpeaker, ofAnswer}
+use Rattle.demands.specs.Demand1.{Demand1, EndsBy, FeedsBy, PrintsBy, RunsBy, StepsBy, CountsBy, WritesBy, isAmong, numbersFor, ofLookup, ofReading, ofSpeaker, ofAnswer}
 
 -- ---- a test, in each of the forms that the definitions use: P holds either way
 
@@ -99,6 +101,71 @@ writes k m a b jobs out =
     (either-written P (jobCount m) 14
     (either-written P (ltb a (2 ^ k) && jobsWithin m jobs) 8
     (either-written P (leb (lengthOf k) (length out)) 9 (tt, tt) (refl, refl)) (refl, refl)) (refl, refl)) (refl, refl)
+
+-- ---- recorded messages
+
+-- what the sections say is refused by 7 and 8 alone: for any list that has them
+reads-two : (numbers : List ℕ) → isAmong 2 numbers ≡ true → isAmong 6 numbers ≡ true → isAmong 7 numbers ≡ true → isAmong 8 numbers ≡ true
+    → (k : ℕ) (bytes : List ℕ) → EndsBy numbers (ofReading (readTwoOf k bytes .reading))
+unfolding readTwoOf saidBy
+reads-two numbers two six seven eight k bytes =
+    let P : Received → Type 0 = λ r. EndsBy numbers (ofReading (r .reading)) in
+    let one = sectionIn k (partOne k bytes) in
+    let other = sectionIn 1 (partTwo k bytes) in
+    either-read P (inRange k) 2
+    (either-read P (eqb (length bytes) (lengthTwo k)) 6
+    (either-read P (one .counted && (other .counted && true)) 7
+    (either-read P (one .clear && (other .clear && true)) 8 tt eight) seven) six) two
+
+writes-two : (numbers : List ℕ) → isAmong 2 numbers ≡ true → isAmong 8 numbers ≡ true → isAmong 9 numbers ≡ true
+    → (k a : ℕ) (b : Bool) (out : List ℕ) → WritesBy numbers out (writeTwoOf k a b out)
+unfolding writeTwoOf
+writes-two numbers two eight nine k a b out =
+    let P = WritesBy numbers out in
+    either-written P (inRange k) 2
+    (either-written P (ltb a (2 ^ k)) 8
+    (either-written P (leb (lengthTwo k) (length out)) 9 (tt, tt) (nine, refl)) (eight, refl)) (two, refl)
+
+-- a reading that is refused stays so and leaves the lent bytes; else what is written on counts
+written-by : (numbers : List ℕ) (r : Reading) (out : List ℕ) (on : ℕ → Bool → Outcome) → EndsBy numbers (ofReading r) → ((a : ℕ) (b : Bool) → WritesBy numbers out (on a b))
+    → WritesBy numbers out (writtenOn r out on)
+written-by numbers (reading.Heard a b) out on e h = h a b
+written-by numbers (reading.Refused cause) out on e h = (e, refl)
+
+to-three : (k : ℕ) (bytes out : List ℕ) → WritesBy (2 ∷ 6 ∷ 7 ∷ 8 ∷ 9 ∷ []) out (toThreeOf k bytes out)
+unfolding toThreeOf writeOf
+to-three k bytes out =
+    let numbers : List ℕ = 2 ∷ 6 ∷ 7 ∷ 8 ∷ 9 ∷ [] in
+    let P = WritesBy numbers out in
+    written-by numbers (readTwoOf k bytes .reading) out _ (reads-two numbers refl refl refl refl k bytes) (λ a b.
+    either-written P (inRange k) 2
+    (either-written P (ltb a (2 ^ k) && jobsWithin 0 0) 8
+    (either-written P (leb (lengthOf k) (length out)) 9 (tt, tt) (refl, refl)) (refl, refl)) (refl, refl))
+
+-- 14 does not come after 7
+either-any : (P : Received → Type 0) (few ranged : Bool) {r : Received} → P r → P (unread (cause 7)) → P (unread (cause 2)) → P (ifRead few 7 (ifRead ranged 2 (ifRead few 14 r)))
+either-any P true true p seven two = p
+either-any P true false p seven two = two
+either-any P false ranged p seven two = seven
+
+to-two : (k : ℕ) (bytes out : List ℕ) → WritesBy (2 ∷ 6 ∷ 7 ∷ 8 ∷ 15 ∷ 9 ∷ []) out (toTwoOf k bytes out)
+unfolding toTwoOf readAnyOf readOf saidBy
+to-two k bytes out =
+    let numbers : List ℕ = 2 ∷ 6 ∷ 7 ∷ 8 ∷ 15 ∷ 9 ∷ [] in
+    let R : Received → Type 0 = λ r. EndsBy numbers (ofReading (r .reading)) in
+    let m = jobCountIn bytes in
+    let one = sectionIn k (partOne k bytes) in
+    let two = sectionIn 1 (partTwo k bytes) in
+    let three = sectionIn m (partThree k bytes) in
+    let read =
+    either-read R (inRange k) 2
+    (either-read R (eqb (length bytes) (lengthOf k)) 6
+    (either-any R (jobCount m) (inRange k)
+    (either-read R (eqb (length bytes) (lengthOf k)) 6
+    (either-read R (one .counted && (two .counted && three .counted)) 7
+    (either-read R (one .clear && (two .clear && three .clear)) 8 tt refl) refl) refl) refl refl) refl) refl in
+    written-by numbers (readAnyOf k bytes .reading) out _ read (λ a b.
+    either-written (WritesBy numbers out) (eqb m 0) 15 (writes-two numbers refl refl refl k a b out) (refl, refl))
 
 -- ---- the node record
 
@@ -231,6 +298,10 @@ demand1 = record {
   decided = λ cable set x. finds-on cable x (decided cable set x);
   read = reads;
   write = writes;
+  read-two = λ k bytes. reads-two _ refl refl refl refl k bytes;
+  write-two = λ k a b out. writes-two _ refl refl refl k a b out;
+  to-three = to-three;
+  to-two = to-two;
   set-up = sets-up;
   slot = λ bytes v held. counted (readOf (v .cable .k) (v .cable .m) bytes) v held;
   step = counted;

@@ -22,6 +22,8 @@ use Rattle.message.specs.declared.Received.{Received}
 use Rattle.message.specs.declared.Written.{Written}
 use Rattle.message.specs.declared.Written.the-variants as written
 use Rattle.message.specs.Message.{readOf, writeOf}
+use Rattle.message.specs.TwoSections.{readTwoOf, writeTwoOf}
+use Rattle.converter.specs.Converter.{toThreeOf, toTwoOf}
 use Rattle.node_record.specs.declared.Node.{Node}
 use Rattle.node.specs.declared.Answer.{Answer}
 use Rattle.node.specs.declared.Answer.the-variants as answer
@@ -134,6 +136,11 @@ pub record Demand1 : Type 0 where
   pub read : (k m : ℕ) (bytes : List ℕ) → EndsBy (2 ∷ 14 ∷ 6 ∷ 7 ∷ 8 ∷ []) (ofReading (readOf k m bytes .reading))
   pub write : (k m acknowledgements : ℕ) (returnBit : Bool) (jobs : ℕ) (out : List ℕ)
       → WritesBy (2 ∷ 14 ∷ 8 ∷ 9 ∷ []) out (writeOf k m acknowledgements returnBit jobs out)
+  -- recorded messages: of two sections, brought to three, and taken back
+  pub read-two : (k : ℕ) (bytes : List ℕ) → EndsBy (2 ∷ 6 ∷ 7 ∷ 8 ∷ []) (ofReading (readTwoOf k bytes .reading))
+  pub write-two : (k acknowledgements : ℕ) (returnBit : Bool) (out : List ℕ) → WritesBy (2 ∷ 8 ∷ 9 ∷ []) out (writeTwoOf k acknowledgements returnBit out)
+  pub to-three : (k : ℕ) (bytes out : List ℕ) → WritesBy (2 ∷ 6 ∷ 7 ∷ 8 ∷ 9 ∷ []) out (toThreeOf k bytes out)
+  pub to-two : (k : ℕ) (bytes out : List ℕ) → WritesBy (2 ∷ 6 ∷ 7 ∷ 8 ∷ 15 ∷ 9 ∷ []) out (toTwoOf k bytes out)
   -- the node record; set-up is given none, and sending returns none
   pub set-up : (cable : Cable) (own : ℕ) → EndsBy (1 ∷ 2 ∷ 14 ∷ 3 ∷ []) (ofAnswer (startOf cable own .stepped .answer))
   pub slot : (bytes : List ℕ) (v : Node) (counts : Counts) → CountsBy (4 ∷ 5 ∷ []) v counts (slotOf bytes v counts)
