@@ -23,7 +23,7 @@ use Rattle.message.specs.declared.Reading.the-variants as reading
 use Rattle.message.specs.declared.Received.{Received}
 use Rattle.message.specs.declared.Written.the-variants as written
 use Rattle.message.specs.Message.{Outcome, unread, ifRead, unwritten, ifWritten, inRange, jobsWithin, lengthOf, lengthTwo, partOne, partTwo, partThree, readOf, saidBy, sectionIn, writeOf}
-use Rattle.message.specs.TwoSections.{absent, readTwoOf, writeTwoOf}
+use Rattle.message.specs.TwoSections.{readTwoOf, writeTwoOf}
 use Rattle.converter.specs.Converter.{jobCountIn, readAnyOf, toThreeOf, toTwoOf, writtenOn}
 use Rattle.node_record.specs.Soundness.{sound, limit}
 use Rattle.node_record.specs.States.{isOut}
