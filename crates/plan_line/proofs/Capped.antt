@@ -16,7 +16,7 @@ use Rattle.plan_line.specs.Plan.{ifOpened, inRing, ringOf}
 use Rattle.plan_line.proofs.Words.{and-false}
 
 -- what holds of a number holds of the capped one, if it holds of 100 where the number is 100 or more
-capped : (P : ℕ → Type 0) (v : ℕ) → P v → (100 ≤ v → P 100) → P (min v 100)
+pub capped : (P : ℕ → Type 0) (v : ℕ) → P v → (100 ≤ v → P 100) → P (min v 100)
 capped P v same large = go (decLe v 100)
   where
     go : Dec (v ≤ 100) → P (min v 100)

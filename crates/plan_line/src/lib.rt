@@ -56,7 +56,7 @@ fn all_digits(word: &[u8]) -> bool
 }
 
 // Whether the word is a number: digits, at least one, and no 0 before others.
-fn is_number(word: &[u8]) -> bool
+pub fn is_number(word: &[u8]) -> bool
     ensures { λ r. ⌜ r ≡ isNumber (now (word .entry)) ⌝ }
 {
     if word.len() == 0 {
@@ -71,7 +71,7 @@ fn is_number(word: &[u8]) -> bool
 }
 
 // The value of a number, 100 where it is 100 or more: no test of a plan tells those apart.
-fn small_value(word: &[u8]) -> u32
+pub fn small_value(word: &[u8]) -> u32
     requires { ⌜ isNumber (now word) ≡ true ⌝ }
     ensures { λ r. ⌜ r ≡ min (valueOf (now (word .entry))) 100 ⌝ }
 {

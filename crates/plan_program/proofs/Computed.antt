@@ -3,9 +3,9 @@ use Rattle.bench.specs.Outcomes.{endedOf}
 use Rattle.bench_by_value.specs.ByValue.{callOf}
 use Rattle.plan_line.specs.Words.{gap, parted, begins, allDigits, isNumber, valueFrom}
 use Rattle.plan_line.specs.Plan.{ringOf, numbersOf, openingOf, namedOf, allNumbers, valuesOf, risingFrom, allInRing, withAll, missingOf, wordOf, lineOf}
-use Rattle.plan_text.specs.Text.{digits, places, decimal, slotText, refusalText}
+use Rattle.plan_text.specs.Text.{digits, nextLine, places, decimal, slotText, refusalText}
 use Rattle.plan_run.specs.Run.{ranOf, openedOf}
-use Rattle.plan_program.specs.Program.{nextLine, runLine, afterLine, endText, runOf, printed}
+use Rattle.plan_program.specs.Program.{runLine, afterLine, endText, runOf, printed}
 
 unfoldable pub printing : Unit {0}
 unfolding endedOf callOf gap parted begins allDigits isNumber valueFrom ringOf numbersOf openingOf namedOf allNumbers valuesOf risingFrom allInRing withAll missingOf wordOf lineOf digits places decimal slotText refusalText ranOf openedOf nextLine runLine afterLine endText runOf printed

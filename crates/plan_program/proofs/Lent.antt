@@ -29,7 +29,8 @@ use Rattle.plan_run.specs.Run.{actOf, noRows, openedBy, openedOf, ranBy, ranOf}
 use Rattle.plan_run.specs.Inner.{openingAct, orderOn, outcomeOn}
 use Rattle.plan_run.proofs.Glimpses as line
 use Rattle.plan_program.specs.declared.Plan.{Plan}
-use Rattle.plan_program.specs.Program.{afterLine, isRefused, nextLine, planOpened, planRan, planWith, runLine}
+use Rattle.plan_text.specs.Text.{nextLine}
+use Rattle.plan_program.specs.Program.{afterLine, isRefused, planOpened, planRan, planWith, runLine}
 use Rattle.plan_program.specs.Calls.{planSound}
 use Rattle.plan_program.specs.Inner.{actIn, linesAfter, outcomeAfter, overAfter, rowsFor, sizeAfter, sizeOf}
 use Rattle.plan_program.proofs.Sound.{some-record}

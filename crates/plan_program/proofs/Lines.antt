@@ -22,13 +22,13 @@ use Rattle.plan_line.specs.Words.{gap}
 use Rattle.plan_line.specs.Plan.{openingOf, lineOf}
 use Rattle.plan_line.proofs.Lists.{part-at, from-place, from-end}
 use Rattle.plan_run.specs.Run.{openedBy, openedOf, ranBy, actOf, ranOf}
-use Rattle.plan_text.specs.Text.{slotText, refusalText, pasted, writtenOf, PutAt}
+use Rattle.plan_text.specs.Text.{nextLine, slotText, pasted, writtenOf, PutAt}
 use Rattle.plan_text.specs.declared.Written.{Written}
 use Rattle.plan_text.specs.declared.Written.the-variants.{Bytes}
-use Rattle.plan_text.proofs.Digits.{decimal-short, fate-short, shown-short}
+use Rattle.plan_text.proofs.Digits.{decimal-short, fate-short, refusal-short, shown-short}
 use Rattle.plan_program.specs.declared.Plan.{Plan}
 use Rattle.plan_program.specs.declared.Part.{Part}
-use Rattle.plan_program.specs.Program.{afterLine, nextLine, linesIn, planOpened, planRan, quiet, runLine, textOf}
+use Rattle.plan_program.specs.Program.{afterLine, linesIn, planOpened, planRan, quiet, runLine, textOf}
 use Rattle.plan_program.specs.Calls.{bytesIn, partIn}
 use Rattle.plan_program.specs.Inner.{endOf}
 
@@ -81,12 +81,11 @@ enough p l =
 -- ---- a line is printed in 80 bytes
 
 pub text-short : (L : ℕ) (o : Outcome) → length (textOf L o) ≤ 80
-unfolding slotText refusalText
+unfolding slotText
 text-short L outcome.Quiet = omega arith
 text-short L (outcome.Slot slot sender fate shown distance) =
     simp length-append (omega (arith, decimal-short slot, decimal-short sender, fate-short fate, shown-short shown, decimal-short distance))
-text-short L (outcome.Refused cause) =
-    simp length-append (omega (arith, decimal-short L, decimal-short (numberOf cause)))
+text-short L (outcome.Refused cause) = refusal-short L (numberOf cause)
 
 -- ---- room
 

@@ -1,7 +1,7 @@
 -- A text that comes in pieces prints what the whole text prints, though 121 bytes are kept of a line that has not ended; nothing is printed of what
--- comes after a refusal; line numbers are exact for 2 ^ 64 lines.
+-- comes after a refusal.
 -- Assumes nothing.
-use Prim.Native.Nat.{ℕ, zero, suc, _+_, _*_, _<_, _≤_}
+use Prim.Native.Nat.{ℕ, zero, suc, _+_, _*_, _≤_}
 use mathlib.Core.Path.{_≡_, refl, sym, ap, _∙_}
 use mathlib.Core.Bool.{Bool, true, false, cond}
 use mathlib.Core.List.{List, [], _∷_, _++_, append-nil, append-assoc}
@@ -9,17 +9,17 @@ use native.Mathlib.Omega.{arith}
 use lib.Dec.{eqb}
 use lib.ListN.{length, take, drop, replicate}
 use lib.Seq.{take-at, take-take}
-use borrow.Author.Tests.{ne-eqb, lt-ltb, le-leb}
+use borrow.Author.Tests.{ne-eqb, le-leb}
 use Rattle.refusal.specs.declared.Refusal.the-variants.{Unsound, OutputShort}
 use Rattle.plan_line.specs.Words.{parted}
-use Rattle.plan_text.specs.Text.{PutAt, pasted, refusalText, writtenOf}
+use Rattle.plan_text.specs.Text.{nextLine, PutAt, pasted, refusalText, writtenOf}
 use Rattle.plan_text.specs.declared.Written.{Written}
 use Rattle.plan_text.specs.declared.Written.the-variants.{Bytes}
 use Rattle.plan_text.proofs.Paste.{both}
 use Rattle.plan_program.specs.declared.Plan.{Plan}
 use Rattle.plan_program.specs.declared.Part.{Part}
 use Rattle.plan_program.specs.declared.Ahead.{Ahead}
-use Rattle.plan_program.specs.Program.{afterLine, nextLine, endText, lineText, linesIn, mayEnd, noPlan, printed, quiet, runOf, textThen, wholeText, Run}
+use Rattle.plan_program.specs.Program.{afterLine, endText, lineText, linesIn, mayEnd, noPlan, printed, quiet, runOf, textThen, wholeText, Run}
 use Rattle.plan_program.specs.Calls.{begunWith, bytesIn, fedAs, fedBy, fedOf, finishedOf, hasRoom, inputOf, laid, partOf, planSound, printedIn, runPiece, textsFed, unfed, Piece, PiecesPrint, Roomy}
 use Rattle.plan_program.specs.Inner.{Goes}
 use Rattle.plan_program.proofs.Chunks.{begun-none, chunks, parts-some}
@@ -198,12 +198,6 @@ over-prints-nothing p part pieces last e room =
     fed-texts pieces p part last sound room
     ∙ ap (λ (l : List ℕ). l ++ endText (f .plan) (f .rest)) (s .text)
     ∙ end-none (f .plan) (f .rest) (simp (s .over))
-
--- ---- line numbers
-
-pub exact : (lines : ℕ) → lines + 1 < 18446744073709551616 → nextLine lines ≡ lines + 1
-unfolding nextLine
-exact lines h = simp (lt-ltb lines 18446744073709551615 (omega arith))
 
 -- ---- all at once
 

@@ -33,7 +33,8 @@ use Rattle.plan_line.specs.Plan.{openingOf, lineOf}
 use Rattle.plan_line.proofs.Ranges.{RingIn, opened}
 use Rattle.plan_run.specs.Run.{actOf, noRows, openedBy, openedOf, ranBy, ranOf}
 use Rattle.plan_program.specs.declared.Plan.{Plan}
-use Rattle.plan_program.specs.Program.{afterLine, nextLine, planOpened, planRan, quiet, runLine, runOf}
+use Rattle.plan_text.specs.Text.{nextLine}
+use Rattle.plan_program.specs.Program.{afterLine, planOpened, planRan, quiet, runLine, runOf}
 use Rattle.plan_program.specs.Calls.{planSound}
 use Rattle.plan_program.specs.Tables.{callsIn, madeBy, startOf}
 

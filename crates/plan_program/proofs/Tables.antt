@@ -17,7 +17,8 @@ use Rattle.plan_line.specs.Plan.{lineOf}
 use Rattle.plan_line.proofs.Ranges.{RingIn, opened}
 use Rattle.plan_run.specs.Run.{openedBy}
 use Rattle.plan_program.specs.declared.Plan.{Plan}
-use Rattle.plan_program.specs.Program.{afterLine, nextLine, lineText, noPlan, planOpened, runOf}
+use Rattle.plan_text.specs.Text.{nextLine}
+use Rattle.plan_program.specs.Program.{afterLine, lineText, noPlan, planOpened, runOf}
 use Rattle.plan_program.specs.Calls.{planSound}
 use Rattle.plan_program.specs.Tables.{afterLines, callsIn, callsOf, madeBy, startOf, textsOf, whole, Opens, PrintedByLines, SameTables}
 use Rattle.plan_program.proofs.Sound.{next-line-some, first-line, later-line, opened-table, sound-line}

@@ -11,7 +11,7 @@ use Rattle.bench.specs.declared.Outcome.the-variants as outcome
 use Rattle.bench_by_value.specs.ByValue.{Rows}
 use Rattle.plan_line.specs.Words.{gap}
 use Rattle.plan_line.specs.Plan.{lineOf, openingOf}
-use Rattle.plan_text.specs.Text.{PutAt}
+use Rattle.plan_text.specs.Text.{nextLine, PutAt}
 use Rattle.plan_text.specs.declared.Written.{Written}
 use Rattle.plan_text.specs.declared.Written.the-variants.{Bytes, Refused}
 use Rattle.plan_run.specs.declared.Act.{Act}
@@ -22,7 +22,7 @@ use Rattle.plan_program.specs.declared.Plan.{Plan}
 use Rattle.plan_program.specs.declared.Part.{Part}
 use Rattle.plan_program.specs.declared.Going.{Going}
 use Rattle.plan_program.specs.declared.Ahead.{Ahead}
-use Rattle.plan_program.specs.Program.{Run, nextLine, isRefused, textOf}
+use Rattle.plan_program.specs.Program.{Run, isRefused, textOf}
 use Rattle.plan_program.specs.Calls.{bytesIn, partIn, partOf}
 
 -- ---- a line in parts

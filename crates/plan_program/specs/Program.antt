@@ -2,7 +2,7 @@
 use Prim.Native.Nat.{ℕ, _+_}
 use mathlib.Core.Bool.{Bool, true, false, cond}
 use mathlib.Core.List.{List, [], _∷_, _++_}
-use lib.Dec.{eqb, ltb}
+use lib.Dec.{eqb}
 use lib.ListN.{length}
 use Rattle.refusal.specs.Causes.{numberOf}
 use Rattle.bench.specs.declared.Outcome.{Outcome}
@@ -10,7 +10,7 @@ use Rattle.bench.specs.declared.Outcome.the-variants as outcome
 use Rattle.bench_by_value.specs.declared.Ran.{Ran}
 use Rattle.bench_by_value.specs.ByValue.{Rows}
 use Rattle.plan_line.specs.Words.{parted}
-use Rattle.plan_text.specs.Text.{slotText, refusalText}
+use Rattle.plan_text.specs.Text.{nextLine, slotText, refusalText}
 use Rattle.plan_run.specs.declared.Opened.{Opened}
 use Rattle.plan_run.specs.Run.{noRows, openedOf, ranOf}
 use Rattle.plan_program.specs.declared.Plan.{Plan}
@@ -20,10 +20,6 @@ use Rattle.plan_program.specs.declared.Plan.{Plan}
 -- A plan before line one: no line was run and none refused; there is no node.
 abbrev pub noPlan : Plan
 noPlan = record { lines = 0; n = 0; rows = noRows; over = false; outcome = outcome.Quiet }
-
--- "lines counted from 1": the number of the next line. The count stops at the last number of 64 bits; `exact` (proofs/Pieces) says that it is exact before.
-unfoldable pub nextLine : ℕ → ℕ
-nextLine lines = cond (ltb lines 18446744073709551615) (lines + 1) lines
 
 abbrev pub isRefused : Outcome → Bool
 isRefused outcome.Quiet = false

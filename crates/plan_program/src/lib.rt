@@ -16,7 +16,7 @@ ghost use lib.ListN.{length, take};
 ghost use Rattle.bench.specs.Table.{tableSound};
 ghost use Rattle.bench_by_value.specs.ByValue.{tableOf};
 ghost use Rattle.plan_text.specs.Text.{PutAt};
-ghost use Rattle.plan_program.specs.Program.{endText, isRefused, mayEnd, nextLine, noPlan, textOf};
+ghost use Rattle.plan_program.specs.Program.{endText, isRefused, mayEnd, noPlan, textOf};
 ghost use Rattle.plan_program.specs.Calls.{bytesIn, fedAs, fedOf, finishedOf, partIn, partOf, planSound, printedIn, runPiece};
 ghost use Rattle.plan_program.specs.Inner.{actIn, afterIn, begunOf, cameOf, endOf, linesAfter, outcomeAfter, overAfter, rowsFor, sizeAfter, sizeOf, sought, withLine, Goes, Told};
 
@@ -91,13 +91,6 @@ fn longer(part: Part, bytes: &[u8]) -> Part
     Part { length, text }
 }
 
-// The number of the next line.
-fn next_line(lines: u64) -> u64
-    ensures { λ r. ⌜ r ≡ nextLine lines ⌝ }
-{
-    if lines < u64::MAX { lines + 1 } else { lines }
-}
-
 // Nothing of the next line.
 pub fn no_part() -> Part
     ensures { λ r. ⌜ r ≡ partOf [] ⌝ }
@@ -165,7 +158,7 @@ fn lines_after(lines: u64, over: bool) -> u64
     if over {
         return lines;
     }
-    next_line(lines)
+    plan_text::next_line(lines)
 }
 
 // Whether the run is over after the line.
@@ -472,7 +465,7 @@ fn put_end(out: &mut [u8], at: usize, plan: Plan, part: Part) -> usize
     put(
         out,
         at,
-        next_line(plan.lines),
+        plan_text::next_line(plan.lines),
         Outcome::Refused(Refusal::PlanLine),
     )
 }

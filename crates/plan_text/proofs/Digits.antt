@@ -1,6 +1,6 @@
--- How many digits a number takes, and how long the parts of a line are.
+-- How many digits a number takes, how long the parts of a line are, and that line numbers are exact for 2 ^ 64 lines.
 -- Assumes nothing.
-use Prim.Native.Nat.{ℕ, zero, suc, _/_, _%_, _≤_, _<_}
+use Prim.Native.Nat.{ℕ, zero, suc, _+_, _/_, _%_, _≤_, _<_}
 use mathlib.Core.Path.{_≡_, refl, ap, _∙_}
 use mathlib.Core.Bool.{Bool, true, false, cond}
 use mathlib.Core.List.{[], _∷_}
@@ -8,7 +8,7 @@ use native.Mathlib.Omega.{arith}
 use lib.ListN.{length, length-append}
 use lib.Dec.{ltb}
 use borrow.Author.Tests.{lt-ltb, le-ltb}
-use Rattle.plan_text.specs.Text.{decimal, digits, fateText, glyph, numberThen, places, shownText}
+use Rattle.plan_text.specs.Text.{decimal, digits, fateText, glyph, nextLine, numberThen, places, refusalText, shownText}
 use Rattle.bench.specs.declared.Fate.{Fate}
 use Rattle.bench.specs.declared.Fate.the-variants.{Silent, Lost, Knock, Sent}
 use Rattle.bench.specs.declared.Listed.{Listed}
@@ -70,3 +70,11 @@ fate-short Sent = omega arith
 pub shown-short : (shown : Listed) → length (shownText shown) ≤ 9
 shown-short (Set set) = omega (arith, length-append (digits 16 8 set) (32 ∷ []), length-digits 16 8 set)
 shown-short Nobody = omega arith
+
+pub refusal-short : (line cause : ℕ) → length (refusalText line cause) ≤ 80
+unfolding refusalText
+refusal-short line cause = simp length-append (omega (arith, decimal-short line, decimal-short cause))
+
+pub exact : (lines : ℕ) → lines + 1 < 18446744073709551616 → nextLine lines ≡ lines + 1
+unfolding nextLine
+exact lines h = simp (lt-ltb lines 18446744073709551615 (omega arith))

@@ -66,6 +66,10 @@ lineWord = bytes "line "
 abbrev pub refusalWord : List ℕ
 refusalWord = bytes "refusal "
 
+-- "lines counted from 1": the number of the next line. The count stops at the last number of 64 bits; `exact` (proofs/Digits) says that it is exact before.
+unfoldable pub nextLine : ℕ → ℕ
+nextLine lines = cond (ltb lines 18446744073709551615) (lines + 1) lines
+
 -- "A refused line prints `line L refusal N`"
 unfoldable pub refusalText : ℕ → ℕ → List ℕ
 refusalText line cause = lineWord ++ numberThen 32 line ++ refusalWord ++ numberThen 10 cause

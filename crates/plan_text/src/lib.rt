@@ -7,7 +7,7 @@ ghost use mathlib.Core.Path.{_≡_};
 ghost use Prim.Native.Nat.{_+_, _≤_, _<_};
 ghost use lib.Dec.{leb};
 ghost use lib.ListN.{length};
-ghost use Rattle.plan_text.specs.Text.{digits, fateText, glyph, numberThen, pasted, places, refusalText, shownText, slotText, writtenOf, PutAt};
+ghost use Rattle.plan_text.specs.Text.{digits, fateText, glyph, nextLine, numberThen, pasted, places, refusalText, shownText, slotText, writtenOf, PutAt};
 
 // What came of writing: the number of bytes, or why none was written.
 pub enum Written {
@@ -71,7 +71,7 @@ fn put_hex(out: &mut [u8], at: usize, set: u32)
 }
 
 // Puts a word.
-fn put_word(out: &mut [u8], at: usize, word: &[u8]) -> usize
+pub fn put_word(out: &mut [u8], at: usize, word: &[u8]) -> usize
     requires { ⌜ at + length (now word) ≤ length (now out) ⌝ }
     ensures { λ r. ⌜ PutAt r at (now (word .entry)) (now (out .entry)) (now (out .exit)) ⌝ }
 {
@@ -81,6 +81,13 @@ fn put_word(out: &mut [u8], at: usize, word: &[u8]) -> usize
         i += 1;
     }
     at + i
+}
+
+// The number of the next line.
+pub fn next_line(lines: u64) -> u64
+    ensures { λ r. ⌜ r ≡ nextLine lines ⌝ }
+{
+    if lines < u64::MAX { lines + 1 } else { lines }
 }
 
 // Puts a number and the byte after it.

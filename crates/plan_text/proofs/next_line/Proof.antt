@@ -1,10 +1,10 @@
--- `plan_program::next_line` meets its contract. Assumes nothing.
+-- `plan_text::next_line` meets its contract. Assumes nothing.
 use borrow.Author.Needs.{needs}
 use borrow.Author.Tests.{lt-ltb, le-ltb}
 use native.Mathlib.Omega.{arith}
-use Rattle.plan_program.specs.Program.{nextLine}
-use Rattle.plan_program.proofs.next_line.Statement.{statement}
-use Rattle.plan_program.proofs.next_line.Tie as tie
+use Rattle.plan_text.specs.Text.{nextLine}
+use Rattle.plan_text.proofs.next_line.Statement.{statement}
+use Rattle.plan_text.proofs.next_line.Tie as tie
 
 add-result : tie.Need-add-result
 add-result c = search needs
