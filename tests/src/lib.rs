@@ -12,6 +12,7 @@ pub mod model;
 pub mod numbers;
 pub mod plan;
 pub mod power_cut;
+pub mod printed;
 pub mod random;
 pub mod record_bytes;
 pub mod records;

@@ -10,6 +10,7 @@ pub mod node;
 pub mod pieces;
 pub mod program;
 pub mod recorded;
+pub mod recorded_text;
 pub mod refusal;
 pub mod ring;
 pub mod roll;

@@ -32,7 +32,7 @@ fn run_lines(input: &[u8], out: &mut Vec<u8>) -> Result<(), (u64, u32)> {
 }
 
 /// The line without its line feed. One that is too long or has none is refused.
-fn whole(line: &[u8]) -> Result<&[u8], u32> {
+pub fn whole(line: &[u8]) -> Result<&[u8], u32> {
     match line.strip_suffix(b"\n") {
         Some(line) if line.len() <= LONGEST => Ok(line),
         _ => Err(refusal::LINE),
@@ -100,7 +100,7 @@ fn parted(line: &[u8]) -> (&[u8], Option<&[u8]>) {
 
 /// "Decimal, no leading zeros": a number of any length, here the largest u32 for all that are too large
 /// for one.
-fn number(digits: &[u8]) -> Result<u32, u32> {
+pub fn number(digits: &[u8]) -> Result<u32, u32> {
     let leading_zero = digits.len() > 1 && digits[0] == b'0';
     if digits.is_empty() || leading_zero || !digits.iter().all(u8::is_ascii_digit) {
         return Err(refusal::LINE);

@@ -1,7 +1,8 @@
 //! Plans with what they print, typed from document 01 and requests e, f and g or worked out by hand; and the sample
 //! plans.
 
-use super::compare::{compare_with, repository};
+use super::compare::compare_with;
+use comparison::printed::repository;
 use comparison::report::Count;
 use std::fs;
 

@@ -1,0 +1,46 @@
+//! One run of the program for each text and form, its whole output beside the expected one.
+
+use comparison::model::recorded_text::{run, Form};
+use comparison::printed::{see, Program};
+use comparison::report::Count;
+
+pub const FORMS: [Form; 2] = [Form::Three, Form::Two];
+
+fn program(form: Form) -> Program {
+    let arguments: &[&str] = match form {
+        Form::Three => &["three"],
+        Form::Two => &["two"],
+    };
+    Program { name: "convert_main", arguments }
+}
+
+/// The program prints what the model says.
+pub fn compare(count: &mut Count, form: Form, text: &[u8]) -> Result<(), String> {
+    compare_in_pieces(count, form, text, usize::MAX)
+}
+
+/// The same, with the text sent in pieces of this many bytes.
+pub fn compare_in_pieces(count: &mut Count, form: Form, text: &[u8], piece: usize) -> Result<(), String> {
+    let expected = run(form, text);
+    note(count, &expected);
+    program(form).prints(count, text, &expected, piece)
+}
+
+/// Model and program print this.
+pub fn compare_with(count: &mut Count, form: Form, text: &[u8], expected: &[u8]) -> Result<(), String> {
+    note(count, expected);
+    see(count, "the model", text, &run(form, text), expected)?;
+    program(form).prints(count, text, expected, usize::MAX)
+}
+
+/// Notes the answer of each line, by the expected output.
+fn note(count: &mut Count, expected: &[u8]) {
+    for line in expected.split_inclusive(|&byte| byte == b'\n') {
+        let line = std::str::from_utf8(line).expect("the output is text");
+        let words: Vec<&str> = line.trim_end().split(' ').collect();
+        match words[..] {
+            ["line", _, "refusal", number] => count.expected(number.parse().expect("a number")),
+            _ => count.expected(0),
+        }
+    }
+}
