@@ -1,6 +1,6 @@
 -- The law of pieces: the texts of the pieces and of the end, one after the other, are what is printed of the whole text, however it is cut.
 -- Assumes nothing.
-use Prim.Native.Nat.{ℕ, suc, _+_, _*_, _≤_, _<_}
+use Prim.Native.Nat.{ℕ, _+_, _*_, _≤_, _<_}
 use mathlib.Core.Path.{_≡_, refl, sym, ap, _∙_}
 use mathlib.Core.Bool.{Bool, true, false, cond}
 use mathlib.Core.List.{List, [], _∷_, _++_, append-assoc, append-nil}
@@ -10,16 +10,17 @@ use native.Mathlib.Decide.{decLe, decLt}
 use lib.Dec.{eqb}
 use lib.ListN.{length, take, drop, set, length-append, length-set}
 use lib.Seq.{take-all, take-at, take-suc-set, length-take-le, take-append-le}
-use borrow.Author.Tests.{eqb-true, eqb-false, le-leb, lt-leb, lt-ltb, le-ltb, ne-eqb}
+use borrow.Author.Tests.{eqb-true, eqb-false, le-leb, lt-leb, lt-ltb, le-ltb}
 use Rattle.refusal.specs.declared.Refusal.the-variants.{OutputShort}
 use Rattle.plan_line.specs.Words.{longer, parted}
 use Rattle.plan_line.proofs.Lists.{from-place, part-at}
-use Rattle.plan_text.specs.Text.{nextLine, pasted, refusalText, writtenOf}
+use Rattle.plan_text.specs.Text.{inputOf, nextLine, pasted, refusalText, writtenOf, Piece}
+use Rattle.plan_text.proofs.Paste.{empty-take}
 use Rattle.plan_text.specs.declared.Written.the-variants.{Bytes, Refused}
 use Rattle.converter_text.specs.declared.Direction.{Direction}
 use Rattle.converter_text.specs.declared.Recording.{Recording}
 use Rattle.converter_text.specs.Recorded.{converted, lineText, linesText, unendedText}
-use Rattle.converter_text.specs.Calls.{after, afterByte, byteText, bytesIn, endText, fedOf, inputOf, lineEnded, startOf, textOf, textsFed, withByte, Piece, PiecesConverted, Roomy}
+use Rattle.converter_text.specs.Calls.{after, afterByte, byteText, bytesIn, endText, fedOf, lineEnded, startOf, textOf, textsFed, withByte, PiecesConverted, Roomy}
 use Rattle.converter_text.proofs.Lines.{after-append, an-end, no-end, text-append, too-long, unreadable}
 
 -- ---- what the calls write
@@ -59,10 +60,6 @@ enough d L line = go (decLt 120 (length line))
         let cut : 120 < length (take 121 line) = omega (arith, length-take-le 121 line (omega arith)) in
         unreadable d L (take 121 line) (too-long (take 121 line) cut) ∙ sym (unreadable d L line (too-long line h))
     go (no h) = ap (lineText d L) (take-all 121 line (omega arith))
-
-empty-take : (n : ℕ) (l : List ℕ) → eqb (length (take (suc n) l)) 0 ≡ eqb (length l) 0
-empty-take n [] = refl
-empty-take n (b ∷ l) = ne-eqb (suc (length (take n l))) 0 (λ e. omega arith) ∙ sym (ne-eqb (suc (length l)) 0 (λ e. omega arith))
 
 end-enough : (L : ℕ) (rest : List ℕ) → unendedText L (take 121 rest) ≡ unendedText L rest
 unfolding unendedText
@@ -150,7 +147,7 @@ begun-none d lines [] = refl
 begun-none d lines (part ∷ parts) = refl
 
 -- a line with a line feed, and the parts after it, of which there is one at least
-next-lines : (d : Direction) (lines : ℕ) (line rest : List ℕ) → linesText d lines (line ∷ parted 10 rest) ≡ lineText d (nextLine lines) line ++ linesText d (nextLine lines) (parted 10 rest)
+pub next-lines : (d : Direction) (lines : ℕ) (line rest : List ℕ) → linesText d lines (line ∷ parted 10 rest) ≡ lineText d (nextLine lines) line ++ linesText d (nextLine lines) (parted 10 rest)
 unfolding linesText
 next-lines d lines line rest = go (parted 10 rest) (sym (from-place 10 rest 0 (omega arith)) ∙ part-at 10 rest 0 _ (omega arith) refl)
   where

@@ -6,7 +6,7 @@ use mathlib.Core.List.{List, [], _∷_, _++_}
 use lib.Dec.{eqb, ltb, leb}
 use lib.ListN.{length, take, replicate, set}
 use Rattle.refusal.specs.Causes.{cause}
-use Rattle.plan_text.specs.Text.{nextLine, pasted, writtenOf}
+use Rattle.plan_text.specs.Text.{inputOf, nextLine, pasted, writtenIn, writtenOf, Piece}
 use Rattle.plan_text.specs.declared.Written.{Written}
 use Rattle.plan_text.specs.declared.Written.the-variants.{Bytes, Refused}
 use Rattle.converter_text.specs.declared.Direction.{Direction}
@@ -81,27 +81,12 @@ finishedOf r out = writtenOf (endText r) 0 out
 
 -- ---- the law: a text may come in any pieces
 
--- A piece of a text, and the bytes that are lent for what is printed of it.
-pub record Piece : Type 0 where
-  pub input : List ℕ
-  pub out : List ℕ
-
--- The bytes that a call wrote.
-abbrev pub writtenIn : Written → List ℕ → List ℕ
-writtenIn (Bytes count) out = take count out
-writtenIn (Refused cause) out = []
-
 -- Each piece is fed with what the call before it left; then the input ends. What the calls write, one after the other:
 unfoldable pub textsFed : Recording → List Piece → List ℕ → List ℕ
 textsFed r [] last = let w = finishedOf r last in writtenIn (w .0) (w .1)
 textsFed r (c ∷ more) last =
     let f = fedOf r (c .input) (c .out) in
     writtenIn (f .written) (f .out) ++ textsFed (f .recording) more last
-
--- The whole text: what is put in, one piece after the other.
-abbrev pub inputOf : List Piece → List ℕ
-inputOf [] = []
-inputOf (c ∷ more) = c .input ++ inputOf more
 
 -- There is room for what is printed of each piece, and of the end.
 abbrev pub Roomy : List Piece → List ℕ → Type 0

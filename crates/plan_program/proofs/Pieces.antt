@@ -9,18 +9,18 @@ use native.Mathlib.Omega.{arith}
 use lib.Dec.{eqb}
 use lib.ListN.{length, take, drop, replicate}
 use lib.Seq.{take-at, take-take}
-use borrow.Author.Tests.{ne-eqb, le-leb}
+use borrow.Author.Tests.{le-leb}
 use Rattle.refusal.specs.declared.Refusal.the-variants.{Unsound, OutputShort}
 use Rattle.plan_line.specs.Words.{parted}
-use Rattle.plan_text.specs.Text.{nextLine, PutAt, pasted, refusalText, writtenOf}
+use Rattle.plan_text.specs.Text.{inputOf, nextLine, PutAt, pasted, refusalText, writtenOf, Piece}
 use Rattle.plan_text.specs.declared.Written.{Written}
 use Rattle.plan_text.specs.declared.Written.the-variants.{Bytes}
-use Rattle.plan_text.proofs.Paste.{both}
+use Rattle.plan_text.proofs.Paste.{both, empty-take}
 use Rattle.plan_program.specs.declared.Plan.{Plan}
 use Rattle.plan_program.specs.declared.Part.{Part}
 use Rattle.plan_program.specs.declared.Ahead.{Ahead}
 use Rattle.plan_program.specs.Program.{afterLine, endText, lineText, linesIn, mayEnd, noPlan, printed, quiet, runOf, textThen, wholeText, Run}
-use Rattle.plan_program.specs.Calls.{begunWith, bytesIn, fedAs, fedBy, fedOf, finishedOf, hasRoom, inputOf, laid, partOf, planSound, printedIn, runPiece, textsFed, unfed, Piece, PiecesPrint, Roomy}
+use Rattle.plan_program.specs.Calls.{begunWith, bytesIn, fedAs, fedBy, fedOf, finishedOf, hasRoom, laid, partOf, planSound, printedIn, runPiece, textsFed, unfed, PiecesPrint, Roomy}
 use Rattle.plan_program.specs.Inner.{Goes}
 use Rattle.plan_program.proofs.Chunks.{begun-none, chunks, parts-some}
 use Rattle.plan_program.proofs.Lines.{enough, part-bytes}
@@ -35,10 +35,6 @@ end-none p rest e = ap (λ (b : Bool). cond b [] (refusalText (nextLine (p .line
 pub end-some : (p : Plan) (rest : List ℕ) → mayEnd p rest ≡ false → endText p rest ≡ refusalText (nextLine (p .lines)) 12
 unfolding endText
 end-some p rest e = ap (λ (b : Bool). cond b [] (refusalText (nextLine (p .lines)) 12)) e
-
-empty-take : (n : ℕ) (l : List ℕ) → eqb (length (take (suc n) l)) 0 ≡ eqb (length l) 0
-empty-take n [] = refl
-empty-take n (b ∷ l) = ne-eqb (suc (length (take n l))) 0 (λ e. omega arith) ∙ sym (ne-eqb (suc (length l)) 0 (λ e. omega arith))
 
 pub end-enough : (p : Plan) (rest : List ℕ) → endText p (take 121 rest) ≡ endText p rest
 unfolding endText

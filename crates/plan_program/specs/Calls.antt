@@ -9,7 +9,7 @@ use Rattle.refusal.specs.declared.Refusal.{Refusal}
 use Rattle.refusal.specs.Causes.{cause}
 use Rattle.bench.specs.Table.{tableSound}
 use Rattle.bench_by_value.specs.ByValue.{tableOf}
-use Rattle.plan_text.specs.Text.{writtenOf}
+use Rattle.plan_text.specs.Text.{inputOf, writtenIn, writtenOf, Piece}
 use Rattle.plan_text.specs.declared.Written.{Written}
 use Rattle.plan_text.specs.declared.Written.the-variants.{Bytes, Refused}
 use Rattle.plan_program.specs.declared.Plan.{Plan}
@@ -95,27 +95,12 @@ finishedOf p begun out = writtenOf (endText p begun) 0 out
 
 -- ---- the law: a text may come in any pieces
 
--- A piece of a text, and the bytes that are lent for what is printed of it.
-pub record Piece : Type 0 where
-  pub input : List ℕ
-  pub out : List ℕ
-
--- The bytes that a call wrote.
-abbrev pub writtenIn : Written → List ℕ → List ℕ
-writtenIn (Bytes count) out = take count out
-writtenIn (Refused cause) out = []
-
 -- Each piece is fed with what the call before it left; then the input ends. What the calls write, one after the other:
 unfoldable pub textsFed : Plan → Part → List Piece → List ℕ → List ℕ
 textsFed p part [] last = let w = finishedOf p (bytesIn part) last in writtenIn (w .0) (w .1)
 textsFed p part (c ∷ more) last =
     let f = fedOf p part (c .input) (c .out) in
     writtenIn (f .written) (f .out) ++ textsFed (f .plan) (f .part) more last
-
--- The whole text: what is put in, one piece after the other.
-abbrev pub inputOf : List Piece → List ℕ
-inputOf [] = []
-inputOf (c ∷ more) = c .input ++ inputOf more
 
 -- There is room for what is printed of each piece, and of the end.
 abbrev pub Roomy : List Piece → List ℕ → Type 0

@@ -1,4 +1,4 @@
--- Texts put one after the other are put as one text; what a turn of a loop that puts bytes leaves.
+-- Texts put one after the other are put as one text; what a turn of a loop that puts bytes leaves; what is kept of a line.
 -- Assumes nothing.
 use Prim.Native.Nat.{ℕ, suc, _+_, _-_, _/_, _%_, _≤_, _<_}
 use mathlib.Core.Path.{_≡_, refl, sym, ap, _∙_}
@@ -6,12 +6,13 @@ use mathlib.Core.List.{List, [], _∷_, _++_, append-assoc}
 use native.Mathlib.Omega.{arith}
 use native.Mathlib.Numerals.{add-one}
 use native.Mathlib.Nat.{add-zero, add-suc}
+use lib.Dec.{eqb}
 use lib.ListN.{length, take, drop, getD, set, length-append, take-append-drop}
 use lib.Seq.{length-take-le, lt-length-set, take-at, drop-at, drop-cons, drop-drop, drop-set-lt, take-set-le, getD-set-same, set-split, paste, paste-suc}
 use Rattle.plan_text.proofs.Digits.{length-digits}
 use Rattle.plan_text.specs.Text.{PutAt, digits, glyph, pasted, writtenOf}
 use Rattle.plan_text.specs.declared.Written.the-variants.{Bytes}
-use borrow.Author.Tests.{le-leb}
+use borrow.Author.Tests.{le-leb, ne-eqb}
 
 -- ---- one text
 
@@ -149,3 +150,10 @@ filling-end base out at i rest e =
 pub filled : (base : ℕ) (out : List ℕ) (at count x : ℕ) → filling base out at count x ≡ pasted out at (digits base count x)
 unfolding filling pasted
 filled base out at count x = ap (λ (n : ℕ). take at out ++ (digits base count x ++ drop (at + n) out)) (sym (length-digits base count x))
+
+-- ---- a text that comes in pieces
+
+-- as much of a line as is kept is empty where the line is
+pub empty-take : (n : ℕ) (l : List ℕ) → eqb (length (take (suc n) l)) 0 ≡ eqb (length l) 0
+empty-take n [] = refl
+empty-take n (b ∷ l) = ne-eqb (suc (length (take n l))) 0 (λ e. omega arith) ∙ sym (ne-eqb (suc (length l)) 0 (λ e. omega arith))

@@ -89,3 +89,20 @@ pub record PutAt (next at : ℕ) (text before after : List ℕ) : Type 0 where
 -- hold every line. It leaves "every byte" as it was.
 unfoldable pub writtenOf : List ℕ → ℕ → List ℕ → Written × List ℕ
 writtenOf text at out = cond (leb (at + 80) (length out)) (Bytes (length text), pasted out at text) (Refused (cause 9), out)
+
+-- ---- a text that comes in pieces
+
+-- A piece of a text, and the bytes that are lent for what is printed of it.
+pub record Piece : Type 0 where
+  pub input : List ℕ
+  pub out : List ℕ
+
+-- The whole text: what is put in, one piece after the other.
+abbrev pub inputOf : List Piece → List ℕ
+inputOf [] = []
+inputOf (c ∷ more) = c .input ++ inputOf more
+
+-- The bytes that a call wrote.
+abbrev pub writtenIn : Written → List ℕ → List ℕ
+writtenIn (Bytes count) out = take count out
+writtenIn (Refused cause) out = []
