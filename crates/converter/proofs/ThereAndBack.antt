@@ -31,7 +31,7 @@ record Form (read : Reader) (made : ℕ → ℕ → Bool → List ℕ) (size : �
   reads : (k a : ℕ) (b : Bool) → InRange k 0 a 0 → read k (made k a b) ≡ heard a b 0
   is : (k a : ℕ) (b : Bool) (bytes : List ℕ) → AreBytes bytes → read k bytes ≡ heard a b 0 → bytes ≡ made k a b
 
-abbrev madeThree : ℕ → ℕ → Bool → List ℕ
+abbrev pub madeThree : ℕ → ℕ → Bool → List ℕ
 madeThree k a b = messageOf k 0 a b 0
 
 form-two : Form readTwoOf twoSections (λ k. lengthTwo k)
@@ -53,17 +53,17 @@ form-three = record {
 -- ---- a conversion from what is read to those bytes
 
 -- what was heard where bytes were written
-record Heard (read : Reader) (made : ℕ → ℕ → Bool → List ℕ) (size : ℕ → ℕ) (k : ℕ) (bytes out : List ℕ) (count : ℕ) (after : List ℕ) : Type 0 where
-  a : ℕ
-  b : Bool
-  said : read k bytes ≡ heard a b 0
-  told : size k ≡ count
-  left : made k a b ++ drop (size k) out ≡ after
+pub record Heard (read : Reader) (made : ℕ → ℕ → Bool → List ℕ) (size : ℕ → ℕ) (k : ℕ) (bytes out : List ℕ) (count : ℕ) (after : List ℕ) : Type 0 where
+  pub a : ℕ
+  pub b : Bool
+  pub said : read k bytes ≡ heard a b 0
+  pub told : size k ≡ count
+  pub left : made k a b ++ drop (size k) out ≡ after
 
-record Turns (read : Reader) (made : ℕ → ℕ → Bool → List ℕ) (size : ℕ → ℕ) (turn : Conversion) : Type 0 where
-  gives : (k : ℕ) (bytes out : List ℕ) (count : ℕ) (after : List ℕ) → turn k bytes out ≡ (wrote count, after) → Heard read made size k bytes out count after
-  takes : (k a : ℕ) (b : Bool) (bytes out : List ℕ) → read k bytes ≡ heard a b 0 → size k ≤ length out → turn k bytes out ≡ (wrote (size k), made k a b ++ drop (size k) out)
-  leaves : (k : ℕ) (bytes out : List ℕ) → Leaves out (turn k bytes out .0) (turn k bytes out .1)
+pub record Turns (read : Reader) (made : ℕ → ℕ → Bool → List ℕ) (size : ℕ → ℕ) (turn : Conversion) : Type 0 where
+  pub gives : (k : ℕ) (bytes out : List ℕ) (count : ℕ) (after : List ℕ) → turn k bytes out ≡ (wrote count, after) → Heard read made size k bytes out count after
+  pub takes : (k a : ℕ) (b : Bool) (bytes out : List ℕ) → read k bytes ≡ heard a b 0 → size k ≤ length out → turn k bytes out ≡ (wrote (size k), made k a b ++ drop (size k) out)
+  pub leaves : (k : ℕ) (bytes out : List ℕ) → Leaves out (turn k bytes out .0) (turn k bytes out .1)
 
 -- ---- there and back
 
@@ -140,7 +140,7 @@ three-leaves k a b out =
     leaves-if (leb (lengthOf k) (length out)) 9 out _ (λ t.
     leaves-made (messageOf k 0 a b 0) out (lengthOf k) (length-message k 0 a b 0) (leb-true (lengthOf k) (length out) t))))
 
-turns-three : Turns readTwoOf madeThree (λ k. lengthOf k) toThreeOf
+pub turns-three : Turns readTwoOf madeThree (λ k. lengthOf k) toThreeOf
 unfolding toThreeOf
 turns-three = record { gives = gives; takes = takes; leaves = λ k bytes out. leaves-on (readTwoOf k bytes .reading) out _ (λ a b. three-leaves k a b out) }
   where
@@ -181,7 +181,7 @@ put-two k a b out count after e =
 any-none : (k : ℕ) (bytes : List ℕ) → jobCountIn bytes ≡ 0 → readAnyOf k bytes ≡ readOf k 0 bytes
 any-none k bytes none = sym (any-few k bytes (ap jobCount none)) ∙ ap (λ (m : ℕ). readOf k m bytes) none
 
-turns-two : Turns readThree twoSections (λ k. lengthTwo k) toTwoOf
+pub turns-two : Turns readThree twoSections (λ k. lengthTwo k) toTwoOf
 unfolding toTwoOf
 turns-two = record {
   gives = gives;

@@ -3,3 +3,4 @@ pub mod Hex
 pub mod Turned
 pub mod Lines
 pub mod Pieces
+pub mod Returns

@@ -1,3 +1,4 @@
 pub mod Recorded
 pub mod Calls
+pub mod Returns
 pub mod Inner

@@ -162,7 +162,7 @@ heard-range k m a b j bytes e =
     let p = passed-all k m a b j bytes e in
     record { low = p .low; high = p .high; few = p .few; within = rw (sym (p .one)) (p .clear-one); counted = rw (sym (p .three)) (p .clear-three) }
 
-bytes-take : (n : ℕ) (l : List ℕ) → AreBytes l → AreBytes (take n l)
+pub bytes-take : (n : ℕ) (l : List ℕ) → AreBytes l → AreBytes (take n l)
 bytes-take n l h i below =
     let short = length-take n l in
     let near : i < n = omega (arith, min-le-left n (length l)) in

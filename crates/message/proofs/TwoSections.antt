@@ -72,7 +72,7 @@ pub read-two-written : (k a : ℕ) (b : Bool) → InRange k 0 a 0 → readTwoOf 
 unfolding messageOf
 read-two-written k a b r = with-none k (twoSections k a b) ∙ read-written k 0 a b 0 (r .low) (r .high) (r .few) (r .within) (r .counted)
 
-bytes-none : (bytes : List ℕ) → AreBytes bytes → AreBytes (bytes ++ none)
+pub bytes-none : (bytes : List ℕ) → AreBytes bytes → AreBytes (bytes ++ none)
 unfolding bytesOf
 bytes-none [] h zero below = omega arith
 bytes-none [] h (suc zero) below = omega arith
