@@ -44,7 +44,9 @@ use Rattle.plan_text.specs.declared.Written as text
 use Rattle.plan_program.specs.declared.Plan.{Plan}
 use Rattle.plan_program.specs.declared.Part.{Part}
 use Rattle.plan_program.specs.Calls.{fedOf, finishedOf, hasRoom, planSound, printedIn}
-use Rattle.demands.specs.Demand1.{Demand1, EndsBy, FeedsBy, PrintsBy, RunsBy, StepsBy, CountsBy, WritesBy, isAmong, numbersFor, ofLookup, ofReading, ofSpeaker, ofAnswer}
+use Rattle.converter_text.specs.declared.Recording.{Recording}
+use Rattle.converter_text.specs.Calls as recorded
+use Rattle.demands.specs.Demand1.{Demand1, EndsBy, FeedsBy, PrintsBy, RunsBy, StepsBy, ConvertsBy, CountsBy, WritesBy, isAmong, numbersFor, ofLookup, ofReading, ofSpeaker, ofAnswer}
 
 -- ---- a test, in each of the forms that the definitions use: P holds either way
 
@@ -287,6 +289,16 @@ finishes : (p : Plan) (begun out : List ℕ) → Prints out (finishedOf p begun 
 unfolding writtenOf
 finishes p begun out = either (Prints out) (leb (0 + 80) (length out)) (tt, tt) (refl, refl)
 
+-- ---- texts of recorded messages
+
+feeds-recorded : (r : Recording) (input out : List ℕ) → ConvertsBy (9 ∷ []) r out (recorded.fedOf r input out)
+unfolding recorded.fedOf
+feeds-recorded r input out = either (ConvertsBy (9 ∷ []) r out) (leb (80 * length input) (length out)) (tt, tt) (refl, refl)
+
+finishes-recorded : (r : Recording) (out : List ℕ) → Prints out (recorded.finishedOf r out)
+unfolding writtenOf
+finishes-recorded r out = either (Prints out) (leb (0 + 80) (length out)) (tt, tt) (refl, refl)
+
 -- ---- the demand
 
 pub demand1 : Demand1
@@ -312,4 +324,6 @@ demand1 = record {
   print-plan = prints;
   feed = feeds;
   finish = finishes;
+  feed-recorded = feeds-recorded;
+  finish-recorded = finishes-recorded;
 }

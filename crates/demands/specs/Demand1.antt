@@ -1,6 +1,6 @@
 -- Demand 1: every message, plan text, node record and sequence of calls ends in a result or a numbered refusal, and a refusal changes no record and no lent
 -- byte. There is a clause for each call, over the definition that its contract cites and for all numbers, bytes, records, tables, ledgers and plans; so it holds of each
--- call of every sequence, whatever the calls before it left. What is printed of a plan text, its refused line included, is `printed` (plan_program's specs/Program).
+-- call of every sequence, whatever the calls before it left. What is printed of a plan text, its refused line included, is `printed` (plan_program's specs/Program), and of a text of recorded messages `converted` (converter_text's specs/Recorded).
 use Prim.Native.Nat.{ℕ}
 use mathlib.Core.Path.{_≡_}
 use mathlib.Core.Bool.{Bool, true, false, _||_}
@@ -42,6 +42,8 @@ use Rattle.plan_text.specs.declared.Written.the-variants as printed
 use Rattle.plan_program.specs.declared.Plan.{Plan}
 use Rattle.plan_program.specs.declared.Part.{Part}
 use Rattle.plan_program.specs.Calls.{Fed, fedOf, finishedOf, printedIn}
+use Rattle.converter_text.specs.declared.Recording.{Recording}
+use Rattle.converter_text.specs.Calls as recorded
 
 -- ---- how a call ends
 
@@ -96,7 +98,7 @@ abbrev pub Keeps : {A : Type 0} → Ending → A → A → Type 0
 Keeps result before after = Unit {0}
 Keeps (refusal cause) before after = after ≡ before
 
--- Both: of a call that writes into lent bytes, of one on a record, of one on a record and its counts of failure reports, of one on a table with a ledger, counts and lent bytes, and of those on a plan text.
+-- Both: of a call that writes into lent bytes, of one on a record, of one on a record and its counts of failure reports, of one on a table with a ledger, counts and lent bytes, and of those on a plan text and on a text of recorded messages.
 abbrev pub WritesBy : List ℕ → List ℕ → Written × List ℕ → Type 0
 WritesBy numbers out r = EndsBy numbers (ofWritten (r .0)) × Keeps (ofWritten (r .0)) out (r .1)
 
@@ -115,6 +117,9 @@ PrintsBy numbers out r = EndsBy numbers (ofText (r .0)) × Keeps (ofText (r .0))
 abbrev pub FeedsBy : List ℕ → Plan → Part → List ℕ → Fed → Type 0
 FeedsBy numbers p part out f =
     EndsBy numbers (ofText (f .written)) × Keeps {A = Plan × Part × List ℕ} (ofText (f .written)) (p, part, out) (f .plan, f .part, f .out)
+
+abbrev pub ConvertsBy : List ℕ → Recording → List ℕ → recorded.Fed → Type 0
+ConvertsBy numbers r out f = EndsBy numbers (ofText (f .written)) × Keeps {A = Recording × List ℕ} (ofText (f .written)) (r, out) (f .recording, f .out)
 
 -- By which numbers a call of the bench may be refused, in the order of its tests.
 abbrev pub numbersFor : Command → List ℕ
@@ -156,3 +161,6 @@ pub record Demand1 : Type 0 where
   pub print-plan : (input out : List ℕ) → PrintsBy (9 ∷ []) out (printedIn input out)
   pub feed : (p : Plan) (part : Part) (input out : List ℕ) → FeedsBy (4 ∷ 9 ∷ []) p part out (fedOf p part input out)
   pub finish : (p : Plan) (begun out : List ℕ) → PrintsBy (9 ∷ []) out (finishedOf p begun out)
+  -- texts of recorded messages: a piece of one, and the end
+  pub feed-recorded : (r : Recording) (input out : List ℕ) → ConvertsBy (9 ∷ []) r out (recorded.fedOf r input out)
+  pub finish-recorded : (r : Recording) (out : List ℕ) → PrintsBy (9 ∷ []) out (recorded.finishedOf r out)
