@@ -4,7 +4,7 @@
 
 use crate::model::bench::{self, Call};
 use crate::model::node::{Node, State};
-use crate::model::ring::{members_before, Set};
+use crate::model::ring::{self, Set};
 use crate::random::Random;
 
 /// What goes wrong for a while.
@@ -63,7 +63,7 @@ impl Adversary {
 
     /// A calm time follows each trouble, sometimes one in which a node can return.
     fn change_mood(&mut self, nodes: &[Node]) {
-        let n = u64::from(nodes[0].n);
+        let n = u64::from(nodes[0].chosen.n);
         if let Mood::Calm = self.mood {
             self.mood = self.trouble(nodes);
             let longest = if let Mood::Narrow(_) = self.mood { 5 * n } else { n + 2 };
@@ -80,7 +80,7 @@ impl Adversary {
         let sender = &nodes[bench::next_sender(nodes) as usize - 1];
         if sender.state == State::Following && self.random.below(3) == 0 {
             self.mood = Mood::Knocks;
-            self.lasts = self.random.within(1, u64::from(sender.n));
+            self.lasts = self.random.within(1, u64::from(sender.chosen.n));
         }
     }
 
@@ -93,7 +93,7 @@ impl Adversary {
             7 => Mood::Returning,
             8 => Mood::Cut,
             9 => {
-                let deaf = self.random.some_of(Set::full(nodes[0].n));
+                let deaf = self.random.some_of(Set::full(nodes[0].chosen.n));
                 Mood::Deaf(self.random.some_of(deaf))
             }
             10 => Mood::Narrow(self.pair(bench::list(nodes).unwrap_or(Set::EMPTY))),
@@ -142,7 +142,7 @@ impl Adversary {
         match self.random.below(4) {
             0 => Set::EMPTY.with(bench::next_sender(nodes)),
             1 => those(nodes, |node| !matches!(node.state, State::Out(_) | State::Member)),
-            _ => Set::full(nodes[0].n),
+            _ => Set::full(nodes[0].chosen.n),
         }
     }
 
@@ -188,7 +188,7 @@ impl Adversary {
     /// A knock is lost, or missed by one node, by some, or by the others that follow; while a node
     /// knocks, it or others miss the answers, or these are lost.
     fn knock_trouble(&mut self, nodes: &[Node]) -> Call {
-        let all = Set::full(nodes[0].n);
+        let all = Set::full(nodes[0].chosen.n);
         let sender = &nodes[bench::next_sender(nodes) as usize - 1];
         let knocking = those(nodes, |node| node.state == State::Knocking);
         if sender.state == State::Following {
@@ -229,8 +229,7 @@ fn returns(node: &Node) -> bool {
 
 /// The members that sponsor a node, on the list.
 pub fn sponsors(nodes: &[Node], x: u32) -> Set {
-    let Node { n, k, .. } = nodes[0];
     let list = bench::list(nodes).unwrap_or(Set::EMPTY);
-    let sponsor = |&y: &u32| members_before(n, list, y).take(k as usize).any(|met| met.member == x);
+    let sponsor = |&y: &u32| ring::sponsored(nodes[0].chosen, list, y).any(|met| met.member == x);
     list.nodes().filter(sponsor).fold(Set::EMPTY, Set::with)
 }

@@ -3,6 +3,7 @@
 
 use crate::adversary::{sponsors, those};
 use crate::model::bench::{self, Call, Rules, Slot};
+use crate::model::choices::Choices;
 use crate::model::demand::{Broken, Demand};
 use crate::model::node::{Node, State};
 use crate::model::ring::Set;
@@ -21,9 +22,14 @@ const FINE: Call = Call::Slot { lost: false, missed: Set::EMPTY };
 const LOST: Call = Call::Slot { lost: true, missed: Set::EMPTY };
 
 impl<'a, R: Rules> Run<'a, R> {
-    pub fn new(rules: &'a R, n: u32, k: u32, seed: u64, seldom: u64) -> Run<'a, R> {
-        let nodes = bench::set_up(n, k, 0, n as usize).expect("n and k are in range");
-        Run { rules, nodes, demand: Demand::new(n, k), random: Random::new(seed), seldom }
+    pub fn new(rules: &'a R, chosen: Choices, seed: u64, seldom: u64) -> Run<'a, R> {
+        let nodes = bench::set_up(chosen, chosen.n as usize).expect("the choices are in range");
+        Run { rules, nodes, demand: Demand::new(chosen), random: Random::new(seed), seldom }
+    }
+
+    /// The same, judged in another way.
+    pub fn judged(self, demand: Demand) -> Run<'a, R> {
+        Run { demand, ..self }
     }
 
     /// Makes a call that keeps the premises. If the one that was drawn breaks them, the next slot goes
@@ -68,14 +74,15 @@ impl<'a, R: Rules> Run<'a, R> {
     fn may_lose_one(&mut self) -> bool {
         let leaving = self.demand.undecided().count() + self.silent_soon().count();
         let daring = if self.is_special() { 2 } else { 8 };
-        self.list().count() > self.nodes[0].k + 1 + leaving || self.one_in(daring)
+        self.list().count() > self.demand.least() + leaving || self.one_in(daring)
     }
 
     /// A knock, an answer to one, or the last slot of a window: such slots seldom come, and most of them
     /// are to meet something.
     fn is_special(&self) -> bool {
         let sender = &self.nodes[bench::next_sender(&self.nodes) as usize - 1];
-        let window_ends = |node: &Node| node.state == State::Listening && node.listening.done + 1 == node.n;
+        let window_ends =
+            |node: &Node| node.state == State::Listening && node.listening.done + 1 == node.chosen.n;
         let waits = |node: &Node| node.state == State::Knocking || window_ends(node);
         sender.state == State::Following || self.nodes.iter().any(waits)
     }
@@ -85,7 +92,7 @@ impl<'a, R: Rules> Run<'a, R> {
     }
 
     fn switch(&mut self) -> Option<Call> {
-        let n = u64::from(self.nodes[0].n);
+        let n = u64::from(self.nodes[0].chosen.n);
         if self.one_in(4) {
             let out = those(&self.nodes, |node| matches!(node.state, State::Out(_)));
             return self.random.one_of(out).map(Call::Restart);

@@ -31,18 +31,18 @@ impl Lasting {
             self.quiet -= 1;
             return FINE;
         }
-        let all = Set::full(nodes[0].n);
+        let all = Set::full(nodes[0].chosen.n);
         let members = those(nodes, |node| node.state == State::Member);
         let call = if members == all && list == all { self.trouble(nodes) } else { self.delay(nodes) };
         if call != FINE {
-            self.quiet = nodes[0].n;
+            self.quiet = nodes[0].chosen.n;
         }
         call
     }
 
     /// All nodes are members: a message is lost or missed by one, or a node is switched off.
     fn trouble(&mut self, nodes: &[Node]) -> Call {
-        let n = u64::from(nodes[0].n);
+        let n = u64::from(nodes[0].chosen.n);
         let one = self.random.within(1, n) as u32;
         match self.random.below(4 * n) {
             0 | 1 => LOST,
@@ -56,7 +56,7 @@ impl Lasting {
     fn delay(&mut self, nodes: &[Node]) -> Call {
         let sender = &nodes[bench::next_sender(nodes) as usize - 1];
         let returning = those(nodes, |node| !matches!(node.state, State::Member | State::Out(_)));
-        match self.random.below(16 * u64::from(nodes[0].n)) {
+        match self.random.below(16 * u64::from(nodes[0].chosen.n)) {
             0..=3 => Call::Slot { lost: false, missed: returning },
             draw if draw % 4 == 0 && sender.state == State::Following => LOST,
             _ => FINE,

@@ -1,5 +1,6 @@
 //! The library under test, as safe functions.
 
+use crate::model::choices::Choices;
 use crate::model::message::Said;
 
 mod c {
@@ -30,11 +31,11 @@ mod c {
         ) -> u64;
         pub safe fn ring_sender(n: u32, done: u64) -> u64;
         pub safe fn ring_before(n: u32, set: u32, x: u32, j: u32) -> u64;
-        pub safe fn ring_sponsored(n: u32, k: u32, set: u32, x: u32, j: u32) -> u64;
-        pub safe fn ring_decided(n: u32, k: u32, set: u32, x: u32) -> u64;
+        pub safe fn ring_sponsored(n: u32, k: u32, lag: u32, set: u32, x: u32, j: u32) -> u64;
+        pub safe fn ring_decided(n: u32, k: u32, lag: u32, set: u32, x: u32) -> u64;
         pub safe fn ring_before_back(n: u32, set: u32, x: u32, j: u32) -> u64;
-        pub safe fn ring_sponsored_back(n: u32, k: u32, set: u32, x: u32, j: u32) -> u64;
-        pub safe fn ring_decided_back(n: u32, k: u32, set: u32, x: u32) -> u64;
+        pub safe fn ring_sponsored_back(n: u32, k: u32, lag: u32, set: u32, x: u32, j: u32) -> u64;
+        pub safe fn ring_decided_back(n: u32, k: u32, lag: u32, set: u32, x: u32) -> u64;
     }
 }
 
@@ -52,8 +53,8 @@ unsafe extern "C" {
     pub safe fn nodeset_run(s: u32) -> u32;
     pub safe fn ring_is_ring_size(n: u32) -> bool;
     pub safe fn ring_is_node_number(n: u32, x: u32) -> bool;
-    pub safe fn ring_is_sponsor_count(n: u32, k: u32) -> bool;
-    pub safe fn ring_ks(n: u32, k: u32, c: u32) -> u32;
+    pub safe fn ring_is_sponsor_count(n: u32, k: u32, lag: u32) -> bool;
+    pub safe fn ring_ks(n: u32, k: u32, lag: u32, c: u32) -> u32;
 }
 
 /// What is below this bit if that is the highest bit set. Any other answer is kept whole, so that one
@@ -126,14 +127,17 @@ pub fn before(n: u32, set: u32, x: u32, j: u32) -> Found {
 }
 
 /// The j-th member that node x sponsors.
-pub fn sponsored(n: u32, k: u32, set: u32, x: u32, j: u32) -> Found {
+pub fn sponsored(Choices { n, k, lag, .. }: Choices, set: u32, x: u32, j: u32) -> Found {
     Found {
-        member: answer(c::ring_sponsored(n, k, set, x, j)),
-        back: answer(c::ring_sponsored_back(n, k, set, x, j)),
+        member: answer(c::ring_sponsored(n, k, lag, set, x, j)),
+        back: answer(c::ring_sponsored_back(n, k, lag, set, x, j)),
     }
 }
 
 /// The member that node x decides.
-pub fn decided(n: u32, k: u32, set: u32, x: u32) -> Found {
-    Found { member: answer(c::ring_decided(n, k, set, x)), back: answer(c::ring_decided_back(n, k, set, x)) }
+pub fn decided(Choices { n, k, lag, .. }: Choices, set: u32, x: u32) -> Found {
+    Found {
+        member: answer(c::ring_decided(n, k, lag, set, x)),
+        back: answer(c::ring_decided_back(n, k, lag, set, x)),
+    }
 }

@@ -1,6 +1,7 @@
 //! Plans for the bench program as text, and the table that the model has after their lines.
 
 use crate::model::bench::{self, Call, Document01, Slot};
+use crate::model::choices::Choices;
 use crate::model::node::Node;
 
 /// A plan that no line of is refused, as far as it is written.
@@ -11,7 +12,7 @@ pub struct Plan {
 
 impl Plan {
     pub fn new(n: u32, k: u32) -> Plan {
-        let nodes = bench::set_up(n, k, 0, n as usize).expect("n and k are in range");
+        let nodes = bench::set_up(Choices::plain(n, k), n as usize).expect("n and k are in range");
         Plan { text: format!("{n} {k}\n").into_bytes(), nodes }
     }
 

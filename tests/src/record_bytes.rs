@@ -1,12 +1,13 @@
-//! A record as the programs under test take and give it: 56 bytes, all numbers lowest byte first; and the counts that
+//! A record as the programs under test take and give it: 60 bytes, all numbers lowest byte first; and the counts that
 //! stand beside one.
 
+use crate::model::choices::Choices;
 use crate::model::counts::{Counts, NONE};
 use crate::model::node::{Cause, ListeningData, Node, State};
 use crate::model::ring::Set;
 
 /// The bytes of a record.
-pub const RECORD: usize = 56;
+pub const RECORD: usize = 60;
 
 const CAUSES: [Cause; 4] = [Cause::Unconfirmed, Cause::NothingHeard, Cause::MissedReturn, Cause::SwitchedOff];
 
@@ -35,7 +36,7 @@ fn state_of(number: u8) -> State {
 pub fn record_bytes(record: &Node) -> [u8; RECORD] {
     let mut out = Vec::with_capacity(RECORD);
     let ListeningData { done, heard, shortest, return_seen, last } = record.listening;
-    for number in [record.n, record.k, record.own] {
+    for number in [record.chosen.n, record.chosen.k, record.own] {
         out.extend(number.to_le_bytes());
     }
     out.extend(record.slots.to_le_bytes());
@@ -50,8 +51,10 @@ pub fn record_bytes(record: &Node) -> [u8; RECORD] {
     out.push(u8::from(return_seen));
     out.extend(last.0.to_le_bytes());
     out.push(u8::from(record.yes_heard));
-    out.extend(record.m.to_le_bytes());
-    out.try_into().expect("56 bytes")
+    for number in [record.chosen.m, record.chosen.lag] {
+        out.extend(number.to_le_bytes());
+    }
+    out.try_into().expect("60 bytes")
 }
 
 /// Puts the counts of one node: 32 rows of 8, eight bytes each.
@@ -103,9 +106,9 @@ impl<'a> Reader<'a> {
 
     /// Fields are taken in the order in which they are written here.
     pub fn record(&mut self) -> Node {
-        Node {
-            n: self.u32(),
-            k: self.u32(),
+        let (n, k) = (self.u32(), self.u32());
+        let node = Node {
+            chosen: Choices::plain(n, k),
             own: self.u32(),
             slots: self.u64(),
             state: state_of(self.u8()),
@@ -121,8 +124,8 @@ impl<'a> Reader<'a> {
                 last: Set(self.u32()),
             },
             yes_heard: self.u8() == 1,
-            m: self.u32(),
-        }
+        };
+        Node { chosen: Choices { n, k, m: self.u32(), lag: self.u32() }, ..node }
     }
 }
 
@@ -133,10 +136,11 @@ fn shown_set(set: Set) -> String {
 pub fn shown_record(record: &Node) -> String {
     let data = &record.listening;
     format!(
-        "n {} k {} m {} own {} slots {} {:?} set {} marks {} returning {} return heard {} yes heard {}; done {} heard {} shortest {} return seen {} last {}",
-        record.n,
-        record.k,
-        record.m,
+        "n {} k {} m {} lag {} own {} slots {} {:?} set {} marks {} returning {} return heard {} yes heard {}; done {} heard {} shortest {} return seen {} last {}",
+        record.chosen.n,
+        record.chosen.k,
+        record.chosen.m,
+        record.chosen.lag,
         record.own,
         record.slots,
         record.state,

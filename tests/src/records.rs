@@ -1,6 +1,7 @@
 //! Records as they may be loaded: sound ones that no run need reach, and ones that are not sound in one
 //! clause.
 
+use crate::model::choices::Choices;
 use crate::model::node::{Cause, ListeningData, Node, State, CLAUSES};
 use crate::model::ring::{Set, LIMIT};
 use crate::random::Random;
@@ -74,13 +75,13 @@ fn slots(random: &mut Random, n: u32, own: u32) -> u64 {
     }
 }
 
-fn listening_data(random: &mut Random, n: u32, k: u32, own: u32) -> ListeningData {
+fn listening_data(random: &mut Random, Choices { n, k, .. }: Choices, own: u32) -> ListeningData {
     let others = Set::full(n).without(own);
     let heard = some(random, others);
     let shortest = match random.below(3) {
         _ if heard == Set::EMPTY => k,
-        // Around what a clean window asks.
-        0 => k.min((heard.count() + 1).saturating_sub(random.below(4) as u32)),
+        // Around what a clean window asks, with each lag.
+        0 => k.min((heard.count() + 1).saturating_sub(random.below(5) as u32)),
         1 => k,
         _ => random.below(u64::from(k) + 1) as u32,
     };
@@ -104,18 +105,36 @@ pub fn job_count(random: &mut Random) -> u32 {
     }
 }
 
+/// A lag for n nodes: k is at least 2, and three nodes leave no such k with lag 1.
+pub fn lag(random: &mut Random, n: u32) -> u32 {
+    u32::from(n > 3 && random.bit())
+}
+
+/// Choices for n nodes that set-up takes; k is often the largest.
+pub fn choices_of(random: &mut Random, n: u32) -> Choices {
+    let lag = lag(random, n);
+    let most = n - 1 - lag;
+    let k = if random.below(8) == 0 { most } else { random.within(2, u64::from(most)) as u32 };
+    Choices { n, k, m: job_count(random), lag }
+}
+
+/// The same for any n.
+pub fn choices(random: &mut Random) -> Choices {
+    let n = size(random);
+    choices_of(random, n)
+}
+
 /// A sound record in this state, its slot count below the limit.
 pub fn sound(random: &mut Random, state: State) -> Node {
-    let n = size(random);
-    let k = random.within(2, u64::from(n) - 1) as u32;
-    let m = job_count(random);
-    let own = random.within(1, u64::from(n)) as u32;
-    let slots = slots(random, n, own);
-    sound_of(random, state, (n, k, m, own), slots)
+    let chosen = choices(random);
+    let own = random.within(1, u64::from(chosen.n)) as u32;
+    let slots = slots(random, chosen.n, own);
+    sound_of(random, state, (chosen, own), slots)
 }
 
 /// A sound record of this node, with this slot count.
-pub fn sound_of(random: &mut Random, state: State, (n, k, m, own): (u32, u32, u32, u32), slots: u64) -> Node {
+pub fn sound_of(random: &mut Random, state: State, (chosen, own): (Choices, u32), slots: u64) -> Node {
+    let n = chosen.n;
     let others = Set::full(n).without(own);
     let set = match state {
         State::Member => some(random, others).with(own),
@@ -124,8 +143,7 @@ pub fn sound_of(random: &mut Random, state: State, (n, k, m, own): (u32, u32, u3
     };
     let outside = Set(others.0 & !set.0);
     Node {
-        n,
-        k,
+        chosen,
         own,
         slots,
         state,
@@ -138,12 +156,11 @@ pub fn sound_of(random: &mut Random, state: State, (n, k, m, own): (u32, u32, u3
         },
         return_heard: state == State::Knocking && random.bit(),
         listening: if state == State::Listening {
-            listening_data(random, n, k, own)
+            listening_data(random, chosen, own)
         } else {
             ListeningData::default()
         },
         yes_heard: state == State::Member && random.bit(),
-        m,
     }
 }
 
@@ -188,7 +205,7 @@ fn node_past(random: &mut Random, n: u32) -> Option<u32> {
 }
 
 fn others(node: &Node) -> Set {
-    Set::full(node.n).without(node.own)
+    Set::full(node.chosen.n).without(node.own)
 }
 
 fn unheld(node: &Node) -> Option<Set> {
@@ -198,22 +215,28 @@ fn unheld(node: &Node) -> Option<Set> {
 
 #[rustfmt::skip]
 pub const BREAKS: &[Break] = &[
-    Break { breaks: &["n in range"], states: ANY, make: |random, r| { r.n = past(random, 32); Some(()) } },
-    Break { breaks: &["n in range", "k in range"], states: OUT, make: |_, r| { r.own = 1; r.n = 2; Some(()) } },
+    Break { breaks: &["n in range"], states: ANY, make: |random, r| { r.chosen.n = past(random, 32); Some(()) } },
+    Break { breaks: &["n in range", "k in range"], states: OUT, make: |_, r| { r.own = 1; r.chosen.n = 2; Some(()) } },
     Break { breaks: &["k in range"], states: ANY, make: |random, r| {
         let low = random.below(2) as u32;
         // A listening node's runs reach to k only.
-        r.k = if random.bit() && r.state != State::Listening { low } else { past(random, r.n - 1) };
-        if r.listening.heard == Set::EMPTY && r.state == State::Listening { r.listening.shortest = r.k; }
+        r.chosen.k = if random.bit() && r.state != State::Listening { low } else { past(random, r.chosen.n - 1 - r.chosen.lag) };
+        if r.listening.heard == Set::EMPTY && r.state == State::Listening { r.listening.shortest = r.chosen.k; }
         Some(())
     } },
     Break { breaks: &["k in range"], states: ANY, make: |_, r| {
-        r.k = r.n;
-        if r.listening.heard == Set::EMPTY && r.state == State::Listening { r.listening.shortest = r.k; }
+        r.chosen.k = r.chosen.n;
+        if r.listening.heard == Set::EMPTY && r.state == State::Listening { r.listening.shortest = r.chosen.k; }
         Some(())
     } },
-    Break { breaks: &["own number in range"], states: LISTENING_OR_OUT, make: |random, r| { r.own = past(random, r.n); Some(()) } },
-    Break { breaks: &["own number in range"], states: FOLLOWING, make: |random, r| { r.own = past(random, r.n); Some(()) } },
+    // The largest k of a cable without lag.
+    Break { breaks: &["k in range"], states: ANY, make: |_, r| {
+        (r.chosen.k, r.chosen.lag) = (r.chosen.n - 1, 1);
+        if r.listening.heard == Set::EMPTY && r.state == State::Listening { r.listening.shortest = r.chosen.k; }
+        Some(())
+    } },
+    Break { breaks: &["own number in range"], states: LISTENING_OR_OUT, make: |random, r| { r.own = past(random, r.chosen.n); Some(()) } },
+    Break { breaks: &["own number in range"], states: FOLLOWING, make: |random, r| { r.own = past(random, r.chosen.n); Some(()) } },
     Break { breaks: &["own number in range"], states: FOLLOWING, make: |random, r| {
         r.returning = one(random, unheld(r)?);
         r.own = 0;
@@ -224,20 +247,20 @@ pub const BREAKS: &[Break] = &[
         r.slots = if random.bit() { LIMIT + 1 + random.below(40) } else { u64::MAX - random.below(3) };
         Some(())
     } },
-    Break { breaks: &["set holds only 1 to n"], states: KNOWING, make: |random, r| { r.set = r.set.with(node_past(random, r.n)?); Some(()) } },
+    Break { breaks: &["set holds only 1 to n"], states: KNOWING, make: |random, r| { r.set = r.set.with(node_past(random, r.chosen.n)?); Some(()) } },
     Break { breaks: &["marks hold only 1 to n", "each marked node is in the set"], states: KNOWING, make: |random, r| {
-        r.marks = r.marks.with(node_past(random, r.n)?);
+        r.marks = r.marks.with(node_past(random, r.chosen.n)?);
         Some(())
     } },
     Break { breaks: &["set holds only 1 to n", "marks hold only 1 to n"], states: KNOWING, make: |random, r| {
-        let x = node_past(random, r.n)?;
+        let x = node_past(random, r.chosen.n)?;
         r.set = r.set.with(x);
         r.marks = r.marks.with(x);
         Some(())
     } },
     Break { breaks: &["each marked node is in the set"], states: KNOWING, make: |random, r| { r.marks = r.marks.with(one(random, unheld(r)?)); Some(()) } },
     Break { breaks: &["each marked node is in the set"], states: RETURNING, make: |_, r| { r.marks = r.marks.with(r.own); Some(()) } },
-    Break { breaks: &["returning is 0 or a node"], states: &[State::Member, State::Following], make: |random, r| { r.returning = past(random, r.n); Some(()) } },
+    Break { breaks: &["returning is 0 or a node"], states: &[State::Member, State::Following], make: |random, r| { r.returning = past(random, r.chosen.n); Some(()) } },
     Break { breaks: &["returning is outside the set"], states: &[State::Member, State::Following], make: |random, r| {
         let rest = r.set.without(r.own);
         if rest == Set::EMPTY { return None; }
@@ -272,22 +295,22 @@ pub const BREAKS: &[Break] = &[
     } },
     Break { breaks: &["return heard no except when knocking"], states: &[State::Member, State::Following], make: |_, r| { r.return_heard = true; Some(()) } },
     Break { breaks: &["return heard no except when knocking"], states: LISTENING_OR_OUT, make: |_, r| { r.return_heard = true; Some(()) } },
-    Break { breaks: &["slots done 0 to n - 1"], states: LISTENING, make: |random, r| { r.listening.done = past(random, r.n - 1); Some(()) } },
-    Break { breaks: &["slots done 0 to n - 1"], states: LISTENING, make: |_, r| { r.listening.done = r.n; Some(()) } },
-    Break { breaks: &["nodes heard are nodes"], states: LISTENING, make: |random, r| { r.listening.heard = r.listening.heard.with(node_past(random, r.n)?); Some(()) } },
+    Break { breaks: &["slots done 0 to n - 1"], states: LISTENING, make: |random, r| { r.listening.done = past(random, r.chosen.n - 1); Some(()) } },
+    Break { breaks: &["slots done 0 to n - 1"], states: LISTENING, make: |_, r| { r.listening.done = r.chosen.n; Some(()) } },
+    Break { breaks: &["nodes heard are nodes"], states: LISTENING, make: |random, r| { r.listening.heard = r.listening.heard.with(node_past(random, r.chosen.n)?); Some(()) } },
     Break { breaks: &["nodes heard without own number"], states: LISTENING, make: |_, r| { r.listening.heard = r.listening.heard.with(r.own); Some(()) } },
     Break { breaks: &["shortest run 0 to k"], states: LISTENING, make: |random, r| {
         if r.listening.heard == Set::EMPTY { return None; }
-        r.listening.shortest = past(random, r.k);
+        r.listening.shortest = past(random, r.chosen.k);
         Some(())
     } },
     Break { breaks: &["shortest run k while nothing is heard"], states: LISTENING, make: |random, r| {
         r.listening.heard = Set::EMPTY;
-        r.listening.shortest = random.below(u64::from(r.k)) as u32;
+        r.listening.shortest = random.below(u64::from(r.chosen.k)) as u32;
         Some(())
     } },
     Break { breaks: &["last clean window's nodes are nodes"], states: LISTENING, make: |random, r| {
-        r.listening.last = two_or_more(random, others(r)).with(node_past(random, r.n)?);
+        r.listening.last = two_or_more(random, others(r)).with(node_past(random, r.chosen.n)?);
         Some(())
     } },
     Break { breaks: &["last clean window without own number"], states: LISTENING, make: |random, r| {
@@ -312,28 +335,41 @@ pub const BREAKS: &[Break] = &[
         Some(())
     } },
     Break { breaks: &["yes heard only in the member state"], states: NO_MEMBER, make: |_, r| { r.yes_heard = true; Some(()) } },
-    Break { breaks: &["m in range"], states: ANY, make: |random, r| { r.m = past(random, 8); Some(()) } },
+    Break { breaks: &["m in range"], states: ANY, make: |random, r| { r.chosen.m = past(random, 8); Some(()) } },
+    // A k that would fit it, and one that does not.
+    Break { breaks: &["lag in range"], states: ANY, make: |random, r| {
+        let most = (r.chosen.n - 1).saturating_sub(r.chosen.k);
+        if most < 2 { return None; }
+        r.chosen.lag = if random.bit() { 2 } else { random.within(2, u64::from(most)) as u32 };
+        Some(())
+    } },
+    Break { breaks: &["k in range", "lag in range"], states: ANY, make: |random, r| {
+        r.chosen.lag = past(random, 1).max(r.chosen.n - r.chosen.k);
+        Some(())
+    } },
 ];
 
 /// One of the listening data is neither zero nor no.
 fn not_listening(random: &mut Random, r: &mut Node) -> Option<()> {
     let data = &mut r.listening;
     match random.below(5) {
-        0 => data.done = random.within(1, u64::from(r.n) - 1) as u32,
-        1 => data.heard = two_or_more(random, Set::full(r.n).without(r.own)),
-        2 => data.shortest = random.within(1, u64::from(r.k)) as u32,
+        0 => data.done = random.within(1, u64::from(r.chosen.n) - 1) as u32,
+        1 => data.heard = two_or_more(random, Set::full(r.chosen.n).without(r.own)),
+        2 => data.shortest = random.within(1, u64::from(r.chosen.k)) as u32,
         3 => data.return_seen = true,
-        _ => data.last = two_or_more(random, Set::full(r.n).without(r.own)),
+        _ => data.last = two_or_more(random, Set::full(r.chosen.n).without(r.own)),
     }
     Some(())
 }
 
-/// Makes a sound record one that is not, by yes heard outside the member state, by the listening data or by m.
+/// Makes a sound record one that is not, by yes heard outside the member state, by the listening data, by m or by the
+/// lag.
 pub fn spoil(random: &mut Random, node: &mut Node) {
-    match random.below(4) {
-        0 => node.m = past(random, 8),
-        1 | 2 if node.state != State::Member => node.yes_heard = true,
-        _ => node.listening.done = node.n,
+    match random.below(5) {
+        0 => node.chosen.m = past(random, 8),
+        1 => node.chosen.lag = past(random, 1),
+        2 | 3 if node.state != State::Member => node.yes_heard = true,
+        _ => node.listening.done = node.chosen.n,
     }
 }
 
@@ -349,9 +385,9 @@ pub fn disturb(random: &mut Random, node: &mut Node) {
         1 => 1 << random.below(32),
         _ => random.below(34) as u32,
     };
-    match random.below(16) {
-        0 => node.n = number,
-        1 => node.k = number,
+    match random.below(17) {
+        0 => node.chosen.n = number,
+        1 => node.chosen.k = number,
         2 => node.own = number,
         3 => node.slots = random.number() >> random.below(64),
         4 => node.state = STATES[random.below(8) as usize],
@@ -364,7 +400,8 @@ pub fn disturb(random: &mut Random, node: &mut Node) {
         11 => node.listening.shortest = number,
         12 => node.listening.return_seen ^= true,
         13 => node.yes_heard ^= true,
-        14 => node.m = number,
+        14 => node.chosen.m = number,
+        15 => node.chosen.lag = number,
         _ => node.listening.last.0 ^= number,
     }
 }

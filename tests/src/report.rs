@@ -3,8 +3,8 @@
 use std::collections::BTreeMap;
 use std::process::ExitCode;
 
-/// The refusals' numbers reach to 15; 0 stands for an accepted call.
-const ANSWERS: usize = 16;
+/// The refusals' numbers reach to 16; 0 stands for an accepted call.
+const ANSWERS: usize = 17;
 
 /// What a case has compared so far.
 #[derive(Default)]

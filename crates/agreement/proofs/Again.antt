@@ -1,5 +1,5 @@
 -- A listed slot: the departure step repeated (request f). On the shortened list the sender decides a member that is marked at every tracking node exactly if its
--- slot was sent; if it was not, only k members are left. Assumes nothing.
+-- slot was sent; if it was not, only k + lag members are left. Assumes nothing.
 use Prim.Native.Nat.{ℕ, zero, suc, _+_, _-_, _≤_, _<_}
 use mathlib.Core.Path.{_≡_, sym, ap, ap₂, _∙_, subst}
 use mathlib.Core.Logic.{_≢_, _⊎_, inl, inr}
@@ -79,7 +79,7 @@ module _ (n : ℕ) (most : n ≤ 32) (s : ℕ) where
 
 module _ (W : World) where
   open World W using (cable, n-pos, n-most, k-two, E, fair)
-  open Cable cable using (n, k)
+  open Cable cable using (n, k, lag)
 
   module _ (S : ListedSlot W) where
     open ListedSlot S using (N, L, B, lT, D)
@@ -97,13 +97,13 @@ module _ (W : World) where
     abbrev q : ℕ
     q = sponsors cable A
 
-    most : (1 ≤ sponsors cable A) × (sponsors cable A < size n A) × (sponsors cable A ≤ k) × (k ≤ suc (sponsors cable A))
+    most : (1 ≤ sponsors cable A) × (sponsors cable A + lag < size n A) × (sponsors cable A ≤ k) × (k ≤ suc (sponsors cable A))
     unfolding sponsors
     most = (omega (arith, L₁-size W S, k-two), omega (arith, L₁-size W S, k-two), omega (arith, L₁-size W S), omega (arith, L₁-size W S))
 
     -- the member that it decides there
-    pub second : Before W N A (sponsors cable A)
-    second = before W N A (sponsors cable A) (B .late) (most .0) (most .1)
+    pub second : Before W N A (sponsors cable A + lag)
+    second = before W N A (sponsors cable A + lag) (B .late) (omega (arith, most)) (most .1)
 
     pub second-is : decided cable A s ≡ found.Member (sender n (second .u)) (suc (second .e))
     second-is = decided-before cable A s (most .0) ∙ second .it
@@ -112,19 +112,19 @@ module _ (W : World) where
     ago = omega (arith, second .ago)
 
     -- so many listed slots have been since
-    since : q ≤ sum (lst W) (suc (second .u)) (suc (second .e))
-    since = two (decLe k (sum (lst W) (suc (second .u)) (suc (second .e))))
+    since : q + lag ≤ sum (lst W) (suc (second .u)) (suc (second .e))
+    since = two (decLe (k + lag) (sum (lst W) (suc (second .u)) (suc (second .e))))
       where
         m : ℕ → ℕ
         m = walks.member n n-pos A
 
-        members : sum (walks.member n n-pos A) (suc (second .u)) (suc (second .e)) ≡ sponsors cable A
+        members : sum (walks.member n n-pos A) (suc (second .u)) (suc (second .e)) ≡ sponsors cable A + lag
         members =
             let y : suc (second .u) + second .e ≡ suc N = omega (arith, second .ago) in
             let last : walks.member n n-pos A (suc (second .u) + second .e) ≡ 1 = ap (walks.member n n-pos A) y ∙ num-is (sender-stays W S) in
             omega (arith, sum-first (walks.member n n-pos A) (second .u) (second .e), sum-next (walks.member n n-pos A) (suc (second .u)) (second .e), num-is (second .listed), second .count)
 
-        two : Dec (k ≤ sum (lst W) (suc (second .u)) (suc (second .e))) → sponsors cable A ≤ sum (lst W) (suc (second .u)) (suc (second .e))
+        two : Dec (k + lag ≤ sum (lst W) (suc (second .u)) (suc (second .e))) → sponsors cable A + lag ≤ sum (lst W) (suc (second .u)) (suc (second .e))
         two (yes p) = omega (arith, most)
         two (no p) = omega (arith, members, span W (suc N) A κ (suc (second .e)) (second .u) ago (omega (arith, second .recent)) (omega arith))
 
@@ -143,10 +143,10 @@ module _ (W : World) where
           = omega (arith, sum-split (failed W) (second .u) (suc (suc (second .e))) rest, ap (sum (failed W) (second .u)) z) in
           omega (arith, few-from W (D .u) d, sum-rest (failed W) (D .u) n (second .u) (D .u + n - second .u) (later f₁) (omega (arith, second .ago, D .ago, D .recent)), fair (D .u) .unsent gone (D .listed), part, since, most, f₂)
         where
-          later : sum (lst W) (suc (second .u)) (suc (second .e)) < k → D .u < second .u
+          later : sum (lst W) (suc (second .u)) (suc (second .e)) < k + lag → D .u < second .u
           later f = two (decLt (D .u) (second .u)) (decLt (second .u) (D .u))
             where
-              here : sum (lst W) (suc (D .u)) (suc (D .e)) ≡ k
+              here : sum (lst W) (suc (D .u)) (suc (D .e)) ≡ k + lag
               here = omega (arith, since-next W N (D .u) (D .e) (D .ago), D .exact, num-is lT)
 
               two : Dec (D .u < second .u) → Dec (second .u < D .u) → D .u < second .u
@@ -167,11 +167,11 @@ module _ (W : World) where
           (λ p. not-false (has (marksAfter s (T .r) (T .v)) (sender n (second .u))) (λ off. never-untold (on-after W S T (second .u) (suc (second .e)) ago (second .recent) p (drop-sub W (E (D .u) .sent) L (sender n (D .u)) (sender n (second .u)) (second .listed)) off .untold)) ∙ sym p)
           (λ p. not-true (has (marksAfter s (T .r) (T .v)) (sender n (second .u))) (λ on. never-untold (off-after W S T (second .u) (suc (second .e)) ago (second .recent) (was-listed p) p .on on .1)) ∙ sym p)
 
-      -- if its slot was not sent, only k members are left
-      pub second-few : E (second .u) .sent ≡ false → size n A ≤ k
-      second-few p = two (decLe (size n A) k)
+      -- if its slot was not sent, only k + lag members are left
+      pub second-few : E (second .u) .sent ≡ false → size n A ≤ k + lag
+      second-few p = two (decLe (size n A) (k + lag))
         where
-          two : Dec (size n A ≤ k) → size n A ≤ k
+          two : Dec (size n A ≤ k + lag) → size n A ≤ k + lag
           two (yes h) = h
           two (no h) = absurd (no-both (second .listed) (κ (second .u) (suc (second .e)) ago (second .recent) .dropped (was-listed p) p (omega (arith, since, sponsors-are W A (omega arith)))))
 
@@ -221,13 +221,13 @@ module _ (W : World) where
               ap (λ (x : Node). cond (not (has (v₁ .present) m)) (cond (eqb m (v₁ .own)) (leave Unconfirmed v₁) x) (settle true s v₁))
               (ap (λ (x : ℕ). departing (suc times) s (withSet x v₁)) (shorter y) ∙ two-looks times y p ∙ sym (ap (λ (x : ℕ). departing 0 s (withSet x v₁)) (shorter y))))
 
-      -- Where its slot was not sent, it leaves, too: a node that still tracks the list then holds k members at the most.
+      -- Where its slot was not sent, it leaves, too: a node that still tracks the list then holds k + lag members at the most.
       pub shrunk : E (D .u) .sent ≡ false → E (second .u) .sent ≡ false → (times : ℕ)
-          → tracks (departing (suc (suc times)) s v₁ .state) ≡ true → size n (departing (suc (suc times)) s v₁ .set) ≤ k
+          → tracks (departing (suc (suc times)) s v₁ .state) ≡ true → size n (departing (suc (suc times)) s v₁ .set) ≤ k + lag
       shrunk p o times = subst Small (sym (look (suc times) s m (suc (D .e)) v₁ first-is ∙ chosen _ _ (ap not (marked-is W S T ∙ p)))) (one (eqb m (v₁ .own)))
         where
           Small : Node → Type 0
-          Small x = tracks (x .state) ≡ true → size n (x .set) ≤ k
+          Small x = tracks (x .state) ≡ true → size n (x .set) ≤ k + lag
 
           m₂ : ℕ
           m₂ = sender n (second .u)

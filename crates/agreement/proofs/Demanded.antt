@@ -1,4 +1,4 @@
--- Demand 3 holds (specs/Demand): the lists agree because each is the one list of the invariant; a node whose slot failed stays on it while fewer than k
+-- Demand 3 holds (specs/Demand): the lists agree because each is the one list of the invariant; a node whose slot failed stays on it while fewer than k + lag
 -- listed slots have been since, and that is until its deciding slot. This is shown of the table after all the calls; the premises hold of each beginning of a
 -- sequence, so it is true after each call. Assumes nothing.
 use Prim.Native.Nat.{ℕ, suc, _+_, _-_, _≤_, _<_}
@@ -40,7 +40,7 @@ use Rattle.agreement.proofs.Kept.{Given, Run, run, none-yet, past-at}
 
 module _ (G : Given) (premises : Premises (G .cable) (kept.start G) (G .all)) where
   open Given G using (cable, all)
-  open Cable cable using (n, k)
+  open Cable cable using (n, k, lag)
 
   abbrev start : Table
   start = kept.start G
@@ -61,7 +61,7 @@ module _ (G : Given) (premises : Premises (G .cable) (kept.start G) (G .all)) wh
     speaker-at : speaker (tableAfter start cs) ≡ sender n (suc N)
     list-at : listOf (tableAfter start cs) ≡ L
     listed-at : W .E (suc N) .listed ≡ has L (sender n (suc N))
-    enough-at : k < size n L
+    enough-at : k + lag < size n L
 
   slot-facts : (c : Call) (cs : List Call) → Beginning all (c ∷ cs) → KeepsList cable start c cs → HearEverything cable start c cs → isSlot c (tableAfter start cs) ≡ true → (r : Run G cs) → Slot c cs (slotsOf (tableAfter start cs) + n) (r .0)
   unfolding KeepsListOn HearEverythingOn
@@ -89,13 +89,13 @@ module _ (G : Given) (premises : Premises (G .cable) (kept.start G) (G .all)) wh
   slot-facts (off a) cs b kl he e r = absurd (no-both e (off-no-slot a (tableAfter start cs)))
   slot-facts (restart a) cs b kl he e r = absurd (no-both e (restart-no-slot a (tableAfter start cs)))
 
-  ends-enough : (c : Call) (cs : List Call) → KeepsList cable start c cs → isSlot c (tableAfter start cs) ≡ true → (r : Run G (c ∷ cs)) → k < size n (r .0)
+  ends-enough : (c : Call) (cs : List Call) → KeepsList cable start c cs → isSlot c (tableAfter start cs) ≡ true → (r : Run G (c ∷ cs)) → k + lag < size n (r .0)
   unfolding KeepsListOn
   ends-enough c cs kl e r = omega (arith, kl e .1, ap (size n) (list-is W _ (r .0) _ (r .1) (omega (arith, kl e .1))))
 
   data Status (N u : ℕ) (b : Bool) : Type 0 where
     over : b ≡ true → Status N u b
-    waiting : b ≡ false → (e : ℕ) → u + e ≡ N → suc e < n → sum (lst W) (suc u) e < k → Status N u b
+    waiting : b ≡ false → (e : ℕ) → u + e ≡ N → suc e < n → sum (lst W) (suc u) e < k + lag → Status N u b
 
   undeciding : (c : Call) (cs : List Call) (s : ℕ) → isSlot c (tableAfter start cs) ≡ false → decidingRan cable start s (c ∷ cs) ≡ decidingRan cable start s cs
   unfolding decidingRan isDeciding
@@ -106,7 +106,7 @@ module _ (G : Given) (premises : Premises (G .cable) (kept.start G) (G .all)) wh
       go false = refl
 
   deciding-parts : (c : Call) (cs : List Call) (s : ℕ) → isSlot c (tableAfter start cs) ≡ true → s ≤ slotsOf (tableAfter start cs)
-      → isDeciding cable start s c cs ≡ eqb (memberAfter n (listOf (tableAfter start cs)) (sender n s) k) (speaker (tableAfter start cs))
+      → isDeciding cable start s c cs ≡ eqb (memberAfter n (listOf (tableAfter start cs)) (sender n s) (k + lag)) (speaker (tableAfter start cs))
   unfolding isDeciding
   deciding-parts c cs s e h = let l : leb s (slotsOf (tableAfter start cs)) ≡ true = le-leb s (slotsOf (tableAfter start cs)) h in rw (e, l) refl
 
@@ -114,17 +114,17 @@ module _ (G : Given) (premises : Premises (G .cable) (kept.start G) (G .all)) wh
   same-sender s h = sender-period n pos s h
 
   -- the test of the statement, in the terms of the run
-  test-yes : (c : Call) (cs : List Call) (N L s : ℕ) → Slot c cs N L → 1 ≤ s → eqb (memberAfter n (listOf (tableAfter start cs)) (sender n s) k) (speaker (tableAfter start cs)) ≡ true
-      → memberAfter n L (sender n (s + n)) k ≡ sender n (suc N)
+  test-yes : (c : Call) (cs : List Call) (N L s : ℕ) → Slot c cs N L → 1 ≤ s → eqb (memberAfter n (listOf (tableAfter start cs)) (sender n s) (k + lag)) (speaker (tableAfter start cs)) ≡ true
+      → memberAfter n L (sender n (s + n)) (k + lag) ≡ sender n (suc N)
   test-yes c cs N L s f h e =
-      ap (λ (x : ℕ). memberAfter n L x k) (same-sender s h) ∙ ap (λ (x : ℕ). memberAfter n x (sender n s) k) (sym (f .list-at))
-      ∙ eqb-true (memberAfter n (listOf (tableAfter start cs)) (sender n s) k) (speaker (tableAfter start cs)) e ∙ f .speaker-at
+      ap (λ (x : ℕ). memberAfter n L x (k + lag)) (same-sender s h) ∙ ap (λ (x : ℕ). memberAfter n x (sender n s) (k + lag)) (sym (f .list-at))
+      ∙ eqb-true (memberAfter n (listOf (tableAfter start cs)) (sender n s) (k + lag)) (speaker (tableAfter start cs)) e ∙ f .speaker-at
 
-  test-no : (c : Call) (cs : List Call) (N L s : ℕ) → Slot c cs N L → 1 ≤ s → eqb (memberAfter n (listOf (tableAfter start cs)) (sender n s) k) (speaker (tableAfter start cs)) ≡ false
-      → memberAfter n L (sender n (s + n)) k ≢ sender n (suc N)
+  test-no : (c : Call) (cs : List Call) (N L s : ℕ) → Slot c cs N L → 1 ≤ s → eqb (memberAfter n (listOf (tableAfter start cs)) (sender n s) (k + lag)) (speaker (tableAfter start cs)) ≡ false
+      → memberAfter n L (sender n (s + n)) (k + lag) ≢ sender n (suc N)
   test-no c cs N L s f h e q =
-      eqb-false (memberAfter n (listOf (tableAfter start cs)) (sender n s) k) (speaker (tableAfter start cs)) e
-      (ap (λ (x : ℕ). memberAfter n x (sender n s) k) (f .list-at) ∙ ap (λ (x : ℕ). memberAfter n L x k) (sym (same-sender s h)) ∙ q ∙ sym (f .speaker-at))
+      eqb-false (memberAfter n (listOf (tableAfter start cs)) (sender n s) (k + lag)) (speaker (tableAfter start cs)) e
+      (ap (λ (x : ℕ). memberAfter n x (sender n s) (k + lag)) (f .list-at) ∙ ap (λ (x : ℕ). memberAfter n L x (k + lag)) (sym (same-sender s h)) ∙ q ∙ sym (f .speaker-at))
 
   new-status : (c : Call) (cs : List Call) (s : ℕ) → isSlot c (tableAfter start cs) ≡ true → s ≡ slotsOf (tableAfter start cs) + 1 → Status (slotsOf (tableAfter start (c ∷ cs)) + n) (s + n) (decidingRan cable start s (c ∷ cs))
   unfolding decidingRan isDeciding
@@ -146,7 +146,7 @@ module _ (G : Given) (premises : Premises (G .cable) (kept.start G) (G .all)) wh
       ago′ : s + n + suc x ≡ slotsOf (tableAfter start (c ∷ cs)) + n
       ago′ = omega (arith, slots-next cable pos start begins c cs, num-is e)
 
-      go : sum (lst W) (suc (s + n)) (suc x) < k → isDeciding cable start s c cs ≡ false → Status (slotsOf (tableAfter start (c ∷ cs)) + n) (s + n) (decidingRan cable start s cs || isDeciding cable start s c cs)
+      go : sum (lst W) (suc (s + n)) (suc x) < k + lag → isDeciding cable start s c cs ≡ false → Status (slotsOf (tableAfter start (c ∷ cs)) + n) (s + n) (decidingRan cable start s cs || isDeciding cable start s c cs)
       go w′ q = waiting (rw (d, q) refl) (suc x) ago′ (in-round (ℕ-discrete (suc (suc x)) n)) w′
         where
           in-round : Dec (suc (suc x) ≡ n) → suc (suc x) < n

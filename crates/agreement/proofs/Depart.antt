@@ -26,7 +26,7 @@ use Rattle.agreement.proofs.Listed.{ListedSlot, other-sender, same-wind
 
 module _ (W : World) where
   open World W using (cable, n-pos, k-two, E, fair)
-  open Cable cable using (n, k)
+  open Cable cable using (n, k, lag)
 
   -- the list after step 3: the decided member leaves if its slot was not sent
   abbrev pub dropping : Bool → ℕ → ℕ → ℕ
@@ -65,7 +65,7 @@ module _ (W : World) where
     sender-stays = drop-keeps (E (D .u) .sent) L (sender n (D .u)) (sender n (suc N)) onL
         (λ _ p. other-sender W N (D .u) (D .e) (B .late) (omega (arith, D .ago)) (D .recent) (sym p))
 
-    pub L₁-size : k ≤ size n L₁
+    pub L₁-size : k + lag ≤ size n L₁
     L₁-size = omega (arith, B .enough, drop-size (E (D .u) .sent) L (sender n (D .u)) (sender-range n n-pos (D .u) .0) (sender-range n n-pos (D .u) .1) (D .member))
 
     -- in the window, only slot D .u can have been dropped
@@ -86,7 +86,7 @@ module _ (W : World) where
       spoke = λ p q. not-dropped u e z (omega arith) (λ f y. no-both q (rw (sym y) at f)) (B .kept u e z (omega arith) .spoke p q);
       waits = λ p q r. not-dropped u e z (omega arith) (λ f y. apart y r)
           (B .kept u e z (omega arith) .waits p q (omega (arith, since-next N u e z)));
-      dropped = λ p q r. leaves p q r (decLe k (sum (lst W) (suc u) e));
+      dropped = λ p q r. leaves p q r (decLe (k + lag) (sum (lst W) (suc u) e));
       came = λ p q. let c = B .kept u e z (omega arith) .came p (drop-sub (E (D .u) .sent) L (sender n (D .u)) (sender n u) q) in
           (c .0, omega (arith, c .1, since-next N u e z));
     }
@@ -94,18 +94,18 @@ module _ (W : World) where
         one : lst W (suc N) ≡ 1
         one = num-is lT
 
-        apart : u ≡ D .u → sum (lst W) (suc u) (suc e) < k → ⊥
+        apart : u ≡ D .u → sum (lst W) (suc u) (suc e) < k + lag → ⊥
         apart y r =
             let x : e ≡ D .e = omega (arith, D .ago) in
             let w : sum (lst W) (suc u) e ≡ sum (lst W) (suc (D .u)) (D .e) = ap (λ (q : ℕ). sum (lst W) (suc q) e) y ∙ ap (sum (lst W) (suc (D .u))) x in
             omega (arith, since-next N u e z, D .exact, one)
 
-        leaves : E u .listed ≡ true → E u .sent ≡ false → k ≤ sum (lst W) (suc u) (suc e) → Dec (k ≤ sum (lst W) (suc u) e) → has L₁ (sender n u) ≡ false
+        leaves : E u .listed ≡ true → E u .sent ≡ false → k + lag ≤ sum (lst W) (suc u) (suc e) → Dec (k + lag ≤ sum (lst W) (suc u) e) → has L₁ (sender n u) ≡ false
         leaves p q r (yes d) = not-true (has L₁ (sender n u)) (λ y. no-both (drop-sub (E (D .u) .sent) L (sender n (D .u)) (sender n u) y) (B .kept u e z (omega arith) .dropped p q d))
         leaves p q r (no d) =
-            let c₁ : sum (lst W) u (suc e) ≡ k = omega (arith, since-next N u e z, one, sum-first (lst W) u e, num-is p) in
-            let c₂ : sum (lst W) (D .u) (suc (D .e)) ≡ k = omega (arith, sum-first (lst W) (D .u) (D .e), num-is (D .listed), D .exact) in
-            let y : u ≡ D .u = one-place (lst W) k u (suc e) (D .u) (suc (D .e)) (omega (arith, D .ago)) c₁ c₂ (omega (arith, num-is p)) (omega (arith, num-is (D .listed))) in
+            let c₁ : sum (lst W) u (suc e) ≡ k + lag = omega (arith, since-next N u e z, one, sum-first (lst W) u e, num-is p) in
+            let c₂ : sum (lst W) (D .u) (suc (D .e)) ≡ k + lag = omega (arith, sum-first (lst W) (D .u) (D .e), num-is (D .listed), D .exact) in
+            let y : u ≡ D .u = one-place (lst W) (k + lag) u (suc e) (D .u) (suc (D .e)) (omega (arith, D .ago)) c₁ c₂ (omega (arith, num-is p)) (omega (arith, num-is (D .listed))) in
             let f : E (D .u) .sent ≡ false = rw y at q in
             rw (f, y) (has-without L (sender n (D .u)))
 
@@ -148,9 +148,9 @@ module _ (W : World) where
                   ∙ ap (λ (x : ℕ). walk (n - 1) n L₁ x 1) (sym (sender-period n n-pos w hw) ∙ ap (sender n) (sym z)) ∙ m .found ∙ ap (Member (sender n (m .u))) back;
             }
 
-    -- If slot N + 1 is that of the nearest member, then k listed slots have been since w.
+    -- If slot N + 1 is that of the nearest member, then k + lag listed slots have been since w.
     pub enough-since : (w e : ℕ) → w + e ≡ N → suc e < n → E w .outside ≡ true → has L (sender n w) ≡ false
-        → At (sender n (suc N)) (memberBefore n L₁ (sender n w) 1) → k ≤ sum (lst W) (suc w) (suc e)
+        → At (sender n (suc N)) (memberBefore n L₁ (sender n w) 1) → k + lag ≤ sum (lst W) (suc w) (suc e)
     enough-since w e z h out off q = go (nearest w hw off₁)
       where
         hw : 1 ≤ w
@@ -170,7 +170,7 @@ module _ (W : World) where
                 (λ l. absurd (one-knock W w (q - w) q hw (omega arith) (omega arith) (omega arith) out
                 (fair q .outer (B .kept q (N - q) (omega arith) (omega arith) .came l (drop-sub (E (D .u) .sent) L (sender n (D .u)) (sender n q) p) .0) l)))
 
-        go : Nearest w → k ≤ sum (lst W) (suc w) (suc e)
+        go : Nearest w → k + lag ≤ sum (lst W) (suc w) (suc e)
         go r =
             let same : r .u ≡ suc N = same-slot n n-pos (w - 1) (r .u) (suc N) (omega (arith, r .later)) (omega (arith, r .upto, r .some-way)) (omega arith) (omega arith) (same-member (sym (r .it) ∙ q .it)) in
             let a₁ : sum m (suc N) (r .e) ≡ 1 = rw (← same) (r .alone) in

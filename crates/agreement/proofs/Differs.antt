@@ -1,4 +1,4 @@
--- Nothing differs from the rule before (specs/Repeated): up to each slot the two runs have the same tables, so that the invariant holds of them; with k + 1 members
+-- Nothing differs from the rule before (specs/Repeated): up to each slot the two runs have the same tables, so that the invariant holds of them; with k + 1 members and the lag
 -- on the list as the slot begins and as it ends, nobody leaves in it but the member that is decided first. Assumes nothing.
 use Prim.Native.Nat.{ℕ, suc, _+_, _-_, _≤_, _<_}
 use mathlib.Core.Path.{_≡_, refl, sym, ap, _∙_, subst}
@@ -50,10 +50,10 @@ use Rattle.agreement.proofs.Kept.{Given, Run, run, slot-table, past-at}
 
 module _ (W : World) where
   open World W using (cable, n-pos, E)
-  open Cable cable using (n, k)
+  open Cable cable using (n, k, lag)
 
   module _ (N L : ℕ) (t : Table) (lost : Bool) (missed : ℕ) (inv : TableInv W N L t) (eq : E (suc N) ≡ pastOf lost missed t)
-      (enough : k + 1 ≤ size n (listOf t)) (hears : AllHear n (slot lost missed 64) t)
+      (enough : k + (1 + lag) ≤ size n (listOf t)) (hears : AllHear n (slot lost missed 64) t)
       (good : (i : ℕ) → 1 ≤ i → i ≤ n → sound (recordOf t i) ≡ true) (below : slotsOf t < limit) where
     abbrev before : Table
     before = tableBy ruleBefore lost missed t
@@ -77,7 +77,7 @@ module _ (W : World) where
       X = S W N L t lost missed inv eq enough hears good below onL
 
       -- the list after the slot of the rule before
-      next-before : k + 1 ≤ size n (listOf (tableBy ruleBefore lost missed t)) → Next W X (listOf (tableBy ruleBefore lost missed t))
+      next-before : k + (1 + lag) ≤ size n (listOf (tableBy ruleBefore lost missed t)) → Next W X (listOf (tableBy ruleBefore lost missed t))
       next-before ends = go (witness W before len-before (omega arith))
         where
           go : Witness W before → Next W X (listOf (tableBy ruleBefore lost missed t))
@@ -101,7 +101,7 @@ module _ (W : World) where
           (λ e. let b = both (has L x) (has L′ x) e in omega (arith, num-is (stayed L′ nx x (b .0) (b .1)), num-le (has L x && has L′ x)))
           (λ e. omega (arith, num-isnt e)))
 
-      once-before : k + 1 ≤ size n (listOf (tableBy ruleBefore lost missed t)) → k + 1 ≤ onBoth n (listOf t) (listOf (tableBy ruleBefore lost missed t)) → Once W X
+      once-before : k + (1 + lag) ≤ size n (listOf (tableBy ruleBefore lost missed t)) → k + (1 + lag) ≤ onBoth n (listOf t) (listOf (tableBy ruleBefore lost missed t)) → Once W X
       once-before ends between = by-cases (E (X .D .u) .sent)
           (λ p. inl p)
           (λ p. by-cases (E (second W X .u) .sent) (λ q. inr q)
@@ -117,18 +117,18 @@ module _ (W : World) where
         (λ offL. node-outside W N L t lost missed inv eq enough hears good below offL i h m)
         ∙ sym (record-before i h m))
 
-    -- k + 1 members are left by the rule before, also between a departure and a joining
-    slot-same : k + 1 ≤ size n (listOf (tableBy ruleBefore lost missed t)) → k + 1 ≤ onBoth n (listOf t) (listOf (tableBy ruleBefore lost missed t)) → tableAfterSlot lost missed t ≡ tableBy ruleBefore lost missed t
+    -- k + 1 members and the lag are left by the rule before, also between a departure and a joining
+    slot-same : k + (1 + lag) ≤ size n (listOf (tableBy ruleBefore lost missed t)) → k + (1 + lag) ≤ onBoth n (listOf t) (listOf (tableBy ruleBefore lost missed t)) → tableAfterSlot lost missed t ≡ tableBy ruleBefore lost missed t
     slot-same ends between = slot-once (λ onL. once-before onL ends between)
 
-    -- k + 1 members are left by the rule now
-    slot-same-now : k + 1 ≤ size n (listOf (tableAfterSlot lost missed t)) → tableAfterSlot lost missed t ≡ tableBy ruleBefore lost missed t
+    -- k + 1 members and the lag are left by the rule now
+    slot-same-now : k + (1 + lag) ≤ size n (listOf (tableAfterSlot lost missed t)) → tableAfterSlot lost missed t ≡ tableBy ruleBefore lost missed t
     slot-same-now ends = slot-once (λ onL. leaves-once W N L t lost missed inv eq enough hears good below onL ends)
 
 -- ---- every sequence of calls
 
 module _ (cable : Cable) (fits : cableFits cable ≡ true) (lent : Table) (one-each : length lent ≡ cable .n) where
-  open Cable cable using (n, k)
+  open Cable cable using (n, k, lag)
 
   abbrev start : Table
   start = setUpOf cable lent .table
@@ -171,8 +171,8 @@ module _ (cable : Cable) (fits : cableFits cable ≡ true) (lent : Table) (one-e
   kept-now [] al e kl = tt
   kept-now (c ∷ cs) al e kl = (
     kept-now cs (al .0) (al .1) (kl .0),
-    subst (λ (t : Table). isSlot c t ≡ true → (k + 1 ≤ size n (listOf t)) × (k + 1 ≤ size n (listOf (tableAfter start (c ∷ cs))))) (sym (al .1))
-        (subst (λ (t : Table). isSlot c (runBefore start cs) ≡ true → (k + 1 ≤ size n (listOf (runBefore start cs))) × (k + 1 ≤ size n (listOf t))) (sym e) (kl .1)),
+    subst (λ (t : Table). isSlot c t ≡ true → (k + (1 + lag) ≤ size n (listOf t)) × (k + (1 + lag) ≤ size n (listOf (tableAfter start (c ∷ cs))))) (sym (al .1))
+        (subst (λ (t : Table). isSlot c (runBefore start cs) ≡ true → (k + (1 + lag) ≤ size n (listOf (runBefore start cs))) × (k + (1 + lag) ≤ size n (listOf t))) (sym e) (kl .1)),
   )
 
   heard-now : (cs : List Call) → Alike cs → AtEach (HearEverythingOn cable (runBefore start)) cs → AtEach (HearEverything cable start) cs
@@ -221,11 +221,11 @@ module _ (cable : Cable) (fits : cableFits cable ≡ true) (lent : Table) (one-e
         is-before : callBy ruleBefore (slot lost missed room) (tableAfter start cs) ≡ tableBy ruleBefore lost missed (tableAfter start cs)
         is-before = chosen _ _ e
 
-        sizes : (k + 1 ≤ size n (listOf (tableAfter start cs))) × (k + 1 ≤ size n (listOf (callBy ruleBefore (slot lost missed room) (tableAfter start cs))))
-        sizes = subst (λ (x : Table). isSlot (slot lost missed room) x ≡ true → (k + 1 ≤ size n (listOf x)) × (k + 1 ≤ size n (listOf (callBy ruleBefore (slot lost missed room) x)))) (sym (al .1)) (kl .1) e
+        sizes : (k + (1 + lag) ≤ size n (listOf (tableAfter start cs))) × (k + (1 + lag) ≤ size n (listOf (callBy ruleBefore (slot lost missed room) (tableAfter start cs))))
+        sizes = subst (λ (x : Table). isSlot (slot lost missed room) x ≡ true → (k + (1 + lag) ≤ size n (listOf x)) × (k + (1 + lag) ≤ size n (listOf (callBy ruleBefore (slot lost missed room) x)))) (sym (al .1)) (kl .1) e
 
-        between : k + 1 ≤ onBoth n (listOf (tableAfter start cs)) (listOf (callBy ruleBefore (slot lost missed room) (tableAfter start cs)))
-        between = subst (λ (x : Table). isSlot (slot lost missed room) x ≡ true → k + 1 ≤ onBoth n (listOf x) (listOf (callBy ruleBefore (slot lost missed room) x))) (sym (al .1)) kb e
+        between : k + (1 + lag) ≤ onBoth n (listOf (tableAfter start cs)) (listOf (callBy ruleBefore (slot lost missed room) (tableAfter start cs)))
+        between = subst (λ (x : Table). isSlot (slot lost missed room) x ≡ true → k + (1 + lag) ≤ onBoth n (listOf x) (listOf (callBy ruleBefore (slot lost missed room) x))) (sym (al .1)) kb e
 
         hears : AllHear n (slot lost missed room) (tableAfter start cs)
         hears = subst (λ (x : Table). isSlot (slot lost missed room) x ≡ true → AllHear n (slot lost missed room) x) (sym (al .1)) (he .1) e
@@ -268,8 +268,8 @@ module _ (cable : Cable) (fits : cableFits cable ≡ true) (lent : Table) (one-e
         placed : Placed cable (slotsOf (tableAfter start cs)) (tableAfter start cs)
         placed = placed-run cable (kept.pos here) start (kept.begins here) cs
 
-        left : k + 1 ≤ size n (listOf (tableAfterSlot lost missed (tableAfter start cs)))
-        left = subst (λ (x : Table). k + 1 ≤ size n (listOf x)) (slot-table here lost missed room cs e) (kl .1 e .1)
+        left : k + (1 + lag) ≤ size n (listOf (tableAfterSlot lost missed (tableAfter start cs)))
+        left = subst (λ (x : Table). k + (1 + lag) ≤ size n (listOf x)) (slot-table here lost missed room cs e) (kl .1 e .1)
 
         go : Run here cs → tableAfterSlot lost missed (tableAfter start cs) ≡ tableBy ruleBefore lost missed (tableAfter start cs)
         go r = slot-same-now (kept.W here) (slotsOf t + n) (r .0) t lost missed (r .1) (past-at here lost missed room cs b e) (kl .1 e .0) (he .1 e)

@@ -7,14 +7,16 @@ use native.Mathlib.Omega.{arith}
 use native.Mathlib.Decide.{decLe}
 use lib.Dec.{eqb, leb, ltb}
 use borrow.Author.Tests.{eqb-true, leb-true, ltb-true, ltb-false}
+use Rattle.nodeset.specs.Sums.{num}
 use Rattle.nodeset.specs.Sets.{has, with, size, run, runFrom}
 use Rattle.nodeset.proofs.Tests.{by-cases, otherwise}
+use Rattle.nodeset.proofs.Sums.{sum-le, sum-add, num-le}
 use Rattle.nodeset.proofs.Bits.{has-none}
 use Rattle.nodeset.proofs.Counts.{size-none}
 use Rattle.nodeset.proofs.Laws.{has-with, has-with-other, with-lt, set-ext}
 use Rattle.ring.specs.declared.Cable.{Cable}
 use Rattle.ring.specs.Ring.{sender, ks}
-use Rattle.ring.proofs.Senders.{sender-range, sender-period, its-slot}
+use Rattle.ring.proofs.Senders.{sender-range, sender-period, its-slot, size-round}
 use Rattle.message.specs.declared.Reading.{Reading}
 use Rattle.message.specs.declared.Reading.the-variants as reading
 use Rattle.node_record.specs.declared.Node.{Node}
@@ -24,7 +26,7 @@ use Rattle.node_steps.specs.Steps.{isHeard}
 use Rattle.node_steps.specs.Digests.{bitsHeard}
 use Rattle.node_hearing.specs.Hearing.{overheard, clean, windowEnd, goesOn, listeningBy}
 use Rattle.agreement.proofs.Past.{Past}
-use Rattle.agreement.proofs.History.{World, K, KFact}
+use Rattle.agreement.proofs.History.{World, K, KFact, num-is, num-isnt}
 use Rattle.agreement.proofs.Invariant.{Tracking, ListeningInv}
 use Rattle.agreement.proofs.Marks.{no-both, not-true, not-false}
 use Rattle.bench.proofs.Choices.{choose}
@@ -37,8 +39,8 @@ unfolding runFrom
 run-zero = otherwise _ _ (has-none 1)
 
 module _ (W : World) where
-  open World W using (cable, n-pos, n-most, k-two, E, early)
-  open Cable cable using (n)
+  open World W using (cable, n-pos, n-most, k-two, E, fair, early, few)
+  open Cable cable using (n, k, lag)
 
   -- a window begins with nothing heard, and nothing heard before
   pub fresh-inv : (N i : ℕ) (v : Node) → v .listening .done ≡ 0 → v .listening .heard ≡ 0 → v .listening .last ≡ 0 → ListeningInv W N i v
@@ -143,29 +145,51 @@ module _ (W : World) where
         go (reading.Heard bits bit) = refl
         go (reading.Refused c) = refl
 
-    clean-parts : (l : Window) → clean cable l ≡ true → (2 ≤ size n (l .heard)) × (1 ≤ l .shortest)
+    clean-runs : (l : Window) → clean cable l ≡ true → ks cable (size n (l .heard)) ≤ l .shortest
     unfolding clean
-    clean-parts l e = go (leb 2 (size n (l .heard))) (l .«return_seen») (leb (ks cable (size n (l .heard))) (l .shortest)) refl refl e
+    clean-runs l e = go (leb 2 (size n (l .heard))) (l .«return_seen») (leb (ks cable (size n (l .heard))) (l .shortest)) refl e
       where
-        go : (a b c : Bool) → leb 2 (size n (l .heard)) ≡ a → leb (ks cable (size n (l .heard))) (l .shortest) ≡ c → (a && (not b && c)) ≡ true → (2 ≤ size n (l .heard)) × (1 ≤ l .shortest)
-        go false b c p q f = absurd (false≢true f)
-        go true true c p q f = absurd (false≢true f)
-        go true false false p q f = absurd (false≢true f)
-        go true false true p q f =
-            let two : 2 ≤ size n (l .heard) = leb-true 2 (size n (l .heard)) p in
-            let le : ks cable (size n (l .heard)) ≤ l .shortest = leb-true (ks cable (size n (l .heard))) (l .shortest) q in
-            (two, omega (arith, k-two))
+        go : (a b c : Bool) → leb (ks cable (size n (l .heard))) (l .shortest) ≡ c → (a && (not b && c)) ≡ true → ks cable (size n (l .heard)) ≤ l .shortest
+        go false b c q f = absurd (false≢true f)
+        go true true c q f = absurd (false≢true f)
+        go true false false q f = absurd (false≢true f)
+        go true false true q f = leb-true (ks cable (size n (l .heard))) (l .shortest) q
 
-    -- the end of a window
-    module _ (l : Window) (hd : Heard (suc N) i l) (whole : l .done ≡ n) (cl : clean cable l ≡ true) where
-      all-listed : (u e : ℕ) → u + e ≡ suc N → e < n → E u .sent ≡ true → E u .listed ≡ true
-      all-listed u e z h p = not-false (E u .listed) (λ q. let bad : ⊥ = omega (arith, hd .knock-shows u e z (omega arith) p q, clean-parts l cl .1) in bad)
-
+    -- the end of a window, with the list at that slot's end
+    module _ (l : Window) (hd : Heard (suc N) i l) (whole : l .done ≡ n) (cl : clean cable l ≡ true) (L′ : ℕ) (κ : K W (suc N) L′) (enough : k + lag < size n L′) where
       heard-at : (u e : ℕ) → u + e ≡ suc N → e < n → has (l .heard) (sender n u) ≡ E u .sent
       heard-at u e z h = hd .heard-is u e z (omega arith)
 
+      -- each member of the list was heard or has failed, and fewer than k have
+      heard-most : 2 + lag ≤ size n (l .heard)
+      heard-most =
+          let a : ℕ = suc N - n in
+          omega (
+            arith,
+            enough,
+            size-round n n-pos L′ a,
+            size-round n n-pos (l .heard) a,
+            sum-le (λ u. num (has L′ (sender n u))) (λ u. num (has (l .heard) (sender n u)) + E u .failures) (suc a) n (λ u p q. each u (suc N - u) (omega (arith, q, late)) (omega (arith, p, late))),
+            sum-add (λ u. num (has (l .heard) (sender n u))) (λ u. E u .failures) (suc a) n,
+            few a,
+          )
+        where
+          each : (u e : ℕ) → u + e ≡ suc N → e < n → num (has L′ (sender n u)) ≤ num (has (l .heard) (sender n u)) + E u .failures
+          each u e z h = by-cases (E u .sent)
+              (λ p. omega (arith, num-is (heard-at u e z h ∙ p), num-le (has L′ (sender n u))))
+              (λ p. by-cases (E u .listed)
+              (λ q. omega (arith, fair u .unsent p q, num-le (has L′ (sender n u))))
+              (λ q. omega (arith, num-isnt (not-true (has L′ (sender n u)) (λ on. no-both (κ u e z h .came q on .0) p)))))
+
+      -- so that the run of a knock is too short
+      some-run : 1 ≤ l .shortest
+      some-run = omega (arith, clean-runs l cl, heard-most, k-two)
+
+      all-listed : (u e : ℕ) → u + e ≡ suc N → e < n → E u .sent ≡ true → E u .listed ≡ true
+      all-listed u e z h p = not-false (E u .listed) (λ q. let bad : ⊥ = omega (arith, hd .knock-shows u e z (omega arith) p q, some-run) in bad)
+
       nonzero : l .heard ≢ 0
-      nonzero q = let bad : ⊥ = omega (arith, ap (size n) q, size-none n, clean-parts l cl .0) in bad
+      nonzero q = let bad : ⊥ = omega (arith, ap (size n) q, size-none n, heard-most) in bad
 
       again-inv : ListeningInv W (suc N) i (listeningAfter (l .heard) v)
       again-inv = record {
@@ -179,7 +203,7 @@ module _ (W : World) where
         last-is = λ nz u e z h. (heard-at u e (omega arith) h, all-listed u e (omega arith) h);
       }
 
-      module _ (L′ : ℕ) (κ : K W (suc N) L′) (κ′ : K′ W (suc N)) (small : L′ < 2 ^ n) (same : l .last ≡ l .heard) where
+      module _ (κ′ : K′ W (suc N)) (small : L′ < 2 ^ n) (same : l .last ≡ l .heard) where
         at-slot : (u e : ℕ) → u + e ≡ suc N → e < n → has (l .heard) (sender n u) ≡ has L′ (sender n u)
         at-slot u e z h = by-cases (E u .sent) sent-case unsent-case
           where
@@ -233,9 +257,9 @@ module _ (W : World) where
       again : (b : ℕ) → x ≡ listeningAfter b v → ListeningInv W (suc N) i x → Hearkened L′ x
       follows : (b : ℕ) → x ≡ followingWith b v → Tracking W (suc N) L′ i x → Hearkened L′ x
 
-    pub listening-law : v .cable ≡ cable → 1 ≤ i → (L′ : ℕ) → K W (suc N) L′ → K′ W (suc N) → L′ < 2 ^ n → Hearkened L′ (listeningBy s r v)
+    pub listening-law : v .cable ≡ cable → 1 ≤ i → (L′ : ℕ) → K W (suc N) L′ → k + lag < size n L′ → K′ W (suc N) → L′ < 2 ^ n → Hearkened L′ (listeningBy s r v)
     unfolding listeningBy goesOn windowEnd
-    listening-law vc i-pos L′ κ κ′ small = go (overheard s r (v .listening)) overheard-law overheard-done
+    listening-law vc i-pos L′ κ enough κ′ small = go (overheard s r (v .listening)) overheard-law overheard-done
       where
         size-is : v .cable .n ≡ n
         size-is = ap (λ (c : Cable). c .n) vc
@@ -265,5 +289,5 @@ module _ (W : World) where
                 cleaned : clean cable l ≡ true → Hearkened L′ (cond (eqb (l .last) (l .heard)) (followingWith (l .heard) v) (listeningAfter (l .heard) v))
                 cleaned c =
                     choose (λ (x : Node). Hearkened L′ x) (eqb (l .last) (l .heard)) (followingWith (l .heard) v) (listeningAfter (l .heard) v)
-                    (λ q. follows (l .heard) refl (following-inv l hd whole c L′ κ κ′ small (eqb-true (l .last) (l .heard) q) i-pos))
-                    (λ q. again (l .heard) refl (again-inv l hd whole c))
+                    (λ q. follows (l .heard) refl (following-inv l hd whole c L′ κ enough κ′ small (eqb-true (l .last) (l .heard) q) i-pos))
+                    (λ q. again (l .heard) refl (again-inv l hd whole c L′ κ enough))

@@ -31,7 +31,7 @@ use Rattle.agreement.proofs.Returns.{joins-yes, joins-if, not-member, s
 
 module _ (W : World) where
   open World W using (cable, n-pos, n-most, E, fair)
-  open Cable cable using (n, k)
+  open Cable cable using (n, k, lag)
 
   module _ (S : ListedSlot W) where
     open ListedSlot S using (N, L, B, lT, D)
@@ -47,7 +47,7 @@ module _ (W : World) where
       pub unlisted : E w .listed ≡ false
       pub sent : E w .sent ≡ true
       pub away : has L (sender n w) ≡ false
-      pub since : k ≤ sum (lst W) (suc w) (suc e)
+      pub since : k + lag ≤ sum (lst W) (suc w) (suc e)
       pub near : At (sender n (suc N)) (memberBefore n A (sender n w) 1)
 
     pub data Next (L′ : ℕ) : Type 0 where

@@ -1,4 +1,4 @@
--- The leaving time: the slot of the k-th member after a failed sender is the one in which k listed slots have been since. Assumes nothing.
+-- The leaving time: the slot of the (k + lag)-th member after a failed sender is the one in which k + lag listed slots have been since. Assumes nothing.
 use Prim.Native.Nat.{ℕ, suc, _+_, _-_, _≤_, _<_}
 use mathlib.Core.Path.{_≡_, sym, ap, _∙_}
 use mathlib.Core.Logic.{_≢_}
@@ -18,15 +18,15 @@ use Rattle.agreement.proofs.Onwards.{Ahead, onwards-meets}
 
 module _ (W : World) where
   open World W using (cable, n-pos, k-two, E)
-  open Cable cable using (n, k)
+  open Cable cable using (n, k, lag)
 
-  module _ (N L : ℕ) (κ : K W N L) (enough : k < size n L) (listed-is : E (suc N) .listed ≡ has L (sender n (suc N)))
-      (u e : ℕ) (u-pos : 1 ≤ u) (ago : u + e ≡ N) (recent : suc e < n) (waits : sum (lst W) (suc u) e < k) where
+  module _ (N L : ℕ) (κ : K W N L) (enough : k + lag < size n L) (listed-is : E (suc N) .listed ≡ has L (sender n (suc N)))
+      (u e : ℕ) (u-pos : 1 ≤ u) (ago : u + e ≡ N) (recent : suc e < n) (waits : sum (lst W) (suc u) e < k + lag) where
     abbrev m : ℕ → ℕ
     m = member n n-pos L
 
-    ahead : Ahead n n-pos L n u k
-    ahead = onwards-meets n n-pos L n u k u-pos (omega (arith, k-two)) (omega (arith, size-round n n-pos L u))
+    ahead : Ahead n n-pos L n u (k + lag)
+    ahead = onwards-meets n n-pos L n u (k + lag) u-pos (omega (arith, k-two)) (omega (arith, size-round n n-pos L u))
 
     -- the members and the listed slots since u, this slot included
     counts : sum m (suc u) (suc e) ≡ sum (lst W) (suc u) (suc e)
@@ -34,25 +34,25 @@ module _ (W : World) where
         let z : suc u + e ≡ suc N = omega arith in
         omega (arith, sum-next m (suc u) e, ap m z, span W N L κ e u ago (omega arith) waits, since-next W N u e ago, ap num listed-is)
 
-    pub deciding : memberAfter n L (sender n u) k ≡ sender n (suc N) → k ≤ sum (lst W) (suc u) (suc e)
+    pub deciding : memberAfter n L (sender n u) (k + lag) ≡ sender n (suc N) → k + lag ≤ sum (lst W) (suc u) (suc e)
     deciding q = go ahead
       where
-        go : Ahead n n-pos L n u k → k ≤ sum (lst W) (suc u) (suc e)
+        go : Ahead n n-pos L n u (k + lag) → k + lag ≤ sum (lst W) (suc u) (suc e)
         go r =
             let same : sender n (u + r .e) ≡ sender n (suc N) = sym (r .found) ∙ q in
             let at : u + r .e ≡ suc N = same-slot n n-pos u (u + r .e) (suc N) (omega (arith, r .on)) (omega (arith, r .within)) (omega arith) (omega arith) same in
             let z : r .e ≡ suc e = omega arith in
             omega (arith, ap (sum m (suc u)) z, r .count, counts)
 
-    pub undecided : memberAfter n L (sender n u) k ≢ sender n (suc N) → sum (lst W) (suc u) (suc e) < k
-    undecided q = go ahead (decLt (sum (lst W) (suc u) (suc e)) k)
+    pub undecided : memberAfter n L (sender n u) (k + lag) ≢ sender n (suc N) → sum (lst W) (suc u) (suc e) < k + lag
+    undecided q = go ahead (decLt (sum (lst W) (suc u) (suc e)) (k + lag))
       where
-        before : (r : Ahead n n-pos L n u k) → r .e < suc e → ⊥
+        before : (r : Ahead n n-pos L n u (k + lag)) → r .e < suc e → ⊥
         before r h =
             let z : r .e + (e - r .e) ≡ e = omega arith in
             omega (arith, sum-more m (suc u) (r .e) (e - r .e), ap (sum m (suc u)) z, r .count, span W N L κ e u ago (omega arith) waits)
 
-        after : (r : Ahead n n-pos L n u k) → k ≤ sum (lst W) (suc u) (suc e) → suc e < r .e → ⊥
+        after : (r : Ahead n n-pos L n u (k + lag)) → k + lag ≤ sum (lst W) (suc u) (suc e) → suc e < r .e → ⊥
         after r c h =
             let d : ℕ = r .e - 1 in
             let z : suc d ≡ r .e = omega arith in
@@ -60,7 +60,7 @@ module _ (W : World) where
             let x : suc u + d ≡ u + r .e = omega arith in
             omega (arith, sum-more m (suc u) (suc e) (d - suc e), ap (sum m (suc u)) y, sum-next m (suc u) d, ap (sum m (suc u)) z, ap m x, num-is (r .listed), r .count, counts)
 
-        go : Ahead n n-pos L n u k → Dec (sum (lst W) (suc u) (suc e) < k) → sum (lst W) (suc u) (suc e) < k
+        go : Ahead n n-pos L n u (k + lag) → Dec (sum (lst W) (suc u) (suc e) < k + lag) → sum (lst W) (suc u) (suc e) < k + lag
         go r (yes h) = h
         go r (no h) = absurd (q (r .found ∙ ap (sender n) (here (decLt (r .e) (suc e)) (decLt (suc e) (r .e)))))
           where

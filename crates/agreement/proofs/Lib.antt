@@ -29,3 +29,4 @@ pub mod Before
 pub mod Differs
 pub mod Demanded
 pub mod Throughout
+pub mod Plain

@@ -7,7 +7,7 @@ use native.Mathlib.Omega.{arith}
 use native.Mathlib.Decide.{ℕ-discrete}
 use lib.Dec.{eqb}
 use borrow.Author.Tests as tests
-use Rattle.nodeset.specs.Sums.{num}
+use Rattle.nodeset.specs.Sums.{sum, num}
 use Rattle.nodeset.specs.Sets.{has, size}
 use Rattle.nodeset.proofs.Tests.{by-cases}
 use Rattle.nodeset.proofs.Sums.{sum-at, num-le}
@@ -28,13 +28,13 @@ use Rattle.agreement.proofs.Marks.{no-both, not-true, not-false, WasOff
 
 module _ (W : World) where
   open World W using (cable, n-pos, E, fair)
-  open Cable cable using (n, k)
+  open Cable cable using (n, k, lag)
 
   -- a slot begins
   pub record Begins (N L : ℕ) : Type 0 where
     pub late : n ≤ N
     pub kept : K W N L
-    pub enough : k < size n L
+    pub enough : k + lag < size n L
     pub small : L < 2 ^ n
 
   -- what tracking node i hears of slot N + 1
@@ -58,12 +58,13 @@ module _ (W : World) where
   pub same-window : (N u v a b : ℕ) → n ≤ N → u + a ≡ N → v + b ≡ N → a < n → b < n → sender n u ≡ sender n v → u ≡ v
   same-window N u v a b hn p q ha hb e = same-slot n n-pos (N - n) u v (omega arith) (omega arith) (omega arith) (omega arith) e
 
-  pub extend : (N u : ℕ) → Untold W u N → lst W (suc N) ≤ E (suc N) .failures + num (E u .missed (sender n (suc N))) → Untold W u (suc N)
-  extend N u un h q p r = go (ℕ-discrete q (suc N))
+  -- one slot more, which says something of u only after `lag` listed ones
+  pub extend : (N u : ℕ) → Untold W u N → ((d : ℕ) → u + d ≡ N → lag ≤ sum (lst W) (suc u) d → lst W (suc N) ≤ E (suc N) .failures + num (E u .missed (sender n (suc N)))) → Untold W u (suc N)
+  extend N u un h q d y r past = go (ℕ-discrete q (suc N))
     where
       go : Dec (q ≡ suc N) → lst W q ≤ E q .failures + num (E u .missed (sender n q))
-      go (yes e) = rw e h
-      go (no e) = un q p (omega arith)
+      go (yes x) = rw x (h d (omega arith) past)
+      go (no x) = un q d y (omega arith) past
 
   pub missed-failure : (t i : ℕ) → E t .missed i ≡ true → 1 ≤ i → i ≤ n → 1 ≤ E t .failures
   missed-failure t i m h l =
@@ -136,11 +137,15 @@ module _ (W : World) where
           (λ p. omega (arith, missed-failure (suc N) i (h .missing q p d .1) i-pos i-le, num-le (E (suc N) .listed)))
           (λ p. omega (arith, fair (suc N) .unsent p lT, num-le (E (suc N) .listed)))
 
+      -- one slot more
+      extended : Untold W u N → (lag ≤ sum (lst W) (suc u) e → lst W (suc N) ≤ E (suc N) .failures + num (E u .missed s)) → Untold W u (suc N)
+      extended un f = extend N u un (λ d y past. let c : d ≡ e = omega arith in f (rw c at past))
+
       -- the bit of its sender, where no member told it
-      said-of : has L (sender n u) ≡ true → Untold W u N → Sponsored W N L u
-      said-of on un =
+      said-of : has L (sender n u) ≡ true → Untold W u N → lag ≤ sum (lst W) (suc u) e → Sponsored W N L u
+      said-of on un past =
           let un′ : Untold W u (u + e) = rw ago un in
-          sponsored-since W N L (B .late) (B .kept) (B .enough) u e ago l on (told-in-time W u e (omega (arith, B .late)) (omega arith) un′)
+          sponsored-since W N L (B .late) (B .kept) (B .enough) u e ago l on past (told-in-time W u e (omega (arith, B .late)) (omega arith) un′)
 
       -- ---- it was not sent
 
@@ -156,8 +161,8 @@ module _ (W : World) where
         not-told p t = no-both (told-mark (sender n u) (says p) t) (sender-off (says p))
 
         -- its sender, where it hears this slot, hears a no
-        denial : isHeard r ≡ true → i ≡ sender n u → Untold W u N → Told false s (bitsHeard r) v (v .own) (sponsorsIn v)
-        denial p y un = go (says p) (said-of still un)
+        denial : isHeard r ≡ true → i ≡ sender n u → Untold W u N → lag ≤ sum (lst W) (suc u) e → Told false s (bitsHeard r) v (v .own) (sponsorsIn v)
+        denial p y un past = go (says p) (said-of still un past)
           where
             still : has L (sender n u) ≡ true
             still =
@@ -176,7 +181,7 @@ module _ (W : World) where
         still-lost = record { on = λ y. older (on-before s v r mute (sender n u) (sender-range n n-pos u .0) (sender-most W u) ne y); unsaid = λ y. not-true (yesAfter s r v) (λ a. said y (yes-before s v r a)) }
           where
             kept : (i ≡ sender n u) × Untold W u N → (isHeard r ≡ true → sender n u ≡ v .own → v .«yes_heard» ≡ false → Told false s (bitsHeard r) v (v .own) (sponsorsIn v) → ⊥) → (i ≡ sender n u) × Untold W u (suc N)
-            kept (y, un) f = (y, extend N u un (by-cases (isHeard r) (λ p. absurd (f p (sym y ∙ sym vo) (was .unsaid y) (denial p y un))) (λ p. not-heard (λ c. ne (sym c ∙ y)) p)))
+            kept (y, un) f = (y, extended un (λ past. by-cases (isHeard r) (λ p. absurd (f p (sym y ∙ sym vo) (was .unsaid y) (denial p y un past))) (λ p. not-heard (λ c. ne (sym c ∙ y)) p)))
 
             older : WasOn s r v (sender n u) → (i ≡ sender n u) × Untold W u (suc N)
             older o = two (o .was)
@@ -192,8 +197,8 @@ module _ (W : World) where
       -- ---- it was sent
 
       module _ (sent : E u .sent ≡ true) (on : has L (sender n u) ≡ true) where
-        untold-after : (isHeard r ≡ true → Told true s (bitsHeard r) v (sender n u) (sponsorsIn v) → ⊥) → Off W N i u v → lst W (suc N) ≤ E (suc N) .failures + num (E u .missed s)
-        untold-after nt o = two (ℕ-discrete i s)
+        untold-after : (isHeard r ≡ true → Told true s (bitsHeard r) v (sender n u) (sponsorsIn v) → ⊥) → Off W N i u v → lag ≤ sum (lst W) (suc u) e → lst W (suc N) ≤ E (suc N) .failures + num (E u .missed s)
+        untold-after nt o past = two (ℕ-discrete i s)
           where
             own-case : i ≡ s → (E u .missed i ≡ true) ⊎ (i ≡ sender n u) → lst W (suc N) ≤ E (suc N) .failures + num (E u .missed s)
             own-case c (inl p) = missed-it (rw c at p)
@@ -207,7 +212,7 @@ module _ (W : World) where
 
             two : Dec (i ≡ s) → lst W (suc N) ≤ E (suc N) .failures + num (E u .missed s)
             two (yes c) = own-case c (o .who)
-            two (no c) = by-cases (isHeard r) (λ p. heard-with p (says p) (said-of on (o .untold))) (λ p. not-heard c p)
+            two (no c) = by-cases (isHeard r) (λ p. heard-with p (says p) (said-of on (o .untold) past)) (λ p. not-heard c p)
 
         still-off : has (marksAfter s r v) (sender n u) ≡ false → Off W (suc N) i u v
         still-off off = go (off-before s v r mute (sender n u) (sender-range n n-pos u .0) (sender-most W u) ne off)
@@ -215,7 +220,7 @@ module _ (W : World) where
             go : WasOff s r v (sender n u) → Off W (suc N) i u v
             go (unmarked f nt) =
                 let o : Off W N i u v = iv .marks-on u e ago (omega arith) sent on f in
-                record { member = o .member; listed = o .listed; who = o .who; untold = extend N u (o .untold) (untold-after nt o) }
+                record { member = o .member; listed = o .listed; who = o .who; untold = extended (o .untold) (untold-after nt o) }
             go (denied p own t) = said-no (says p)
               where
                 me : i ≡ sender n u
@@ -228,13 +233,13 @@ module _ (W : World) where
                       member = not-false (isMember (v .state)) (λ f. no-both (ap (has L) me ∙ on) (iv .own-out f));
                       listed = o .listed;
                       who = inr me;
-                      untold = extend N u (o .untold) (by-sender (o .who));
+                      untold = extended (o .untold) (λ past. by-sender (o .who));
                     }
 
     -- ---- this slot, and an earlier one
 
     vacuous : (u : ℕ) → u ≡ suc N → Untold W u (suc N)
-    vacuous u y t a b = let f : ⊥ = omega arith in absurd f
+    vacuous u y t d a b past = let f : ⊥ = omega arith in absurd f
 
     other-own : i ≢ s → s ≢ v .own
     other-own d e = d (sym (e ∙ vo))

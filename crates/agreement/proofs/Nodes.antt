@@ -40,7 +40,7 @@ use Rattle.agreement.proofs.Again.{second, Once, once, shrunk}
 
 module _ (W : World) where
   open World W using (cable, k-two, k-lt, E)
-  open Cable cable using (n, k)
+  open Cable cable using (n, k, lag)
 
   pub record NodeInv (N L i : ℕ) (v : Node) : Type 0 where
     pub cable-is : v .cable ≡ cable
@@ -99,12 +99,12 @@ module _ (W : World) where
   }
 
   -- a listening node
-  pub listening-after : (N L L′ i : ℕ) → n ≤ N → 1 ≤ i → K W (suc N) L′ → K′ W (suc N) → L′ < 2 ^ n → (v : Node) → NodeInv N L i v → isListening (v .state) ≡ true
+  pub listening-after : (N L L′ i : ℕ) → n ≤ N → 1 ≤ i → K W (suc N) L′ → k + lag < size n L′ → K′ W (suc N) → L′ < 2 ^ n → (v : Node) → NodeInv N L i v → isListening (v .state) ≡ true
       → (r : Reading) → isHeard r ≡ E (suc N) .sent → (i ≡ sender n (suc N) → isHeard r ≡ false)
       → (E (suc N) .sent ≡ true → E (suc N) .listed ≡ false → bitsHeard r ≡ 0)
       → NodeInv (suc N) L′ i (listeningBy (sender n (suc N)) r (counted v))
-  listening-after N L L′ i late i-pos κ κ′ small v nv li r hq own kb =
-      go _ (listening-law W N i late (counted v) (counted-listening N i v (nv .listen li)) r hq own kb (nv .cable-is) i-pos L′ κ κ′ small)
+  listening-after N L L′ i late i-pos κ enough κ′ small v nv li r hq own kb =
+      go _ (listening-law W N i late (counted v) (counted-listening N i v (nv .listen li)) r hq own kb (nv .cable-is) i-pos L′ κ enough κ′ small)
     where
       go : (x : Node) → Hearkened W N i late (counted v) (counted-listening N i v (nv .listen li)) r hq own kb L′ x → NodeInv (suc N) L′ i x
       go x (on l e q) = record {
@@ -207,15 +207,15 @@ module _ (W : World) where
             ∙ ap (cond (readReturn r (counted v)) (leave MissedReturn (counted v))) (ap (λ (x : ℕ). departing x s (readMarked s r (counted v))) z ∙ once W S T o (n - 2))
             ∙ sym (is-inside 1 tr)
 
-        -- where a second leaves, k members are left at the most
-        slot-shrunk : E (D .u) .sent ≡ false → E (second W S .u) .sent ≡ false → isMember (slotByCases n s r (counted v) .state) ≡ true → size n (slotByCases n s r (counted v) .set) ≤ k
+        -- where a second leaves, k + lag members are left at the most
+        slot-shrunk : E (D .u) .sent ≡ false → E (second W S .u) .sent ≡ false → isMember (slotByCases n s r (counted v) .state) ≡ true → size n (slotByCases n s r (counted v) .set) ≤ k + lag
         unfolding insideSlot
         slot-shrunk p o = subst Small (sym (is-inside n tr)) (choose Small (readReturn r (counted v)) (leave MissedReturn (counted v)) (departing n s (readMarked s r (counted v)))
             (λ _ q. absurd (no-both (member-tracks (leave MissedReturn (counted v) .state) q) (gone-not (counted v) (leave MissedReturn (counted v)) (leave-law MissedReturn (counted v)))))
             (λ _. subst (λ (x : ℕ). Small (departing x s (readMarked s r (counted v)))) (sym z) (λ q. shrunk W S T p o (n - 2) (member-tracks (departing (suc (suc (n - 2))) s (readMarked s r (counted v)) .state) q))))
           where
             Small : Node → Type 0
-            Small x = isMember (x .state) ≡ true → size n (x .set) ≤ k
+            Small x = isMember (x .state) ≡ true → size n (x .set) ≤ k + lag
 
             z : n ≡ suc (suc (n - 2))
             z = omega (arith, k-two, k-lt)
@@ -223,16 +223,16 @@ module _ (W : World) where
       pub read-once : Once W S → readIn n (v .state) s r (counted v) ≡ readIn 1 (v .state) s r (counted v)
       read-once o = as-many n 1 s r v (λ tr. slot-once tr o)
 
-      pub read-shrunk : E (D .u) .sent ≡ false → E (second W S .u) .sent ≡ false → isMember (readIn n (v .state) s r (counted v) .state) ≡ true → size n (readIn n (v .state) s r (counted v) .set) ≤ k
-      read-shrunk p o = by-state (λ (x : Node). isMember (x .state) ≡ true → size n (x .set) ≤ k) v n s r
+      pub read-shrunk : E (D .u) .sent ≡ false → E (second W S .u) .sent ≡ false → isMember (readIn n (v .state) s r (counted v) .state) ≡ true → size n (readIn n (v .state) s r (counted v) .set) ≤ k + lag
+      read-shrunk p o = by-state (λ (x : Node). isMember (x .state) ≡ true → size n (x .set) ≤ k + lag) v n s r
           (λ tr. slot-shrunk tr p o)
           (λ li q. absurd (no-both q (listening-not-member s r (counted v) li)))
           (λ c e q. absurd (false≢true (sym (ap isMember e) ∙ q)))
 
-      pub listed-after : (L′ : ℕ) → Next W S L′ → K W (suc N) L′ → K′ W (suc N) → L′ < 2 ^ n → NodeInv (suc N) L′ i (readIn 1 (v .state) s r (counted v))
-      listed-after L′ nx κ κ′ small = by-state (NodeInv (suc N) L′ i) v 1 s r
+      pub listed-after : (L′ : ℕ) → Next W S L′ → K W (suc N) L′ → k + lag < size n L′ → K′ W (suc N) → L′ < 2 ^ n → NodeInv (suc N) L′ i (readIn 1 (v .state) s r (counted v))
+      listed-after L′ nx κ enough κ′ small = by-state (NodeInv (suc N) L′ i) v 1 s r
           (λ tr. tracking-after tr L′ nx)
-          (λ li. listening-after N L L′ i (B .late) i-pos κ κ′ small v nv li r (h .listening li) (h .own) (λ _ u. absurd (no-both lT u)))
+          (λ li. listening-after N L L′ i (B .late) i-pos κ enough κ′ small v nv li r (h .listening li) (h .own) (λ _ u. absurd (no-both lT u)))
           (λ c e. out-after N L L′ i v nv c e)
 
       -- the list after the slot, as a member-state node has it
@@ -272,5 +272,5 @@ module _ (W : World) where
     pub outside-after : K W (suc N) L → K′ W (suc N) → L < 2 ^ n → NodeInv (suc N) L i (readIn 1 (v .state) (sender n (suc N)) r (counted v))
     outside-after κ κ′ small = by-state (NodeInv (suc N) L i) v 1 (sender n (suc N)) r
         (λ tr. rw (is-outside tr) (finish N L L i v _ nv (outside-slot tr .0) (outside-slot tr .1)))
-        (λ li. listening-after N L L i (B .late) i-pos κ κ′ small v nv li r (h .listening li) (h .own) (λ q _. knock-bits q))
+        (λ li. listening-after N L L i (B .late) i-pos κ (B .enough) κ′ small v nv li r (h .listening li) (h .own) (λ q _. knock-bits q))
         (λ c e. out-after N L L i v nv c e)

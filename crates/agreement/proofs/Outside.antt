@@ -48,10 +48,10 @@ module _ (W : World) where
     s = sender n (suc N)
 
     free : (u : ℕ) → Untold W u N → Untold W u (suc N)
-    free u un = extend W N u un (omega (arith, num-isnt lT))
+    free u un = extend W N u un (λ _ _ _. omega (arith, num-isnt lT))
 
     vacuous : Untold W (suc N) (suc N)
-    vacuous t a b = let f : ⊥ = omega arith in absurd f
+    vacuous t d a b past = let f : ⊥ = omega arith in absurd f
 
     off-after : (u e : ℕ) → u + e ≡ suc N → e < n → E u .listed ≡ true → E u .sent ≡ false → Lost W (suc N) i u (v .present) (v .«yes_heard»)
     off-after u zero z l p q = let y : u ≡ suc N = omega arith in absurd (no-both (rw y at p) lT)

@@ -149,7 +149,7 @@ module _ (W : World) where
 
       -- the entry of this slot keeps those who missed w untold
       still-untold : (w : ℕ) → Untold W w N → (E (suc N) .sent ≡ true → (E w .missed s ≡ true) ⊎ (1 ≤ E (suc N) .failures)) → Untold W w (suc N)
-      still-untold w un f = extend W N w un (by-cases (E (suc N) .sent) (λ p. go (f p)) (λ p. omega (arith, fair (suc N) .unsent p lT, num-le (E (suc N) .listed))))
+      still-untold w un f = extend W N w un (λ _ _ _. by-cases (E (suc N) .sent) (λ p. go (f p)) (λ p. omega (arith, fair (suc N) .unsent p lT, num-le (E (suc N) .listed))))
         where
           go : (E w .missed s ≡ true) ⊎ (1 ≤ E (suc N) .failures) → lst W (suc N) ≤ E (suc N) .failures + num (E w .missed s)
           go (inl p) = omega (arith, num-is p, num-le (E (suc N) .listed))

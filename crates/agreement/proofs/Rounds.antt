@@ -21,7 +21,7 @@ use Rattle.agreement.proofs.Join.{A, Next, plain, grown}
 
 module _ (W : World) where
   open World W using (cable, n-pos, E)
-  open Cable cable using (n, k)
+  open Cable cable using (n, k, lag)
 
   -- K': the last slot but one of a listed sender was sent
   abbrev pub K′ : ℕ → Type 0
@@ -40,7 +40,7 @@ module _ (W : World) where
       go : (u d : ℕ) → u + d ≡ suc (S .N) → d < n → Dec (u ≡ w) → KFact W (with a (sender n w)) u d
       go u d z h (yes y) =
           let x : d ≡ suc e = omega arith in
-          let c : k ≤ sum (lst W) (suc u) d = rw (y, x) (J .since) in
+          let c : k + lag ≤ sum (lst W) (suc u) d = rw (y, x) (J .since) in
           record {
             spoke = λ p. absurd (no-both p (rw y (J .unlisted)));
             waits = λ p. absurd (no-both p (rw y (J .unlisted)));

@@ -49,10 +49,10 @@ use Rattle.agreement.proofs.Reached.{hear, hear-message, unheard-bits, 
 
 module _ (W : World) where
   open World W using (cable, n-pos, n-most, k-lt, E)
-  open Cable cable using (n, k)
+  open Cable cable using (n, k, lag)
 
   module _ (N L : ℕ) (t : Table) (lost : Bool) (missed : ℕ) (inv : TableInv W N L t) (eq : E (suc N) ≡ pastOf lost missed t)
-      (enough : k + 1 ≤ size n (listOf t)) (hears : AllHear n (slot lost missed 64) t)
+      (enough : k + (1 + lag) ≤ size n (listOf t)) (hears : AllHear n (slot lost missed 64) t)
       (good : (i : ℕ) → 1 ≤ i → i ≤ n → sound (recordOf t i) ≡ true) (below : slotsOf t < limit) where
     abbrev pub s : ℕ
     s = sender n (suc N)
@@ -226,15 +226,15 @@ module _ (W : World) where
       abbrev pub S : ListedSlot W
       S = record { N = N; L = L; B = begins; lT = listed-is ∙ onL; onL = onL; D = decision W N L (inv .late) (inv .kept) (begins .enough) }
 
-      -- in a slot that leaves k + 1 on the list nobody leaves but the member that is decided first
-      pub leaves-once : k + 1 ≤ size n (listOf after) → Once W S
+      -- in a slot that leaves k + 1 and the lag on the list nobody leaves but the member that is decided first
+      pub leaves-once : k + (1 + lag) ≤ size n (listOf after) → Once W S
       leaves-once ends = by-cases (E (S .D .u) .sent) (λ p. inl p) (λ p. by-cases (E (second W S .u) .sent) (λ q. inr q) (λ q. absurd (too-few p q (witness W after len-after (omega arith)))))
         where
           too-few : E (S .D .u) .sent ≡ false → E (second W S .u) .sent ≡ false → Witness W after → ⊥
           too-few p q x =
               let e : recordOf after (x .i) ≡ readIn n (recordOf t (x .i) .state) s (hd (x .i)) (counted (recordOf t (x .i))) = node-after (x .i) (x .pos) (x .le) in
-              let small : size n (recordOf after (x .i) .set) ≤ k
-              = subst (λ (y : Node). isMember (y .state) ≡ true → size n (y .set) ≤ k) (sym e)
+              let small : size n (recordOf after (x .i) .set) ≤ k + lag
+              = subst (λ (y : Node). isMember (y .state) ≡ true → size n (y .set) ≤ k + lag) (sym e)
               (read-shrunk W S (hd (x .i)) (says onL (x .i)) (x .i) (x .pos) (x .le) (recordOf t (x .i)) (inv .nodes (x .i) (x .pos) (x .le)) (hears-any (x .i) (x .pos) (x .le)) p q)
               (x .member) in
               omega (arith, ap (size n) (x .its))
@@ -243,7 +243,7 @@ module _ (W : World) where
       pub node-once : Once W S → (i : ℕ) → 1 ≤ i → i ≤ n → recordOf (tableAfterSlot lost missed t) i ≡ readIn 1 (recordOf t i .state) s (hd i) (counted (recordOf t i))
       node-once o i h l = node-after i h l ∙ read-once W S (hd i) (says onL i) i h l (recordOf t i) (inv .nodes i h l) (hears-any i h l) o
 
-      listed-table : k + 1 ≤ size n (listOf after) → TableInv W (suc N) (listOf after) after
+      listed-table : k + (1 + lag) ≤ size n (listOf after) → TableInv W (suc N) (listOf after) after
       listed-table ends = go (leaves-once ends) (witness W after len-after (omega arith))
         where
           go : Once W S → Witness W after → TableInv W (suc N) (listOf after) after
@@ -265,7 +265,7 @@ module _ (W : World) where
                 kept′ = κ′;
                 small = sm;
                 nodes = λ i h l. subst (λ (y : Node). NodeInv W (suc N) (listOf after) i y) (sym (node-once o i h l))
-                    (listed-after W S (hd i) (says onL i) i h l (recordOf t i) (inv .nodes i h l) (hears-any i h l) (listOf after) nx′ κ κ′ sm);
+                    (listed-after W S (hd i) (says onL i) i h l (recordOf t i) (inv .nodes i h l) (hears-any i h l) (listOf after) nx′ κ (omega (arith, ends)) κ′ sm);
               }
                 where
                   κ : K W (suc N) (listOf after)
@@ -313,5 +313,5 @@ module _ (W : World) where
             both a b p q = rw (p, q) refl
 
     -- a slot keeps the invariant
-    pub slot-keeps : k + 1 ≤ size n (listOf (tableAfterSlot lost missed t)) → (L′ : ℕ) × TableInv W (suc N) L′ (tableAfterSlot lost missed t)
+    pub slot-keeps : k + (1 + lag) ≤ size n (listOf (tableAfterSlot lost missed t)) → (L′ : ℕ) × TableInv W (suc N) L′ (tableAfterSlot lost missed t)
     slot-keeps ends = by-cases (has L s) (λ p. (listOf after, listed-table p ends)) (λ p. (L, outside-table p))

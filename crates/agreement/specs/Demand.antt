@@ -51,9 +51,9 @@ onwards (suc left) n set x j =
     let p = next n x in
     cond (has set p && eqb j 1) p (onwards left n set p (j - num (has set p)))
 
--- "The k-th member after that node, round the ring". (With k + 1 members it is another node.)
+-- "The k-th member after that node, round the ring": the j-th. (With j + 1 members it is another node.)
 abbrev pub memberAfter : ℕ → ℕ → ℕ → ℕ → ℕ
-memberAfter n set x k = onwards n n set x k
+memberAfter n set x j = onwards n n set x j
 
 abbrev pub MemberAt : ℕ → Table → ℕ → Type 0
 MemberAt n t i = (1 ≤ i) × (i ≤ n) × (isMember (recordOf t i .state) ≡ true)
@@ -68,15 +68,16 @@ OffAll n t x = (i : ℕ) → MemberAt n t i → has (recordOf t i .set) x ≡ fa
 -- ---- the premises, of a run that gives the table after any of the calls
 
 module _ (cable : Cable) (run : List Call → Table) where
-  open Cable cable using (n, k)
+  open Cable cable using (n, k, lag)
 
   -- What slot u was among the calls.
   abbrev entryAt : List Call → ℕ → Entry
   entryAt cs u = runs.entryOn run cs u
 
-  -- "It keeps k + 1 members if there is such a node and its set holds that many as each slot begins and as it ends." (Where there is none the list is empty.)
+  -- "It keeps k + 1 members if there is such a node and its set holds that many as each slot begins and as it ends", "plus the lag" (document 02, j). (Where there is none
+  -- the list is empty.)
   unfoldable pub KeepsListOn : Call → List Call → Type 0
-  KeepsListOn c cs = isSlot c (run cs) ≡ true → (k + 1 ≤ size n (listOf (run cs))) × (k + 1 ≤ size n (listOf (run (c ∷ cs))))
+  KeepsListOn c cs = isSlot c (run cs) ≡ true → (k + (1 + lag) ≤ size n (listOf (run cs))) × (k + (1 + lag) ≤ size n (listOf (run (c ∷ cs))))
 
   -- "Hears everything", in each slot.
   unfoldable pub HearEverythingOn : Call → List Call → Type 0
@@ -94,7 +95,7 @@ module _ (cable : Cable) (run : List Call → Table) where
 -- ---- of the calls from a start
 
 module _ (cable : Cable) (start : Table) where
-  open Cable cable using (n, k)
+  open Cable cable using (n, k, lag)
 
   -- The table after the calls, and what slot u was among them.
   abbrev tableAfter : List Call → Table
@@ -116,12 +117,12 @@ module _ (cable : Cable) (start : Table) where
   -- ---- the deciding slot
 
   -- Is the call c, made after the calls cs, a slot after slot s "whose sender is the k-th member after that node, round the ring, on the list as that slot
-  -- begins"? That node is the sender of s.
+  -- begins"? With a lag "leaving falls at the (k + lag)-th member after" (j). That node is the sender of s.
   unfoldable pub isDeciding : ℕ → Call → List Call → Bool
   isDeciding s c cs =
       isSlot c (tableAfter cs)
       && (leb s (slotsOf (tableAfter cs))
-      && eqb (memberAfter n (listOf (tableAfter cs)) (sender n s) k) (speaker (tableAfter cs)))
+      && eqb (memberAfter n (listOf (tableAfter cs)) (sender n s) (k + lag)) (speaker (tableAfter cs)))
 
   -- "Its deciding slot is the first" such: has it been?
   unfoldable pub decidingRan : ℕ → List Call → Bool
@@ -163,7 +164,7 @@ module _ (cable : Cable) (start : Table) where
 
 -- ---- demand 3
 
--- For every cable ("n from 3 to 32", "k is from 2 to n - 1") and whatever table of n records was lent to set-up: every sequence of calls from there that keeps
+-- For every cable ("n from 3 to 32", "k is from 2 to n - 1", a lag of 0 or 1, "shown once for both lags") and whatever table of n records was lent to set-up: every sequence of calls from there that keeps
 -- what is assumed has what is claimed.
 unfoldable pub EverySequence : (assumed claimed : Cable → Table → List Call → Type 0) → Type 0
 EverySequence assumed claimed =

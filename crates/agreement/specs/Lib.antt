@@ -1,3 +1,4 @@
 pub mod Demand
 pub mod Distance
 pub mod Repeated
+pub mod Plain

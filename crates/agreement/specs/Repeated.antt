@@ -47,9 +47,9 @@ unfoldable pub onBoth : ℕ → ℕ → ℕ → ℕ
 onBoth n a b = sum (λ x. num (has a x && has b x)) 1 n
 
 -- "Counted between a departure and a joining in the same slot": the nodes that are on the list as the slot begins and as it ends. (Who leaves in it is not on the
--- list as it ends, and who joins is not as it begins.)
+-- list as it ends, and who joins is not as it begins.) With a lag they are k + 1 plus the lag (request j).
 unfoldable pub KeepsBetween : Cable → (List Call → Table) → Call → List Call → Type 0
-KeepsBetween cable run c cs = isSlot c (run cs) ≡ true → cable .k + 1 ≤ onBoth (cable .n) (listOf (run cs)) (listOf (run (c ∷ cs)))
+KeepsBetween cable run c cs = isSlot c (run cs) ≡ true → cable .k + (1 + cable .lag) ≤ onBoth (cable .n) (listOf (run cs)) (listOf (run (c ∷ cs)))
 
 -- The tables at the start and after each call are equal, refused calls included.
 abbrev pub NothingDiffers : Type 0
@@ -59,7 +59,7 @@ NothingDiffers =
     (λ cable start cs. AfterEach (λ before. tableAfter start before ≡ runBefore start before) cs)
 
 -- The same of a sequence that keeps the premises on the run of the rule now. There the clause on the members between is not needed: where a second member leaves, at most
--- k are left, with one that joins.
+-- k and the lag are left, with one that joins.
 abbrev pub NothingDiffersNow : Type 0
 NothingDiffersNow =
     EverySequence

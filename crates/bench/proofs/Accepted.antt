@@ -7,8 +7,9 @@ use lib.ListN.{length}
 use borrow.Author.Tests.{eq-eqb}
 use Rattle.nodeset.specs.Sets.{within}
 use Rattle.ring.specs.declared.Cable.{Cable}
-use Rattle.ring.specs.Ring.{ringSize, sponsorCount, nodeNumber, jobCount}
-use Rattle.ring.proofs.Ranges.{Fits}
+use Rattle.ring.specs.Ring.{cableFits, nodeNumber}
+use Rattle.ring.specs.Answers.{faultOf}
+use Rattle.ring.proofs.Ranges.{Fits, fits-by}
 use Rattle.node.specs.Calls.{isDone}
 use Rattle.node_record.specs.States.{isOut}
 use Rattle.node_record.specs.Soundness.{limit}
@@ -50,11 +51,9 @@ unfolding setUpOf
 start-is cable t f e =
     let n = cable .n in
     let x : Table = startTable cable t in
-    let c₃ : Called = ifPassed (eqb (length t) n) 4 t (done x) in
-    let c₂ : Called = ifPassed (jobCount (cable .m)) 14 t c₃ in
-    let c₁ : Called = ifPassed (sponsorCount cable) 2 t c₂ in
-    leaves-if (ringSize n) 1 t x c₁ (leaves-if (sponsorCount cable) 2 t x c₂ (leaves-if (jobCount (cable .m)) 14 t x c₃ (leaves-if (eqb (length t) n) 4 t x (done x) (leaves-done t x)))) .where-done
-    (done-past (ringSize n) 1 t c₁ (f .ring) ∙ done-past (sponsorCount cable) 2 t c₂ (f .sponsors) ∙ done-past (jobCount (cable .m)) 14 t c₃ (f .jobs) ∙ done-past (eqb (length t) n) 4 t (done x) (eq-eqb (length t) n e))
+    let c₁ : Called = ifPassed (eqb (length t) n) 4 t (done x) in
+    leaves-if (cableFits cable) (faultOf cable) t x c₁ (leaves-if (eqb (length t) n) 4 t x (done x) (leaves-done t x)) .where-done
+    (done-past (cableFits cable) (faultOf cable) t c₁ (fits-by cable f) ∙ done-past (eqb (length t) n) 4 t (done x) (eq-eqb (length t) n e))
 
 -- ---- slot
 

@@ -9,7 +9,7 @@ use lib.Pow.{pow-pos}
 use borrow.Author.Tests.{lt-ltb}
 use Rattle.nodeset.specs.Sets.{within}
 use Rattle.nodeset.proofs.Tests.{by-cases}
-use Rattle.ring.specs.Ring.{ringSize, sponsorCount, jobCount, nodeNumber}
+use Rattle.ring.specs.Ring.{cableFits, nodeNumber}
 use Rattle.message.specs.Message.{jobsWithin}
 use Rattle.node_record.specs.Soundness.{limit}
 use Rattle.node.specs.Calls.{isDone}
@@ -24,12 +24,8 @@ use Rattle.bench.specs.Kept.{setUpWith, slotWith, offWith, OnlyRefuses}
 pub only-refuses : OnlyRefuses
 unfolding setUpWith slotWith offWith setUpOf slotGiven offOf
 only-refuses (command.SetUp cable) room ledger counts t =
-    by-cases (ringSize (cable .n))
-    (λ a. by-cases (sponsorCount cable)
-    (λ b. by-cases (jobCount (cable .m))
-    (λ c. by-cases (eqb (length counts) (cable .n)) (λ d. inl (rw (a, b, c, d) refl)) (λ d. inr (inr (rw (a, b, c, d) refl))))
-    (λ c. inl (rw (a, b, c) refl)))
-    (λ b. inl (rw (a, b) refl)))
+    by-cases (cableFits cable)
+    (λ a. by-cases (eqb (length counts) (cable .n)) (λ d. inl (rw (a, d) refl)) (λ d. inr (inr (rw (a, d) refl))))
     (λ a. inl (rw a refl))
 only-refuses (command.Off a) room ledger counts t =
     by-cases (tableSound t)

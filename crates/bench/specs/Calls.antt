@@ -9,7 +9,8 @@ use lib.ListN.{length}
 use Rattle.refusal.specs.Causes.{cause}
 use Rattle.nodeset.specs.Sets.{has, within, distance}
 use Rattle.ring.specs.declared.Cable.{Cable}
-use Rattle.ring.specs.Ring.{ringSize, sponsorCount, jobCount, nodeNumber}
+use Rattle.ring.specs.Ring.{cableFits, nodeNumber}
+use Rattle.ring.specs.Answers.{faultOf}
 use Rattle.message.specs.declared.Reading.{Reading}
 use Rattle.message.specs.declared.Reading.the-variants as reading
 use Rattle.node_record.specs.States.{isMember, isOut}
@@ -38,7 +39,7 @@ abbrev pub ifPassed : Bool → ℕ → Table → Called → Called
 ifPassed true number t called = called
 ifPassed false number t called = record { table = t; answer = Refused (cause number) }
 
--- ---- set-up: 1, 2, 14 and 4
+-- ---- set-up: 1, 16, 2, 14 and 4
 
 -- "All start as members, set full, all marks on, returning 0."
 abbrev pub startTable : Cable → Table → Table
@@ -46,11 +47,9 @@ startTable cable t = each (λ i v. starting cable i) t
 
 unfoldable pub setUpOf : Cable → Table → Called
 setUpOf cable t =
-    ifPassed (ringSize (cable .n)) 1 t
-    (ifPassed (sponsorCount cable) 2 t
-    (ifPassed (jobCount (cable .m)) 14 t
+    ifPassed (cableFits cable) (faultOf cable) t
     (ifPassed (eqb (length t) (cable .n)) 4 t
-    (done (startTable cable t)))))
+    (done (startTable cable t)))
 
 -- ---- slot: 4, 3, 5 and 9
 

@@ -10,7 +10,8 @@ use lib.ListN.{length}
 use Rattle.refusal.specs.Causes.{cause}
 use Rattle.nodeset.specs.Sets.{within}
 use Rattle.ring.specs.declared.Cable.{Cable}
-use Rattle.ring.specs.Ring.{ringSize, sponsorCount, jobCount, nodeNumber}
+use Rattle.ring.specs.Ring.{cableFits, nodeNumber}
+use Rattle.ring.specs.Answers.{faultOf}
 use Rattle.node_reports.specs.Reports.{Counts, noReportsAt}
 use Rattle.node.specs.declared.Answer.{Answer}
 use Rattle.node.specs.declared.Answer.the-variants as answer
@@ -23,15 +24,13 @@ use Rattle.bench.specs.Reports.{reportsFit, reportsAfterSlot}
 use Rattle.bench.specs.Outcomes.{slotGiven, calledOf, endedBy, bytesBy}
 use Rattle.bench.specs.Ledger.{Ledger, ledgerFits, ledgerAfter}
 
--- ---- set-up: 1, 2, 14, 4, then what set-up without counts answers (4)
+-- ---- set-up: 1, 16, 2, 14, 4, then what set-up without counts answers (4)
 
 unfoldable pub setUpWith : Cable → List Counts → Table → Called
 setUpWith cable counts t =
-    ifPassed (ringSize (cable .n)) 1 t
-    (ifPassed (sponsorCount cable) 2 t
-    (ifPassed (jobCount (cable .m)) 14 t
+    ifPassed (cableFits cable) (faultOf cable) t
     (ifPassed (eqb (length counts) (cable .n)) 4 t
-    (setUpOf cable t))))
+    (setUpOf cable t))
 
 -- ---- slot: 4, 3, 13, then what the slot without them answers (5, 8 and 9)
 

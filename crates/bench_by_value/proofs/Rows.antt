@@ -27,6 +27,7 @@ use denote.Slice.{sliceVal, MutSlice, finally}
 use denote.Lend.{Held, lends-slice, slice-back}
 use denote.Steps.{peeks}
 use denote.Struct.Laws as LL
+use Rattle.bench_walks.proofs.Turns.{rowBytes}
 use Rattle.node_record.specs.declared.Node.{Node}
 use Rattle.node_record.proofs.Node as N
 use Rattle.node_record.proofs.Node.Laws as N′
@@ -57,8 +58,7 @@ val ys = arrayVal (map (LL.val N.the-type N′.the-laws) ys)
 abbrev pub vals : List Node → List Val
 vals = array-vals (LL.vals N.the-type N′.the-laws)
 
--- 64 bytes a record
-roomy : (n : ℕ) → n ≤ 32 → (n < 2 ^ 64) × (n * 64 < 2 ^ 63)
+roomy : (n : ℕ) → n ≤ 32 → (n < 2 ^ 64) × (n * rowBytes < 2 ^ 63)
 roomy n few = (omega (arith, few), omega (arith, few))
 
 pub rows-tells : Tells R (Is R) vals

@@ -12,14 +12,16 @@ use lib.ListN.{length}
 use lib.Pow.{pow-mono}
 use borrow.Author.Tests.{eqb-true, ltb-true, le-leb, eq-eqb, ne-eqb}
 use Rattle.refusal.specs.declared.Refusal.{Refusal}
-use Rattle.refusal.specs.declared.Refusal.the-variants.{RingSize, SponsorCount, NodeNumber, Unsound, SlotLimit, SpareBit, OutputShort, NotOut, LedgerUnfit, JobCount}
+use Rattle.refusal.specs.declared.Refusal.the-variants.{NodeNumber, Unsound, SlotLimit, SpareBit, OutputShort, NotOut, LedgerUnfit}
+use Rattle.refusal.specs.Causes.{cause}
 use Rattle.nodeset.specs.Sets.{has, without, minus, within}
 use Rattle.nodeset.proofs.Tests.{both, all}
 use Rattle.nodeset.proofs.Bits.{has-none}
 use Rattle.nodeset.proofs.Laws.{has-without, has-without-other}
 use Rattle.nodeset.proofs.Subsets.{has-minus}
 use Rattle.ring.specs.declared.Cable.{Cable}
-use Rattle.ring.specs.Ring.{ringSize, sponsorCount, jobCount, nodeNumber, sender}
+use Rattle.ring.specs.Ring.{cableFits, nodeNumber, sender}
+use Rattle.ring.specs.Answers.{faultOf}
 use Rattle.ring.proofs.Ranges.{ring-size}
 use Rattle.bench.proofs.Reports.{next-sender}
 use Rattle.node_reports.specs.Reports.{Counts, noReportsAt, countsWith, heardFrom, heardBy}
@@ -163,11 +165,9 @@ module _ (room : ℕ) (fits : Bool) (t : Table) (counts : List Counts) where
   unfolding orderFor
   set-up-reported cable =
       let c : Command = command.SetUp cable in
-      reported-if c t counts (ringSize (cable .n)) RingSize _ (λ _.
-      reported-if c t counts (sponsorCount cable) SponsorCount _ (λ _.
-      reported-if c t counts (jobCount (cable .m)) JobCount _ (λ _.
+      reported-if c t counts (cableFits cable) (cause (faultOf cable)) _ (λ _.
       reported-if c t counts (eqb (length counts) (cable .n)) Unsound _ (λ _.
-      reported-if c t counts (eqb (length t) (cable .n)) Unsound (order.Start cable) (λ _. ap (λ (l : List Counts). noReportsAt (length l)) (nobody-hears _ _ counts))))))
+      reported-if c t counts (eqb (length t) (cable .n)) Unsound (order.Start cable) (λ _. ap (λ (l : List Counts). noReportsAt (length l)) (nobody-hears _ _ counts))))
 
   off-reported : (a : ℕ) → Reported (command.Off a) t counts (ordered (command.Off a))
   unfolding orderFor

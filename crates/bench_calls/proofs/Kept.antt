@@ -8,10 +8,12 @@ use lib.Dec.{eqb, leb, ltb}
 use lib.ListN.{length, take}
 use lib.Seq.{take-length}
 use Rattle.refusal.specs.declared.Refusal.{Refusal}
-use Rattle.refusal.specs.declared.Refusal.the-variants.{RingSize, SponsorCount, NodeNumber, Unsound, SlotLimit, OutputShort, NotOut, LedgerUnfit, JobCount, SpareBit}
+use Rattle.refusal.specs.declared.Refusal.the-variants.{NodeNumber, Unsound, SlotLimit, OutputShort, NotOut, LedgerUnfit, SpareBit}
+use Rattle.refusal.specs.Causes.{cause}
 use Rattle.nodeset.specs.Sets.{has, within}
 use Rattle.nodeset.proofs.Tests.{by-cases}
-use Rattle.ring.specs.Ring.{ringSize, sponsorCount, jobCount, nodeNumber}
+use Rattle.ring.specs.Ring.{cableFits, nodeNumber}
+use Rattle.ring.specs.Answers.{faultOf}
 use Rattle.ring.proofs.Ranges.{ring-size}
 use Rattle.ring.specs.declared.Cable.{Cable}
 use Rattle.bench_calls.proofs.Counted.{reported-told}
@@ -96,11 +98,9 @@ entered-if (command.Look lost) t ledger false cause o h = refl
 set-up-entered : (cable : Cable) (room : ℕ) (reports : Bool) (t : Table) (ledger : Ledger) → Entered (command.SetUp cable) t ledger (orderFor (command.SetUp cable) room (record { ledger = fitting t ledger; reports = reports }) t)
 unfolding orderFor
 set-up-entered cable room reports t ledger =
-    entered-if (command.SetUp cable) t ledger (ringSize (cable .n)) RingSize _ (λ _.
-    entered-if (command.SetUp cable) t ledger (sponsorCount cable) SponsorCount _ (λ _.
-    entered-if (command.SetUp cable) t ledger (jobCount (cable .m)) JobCount _ (λ _.
+    entered-if (command.SetUp cable) t ledger (cableFits cable) (cause (faultOf cable)) _ (λ _.
     entered-if (command.SetUp cable) t ledger reports Unsound _ (λ _.
-    entered-if (command.SetUp cable) t ledger (eqb (length t) (cable .n)) Unsound (order.Start cable) (λ _. refl)))))
+    entered-if (command.SetUp cable) t ledger (eqb (length t) (cable .n)) Unsound (order.Start cable) (λ _. refl)))
 
 off-entered : (a room : ℕ) (reports : Bool) (t : Table) (ledger : Ledger) → Entered (command.Off a) t ledger (orderFor (command.Off a) room (record { ledger = fitting t ledger; reports = reports }) t)
 unfolding orderFor

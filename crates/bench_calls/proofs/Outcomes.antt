@@ -10,12 +10,14 @@ use lib.ListN.{length, take}
 use lib.Seq.{take-length}
 use borrow.Author.Tests.{eqb-true, ltb-true}
 use Rattle.refusal.specs.declared.Refusal.{Refusal}
-use Rattle.refusal.specs.declared.Refusal.the-variants.{RingSize, SponsorCount, NodeNumber, Unsound, SlotLimit, OutputShort, NotOut, LedgerUnfit, JobCount, SpareBit}
+use Rattle.refusal.specs.declared.Refusal.the-variants.{NodeNumber, Unsound, SlotLimit, OutputShort, NotOut, LedgerUnfit, SpareBit}
+use Rattle.refusal.specs.Causes.{cause}
 use Rattle.nodeset.specs.Sets.{has, within, distance}
 use Rattle.nodeset.specs.Sums.{num}
 use Rattle.nodeset.proofs.Tests.{by-cases, both, all, chosen, otherwise}
 use Rattle.nodeset.proofs.Counts.{distance-same}
-use Rattle.ring.specs.Ring.{ringSize, sponsorCount, jobCount, nodeNumber}
+use Rattle.ring.specs.Ring.{cableFits, nodeNumber}
+use Rattle.ring.specs.Answers.{faultOf}
 use Rattle.ring.proofs.Ranges.{ring-size}
 use Rattle.ring.specs.declared.Cable.{Cable}
 use Rattle.message.specs.Message.{jobsWithin}
@@ -246,11 +248,9 @@ quiet-if false cause o h list apart = refl
 set-up-quiet : (cable : Cable) (room : ℕ) (fits : Beside) (t : Table) → Quiet (orderFor (command.SetUp cable) room fits t)
 unfolding orderFor
 set-up-quiet cable room fits t =
-    quiet-if (ringSize (cable .n)) RingSize _
-    (quiet-if (sponsorCount cable) SponsorCount _
-    (quiet-if (jobCount (cable .m)) JobCount _
+    quiet-if (cableFits cable) (cause (faultOf cable)) _
     (quiet-if (fits .reports) Unsound _
-    (quiet-if (eqb (length t) (cable .n)) Unsound (order.Start cable) (λ list apart. refl)))))
+    (quiet-if (eqb (length t) (cable .n)) Unsound (order.Start cable) (λ list apart. refl)))
 
 off-quiet : (a room : ℕ) (fits : Beside) (t : Table) → Quiet (orderFor (command.Off a) room fits t)
 unfolding orderFor

@@ -11,11 +11,13 @@ use lib.ListN.{length, getD, set, take, drop, length-set, length-replicate, leng
 use lib.Seq.{getD-take, take-length}
 use borrow.Author.Tests.{leb-true, le-leb, lt-ltb}
 use Rattle.refusal.specs.declared.Refusal.{Refusal}
-use Rattle.refusal.specs.declared.Refusal.the-variants.{RingSize, SponsorCount, NodeNumber, Unsound, SlotLimit, OutputShort, NotOut, LedgerUnfit, JobCount, SpareBit}
+use Rattle.refusal.specs.declared.Refusal.the-variants.{NodeNumber, Unsound, SlotLimit, OutputShort, NotOut, LedgerUnfit, SpareBit}
+use Rattle.refusal.specs.Causes.{cause}
 use Rattle.nodeset.specs.Sets.{has, within}
 use Rattle.nodeset.proofs.Tests.{by-cases, all, chosen}
 use Rattle.ring.specs.declared.Cable.{Cable}
-use Rattle.ring.specs.Ring.{ringSize, sponsorCount, jobCount, nodeNumber}
+use Rattle.ring.specs.Ring.{cableFits, nodeNumber}
+use Rattle.ring.specs.Answers.{faultOf}
 use Rattle.ring.proofs.Ranges.{ring-size}
 use Rattle.message.specs.Message.{jobsWithin}
 use Rattle.bench_walks.specs.declared.Beside.{Beside}
@@ -397,11 +399,9 @@ silent-written c fits t out h =
 set-up-silent : (cable : Cable) (room : ℕ) (fits : Beside) (t : Table) → Silent (orderFor (command.SetUp cable) room fits t)
 unfolding orderFor
 set-up-silent cable room fits t =
-    silent-if (ringSize (cable .n)) RingSize _
-    (silent-if (sponsorCount cable) SponsorCount _
-    (silent-if (jobCount (cable .m)) JobCount _
+    silent-if (cableFits cable) (cause (faultOf cable)) _
     (silent-if (fits .reports) Unsound _
-    (silent-if (eqb (length t) (cable .n)) Unsound (order.Start cable) (λ m. refl)))))
+    (silent-if (eqb (length t) (cable .n)) Unsound (order.Start cable) (λ m. refl)))
 
 off-silent : (a room : ℕ) (fits : Beside) (t : Table) → Silent (orderFor (command.Off a) room fits t)
 unfolding orderFor

@@ -15,8 +15,9 @@ use Rattle.refusal.specs.Causes.{cause}
 use Rattle.nodeset.specs.Sets.{has, within}
 use Rattle.nodeset.proofs.Tests.{by-cases, chosen}
 use Rattle.ring.specs.declared.Cable.{Cable}
-use Rattle.ring.specs.Ring.{ringSize, sponsorCount, jobCount, nodeNumber, sender}
-use Rattle.ring.proofs.Ranges.{ring-size}
+use Rattle.ring.specs.Ring.{ringSize, cableFits, nodeNumber, sender}
+use Rattle.ring.specs.Answers.{faultOf}
+use Rattle.ring.proofs.Ranges.{ring-size, fitting}
 use Rattle.ring.proofs.Senders.{sender-range}
 use Rattle.bench.specs.Reports.{jobsOn}
 use Rattle.message.specs.Message.{jobsWithin}
@@ -94,7 +95,7 @@ by-place f g h i (v ∷ t) l = ap₂ {C = List Node} (λ w r. w ∷ r) (h i v (o
 -- the call that a command asks for, where ledger and counts fit or not
 abbrev pub calledFit : Command → ℕ → Beside → Table → Called
 calledFit (command.SetUp cable) room fits t =
-    ifPassed (ringSize (cable .n)) 1 t (ifPassed (sponsorCount cable) 2 t (ifPassed (jobCount (cable .m)) 14 t (ifPassed (fits .reports) 4 t (setUpOf cable t))))
+    ifPassed (cableFits cable) (faultOf cable) t (ifPassed (fits .reports) 4 t (setUpOf cable t))
 calledFit (command.Off a) room fits t = ifPassed (tableSound t) 4 t (ifPassed (nodeNumber (nodeCount t) a) 3 t (ifPassed (fits .ledger) 13 t (offOf a t)))
 calledFit (command.Restart a) room fits t = calledOf (command.Restart a) room t
 calledFit (command.Slot lost missed jobs) room fits t =
@@ -162,14 +163,12 @@ restart-called a room fits t =
 set-up-called : (cable : Cable) (room : ℕ) (fits : Beside) (t : Table) → calledBy (orderFor (command.SetUp cable) room fits t) t ≡ calledFit (command.SetUp cable) room fits t
 unfolding orderFor setUpOf carried
 set-up-called cable room fits t =
-    passes {b = ringSize (cable .n)} 1 _ t _ refl (λ ring.
-    passes {b = sponsorCount cable} 2 _ t _ refl (λ sponsors.
-    passes {b = jobCount (cable .m)} 14 _ t _ refl (λ jobs.
+    passes {b = cableFits cable} (faultOf cable) _ t _ refl (λ fit.
     passes {b = fits .reports} 4 _ t _ refl (λ _.
-    passes {b = eqb (length t) (cable .n)} 4 (order.Start cable) t _ refl (λ size. ap done (tables ring size)) ∙ opened ring sponsors jobs))))
+    passes {b = eqb (length t) (cable .n)} 4 (order.Start cable) t _ refl (λ size. ap done (tables (fitting cable fit .ring) size)) ∙ opened fit))
   where
-    opened : ringSize (cable .n) ≡ true → sponsorCount cable ≡ true → jobCount (cable .m) ≡ true → ifPassed (eqb (length t) (cable .n)) 4 t (done (startTable cable t)) ≡ setUpOf cable t
-    opened a b c = rw (a, b, c) refl
+    opened : cableFits cable ≡ true → ifPassed (eqb (length t) (cable .n)) 4 t (done (startTable cable t)) ≡ setUpOf cable t
+    opened a = rw a refl
 
     at-most : ringSize (cable .n) ≡ true → eqb (length t) (cable .n) ≡ true → 0 + length t ≤ 32
     at-most ring size = let r = ring-size (cable .n) ring .1 in let e = eqb-true (length t) (cable .n) size in omega (arith, r, e)
@@ -277,9 +276,7 @@ called-by (command.Look lost) room fits t = look-called lost room fits t
 pub called-fitting : (c : Command) (room : ℕ) (t : Table) → calledFit c room allFit t ≡ calledOf c room t
 unfolding setUpOf slotGiven offOf
 called-fitting (command.SetUp cable) room t =
-    by-cases (ringSize (cable .n))
-    (λ a. by-cases (sponsorCount cable) (λ b. by-cases (jobCount (cable .m)) (λ c. rw (a, b, c) refl) (λ c. rw (a, b, c) refl)) (λ b. rw (a, b) refl))
-    (λ a. rw a refl)
+    by-cases (cableFits cable) (λ a. rw a refl) (λ a. rw a refl)
 called-fitting (command.Off a) room t = by-cases (tableSound t) (λ e. by-cases (nodeNumber (nodeCount t) a) (λ h. rw (e, h) refl) (λ h. rw (e, h) refl)) (λ e. rw e refl)
 called-fitting (command.Restart a) room t = refl
 called-fitting (command.Slot lost missed jobs) room t = by-cases (tableSound t) (λ e. by-cases (within (nodeCount t) missed) (λ h. rw (e, h) refl) (λ h. rw (e, h) refl)) (λ e. rw e refl)

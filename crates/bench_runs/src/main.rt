@@ -13,7 +13,7 @@
 //   C array row job count       this count becomes that; arrays are 0 to 32, rows 0 to 31, jobs 0 to 7,
 //                               and any other leaves all counts; no answer
 //   K array                     the counts of array 0 to 32; any other number stands for array 0
-//   U room n k m                set-up
+//   U room n k m lag            set-up
 //   F room a                    off
 //   R room a                    restart
 //   S room lost missed jobs     one slot
@@ -72,7 +72,7 @@ fn body(letter: u8) -> u8 {
         b'L' => bytes::RECORD,
         b'G' => 24,
         b'C' => 10,
-        b'U' => 12,
+        b'U' => 16,
         b'F' | b'R' => 4,
         b'S' => 6,
         b'Q' => 1,
@@ -101,6 +101,7 @@ fn cable_of(block: &Block) -> Cable {
         n: block::word(block, 0),
         k: block::word(block, 4),
         m: block::word(block, 8),
+        lag: block::word(block, 12),
     }
 }
 

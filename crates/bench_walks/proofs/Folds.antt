@@ -40,7 +40,7 @@ use Rattle.node_record.proofs.Node.Laws as T′
 use Rattle.node.specs.Calls.{noNode}
 use Rattle.bench_walks.specs.Survey.{foldFrom}
 use Rattle.bench_walks.proofs.Partly.{fold-none, fold-next, take-least}
-use Rattle.bench_walks.proofs.Turns.{word, slice, bytes, fits, small, Turn, counts, goes-on, leaves, points}
+use Rattle.bench_walks.proofs.Turns.{word, slice, rowBytes, bytes, fits, small, Turn, counts, goes-on, leaves, points}
 use Rattle.bench_walks.proofs.Calls.{Plain, uint, a-struct, Does, does, does-over, by-slice, of-shr, at, arg, frees, keeping, slice-meets}
 
 -- ---- the MIR
@@ -48,7 +48,7 @@ abbrev turn : Name → Body
 turn step =
     seq (assign (place 7 []) (op2 (lt unsigned) (copy (place 5 [])) (copy (place 3 []))))
     (seq (cond (copy (place 7 [])) skip (exit 1))
-    (seq (assign (place 8 []) (op2 (mul unsigned) (copy (place 5 [])) (int w64 64)))
+    (seq (assign (place 8 []) (op2 (mul unsigned) (copy (place 5 [])) (int w64 rowBytes)))
     (seq (assign (place 9 []) (op2 offset (copy (place 1 (field 0 ∷ []))) (copy (place 8 []))))
     (seq (assign (place 10 []) (rvOpd (copy (place 9 (deref T′.mir ∷ [])))))
     (seq (call step (copy (place 4 []) ∷ copy (place 5 []) ∷ copy (place 10 []) ∷ []) (place 4 []))

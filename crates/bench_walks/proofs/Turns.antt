@@ -1,4 +1,4 @@
--- Steps of a loop `while i < n` over the records of a lent slice, of 64 bytes each. Assumes `Given`.
+-- Steps of a loop `while i < n` over the records of a lent slice. Assumes `Given`.
 --     bytes, fits, small   the bytes before record i, i + 1 and i are each a usize
 --     Turn                 what is shown of a turn b of the loop: it ends in Q, or leaves the loop, the rest of the body runs, and the function returns what Post says
 --     counts               where At i holds when i turns are done: a turn goes from At i to At (i + 1), and from At n it leaves the loop
@@ -35,7 +35,11 @@ word = tyInt w64
 abbrev pub slice : Mutability → Ty
 slice m = sliceTy (tyRef (named 0) m (pointee (T.the-row .written)))
 
-pub bytes : (n i : ℕ) → n * 64 < 2 ^ 63 → i < n → i * 64 < 2 ^ 64
+-- The bytes of a record.
+abbrev pub rowBytes : ℕ
+rowBytes = 72
+
+pub bytes : (n i : ℕ) → n * rowBytes < 2 ^ 63 → i < n → i * rowBytes < 2 ^ 64
 bytes n i h l = omega (arith, h, l)
 
 pub fits : (n i : ℕ) → n < 2 ^ 64 → i < n → i + 1 < 2 ^ 64
@@ -84,9 +88,9 @@ module _ {M : Type 1} {𝓤 : URA M} {H : Heap 𝓤} {A : Atoms 𝓤} where
     leaves t 𝓣 ending Post Q {n = n} ox oy fd k room od =
         step (λ s. assigns t (subst (λ (c : Bool). Rv K W Γ E (op2 (lt unsigned) x y) (vbool c)) (le-ltb n n (le-refl n)) (bin t ox oy tt)) fd (init t k room (tt, tt)) $ leaves-loop t od $ exec t (𝓣 .C) (𝓣 .Λ) E ending (atRet E Post) $ s)
 
-    pub points : K → {C : Calls 𝓤 H} {Λ : Loops 𝓤 H} {q : Post 𝓤 H} {e : Place} {i b o l m : ℕ} {Δ : List (Item 𝓤)} → i * 64 < 2 ^ 64 → Opd K W Γ E x (vint w64 i) → Finds K W Γ E d (word, m, 0) → (T (hasTy word (vint w64 (i * 64))) × WT (vint w64 (i * 64)) → Writes K W Γ word m 0 (vint w64 (i * 64)) Δ)
-        → Opd K W Δ E y (vptr b o) → Opd K W Δ E (copy d) (vint w64 (i * 64)) → Finds K W Δ E e (tyPtr, l, 0) → (k : ℕ) → nth 𝓤 H A k Δ ≡ ‵ (froom tyPtr l 0)
-        → Step K W (put 𝓤 H A k (‵ (fat fullShare tyPtr l 0 (vptr b (place-of 64 o i)))) Δ) (runs C Λ E rest q) Γ (runs C Λ E (seq (assign d (op2 (mul unsigned) x (int w64 64))) (seq (assign e (op2 offset y (copy d))) rest)) q)
+    pub points : K → {C : Calls 𝓤 H} {Λ : Loops 𝓤 H} {q : Post 𝓤 H} {e : Place} {i b o l m : ℕ} {Δ : List (Item 𝓤)} → i * rowBytes < 2 ^ 64 → Opd K W Γ E x (vint w64 i) → Finds K W Γ E d (word, m, 0) → (T (hasTy word (vint w64 (i * rowBytes))) × WT (vint w64 (i * rowBytes)) → Writes K W Γ word m 0 (vint w64 (i * rowBytes)) Δ)
+        → Opd K W Δ E y (vptr b o) → Opd K W Δ E (copy d) (vint w64 (i * rowBytes)) → Finds K W Δ E e (tyPtr, l, 0) → (k : ℕ) → nth 𝓤 H A k Δ ≡ ‵ (froom tyPtr l 0)
+        → Step K W (put 𝓤 H A k (‵ (fat fullShare tyPtr l 0 (vptr b (place-of rowBytes o i)))) Δ) (runs C Λ E rest q) Γ (runs C Λ E (seq (assign d (op2 (mul unsigned) x (int w64 rowBytes))) (seq (assign e (op2 offset y (copy d))) rest)) q)
     points t {i = i} {b = b} {o = o} {Δ = Δ} few ox fd wr oy od fe k room =
         step (λ s. assigns t (bin t ox (lit t tt) (record { fits = few })) fd (wr (tt, record { fits = few })) $
-        assigns t (subst (λ (c : ℕ). Rv K W Δ E (op2 offset y (copy d)) (vptr b c)) (sym (place-is 64 o i)) (bin t oy od tt)) fe (init t k room (tt, tt)) $ s)
+        assigns t (subst (λ (c : ℕ). Rv K W Δ E (op2 offset y (copy d)) (vptr b c)) (sym (place-is rowBytes o i)) (bin t oy od tt)) fe (init t k room (tt, tt)) $ s)

@@ -6,10 +6,12 @@ use mathlib.Core.List.{List}
 use lib.Dec.{eqb, leb, ltb}
 use lib.ListN.{length, getD, set, replicate}
 use Rattle.refusal.specs.declared.Refusal.{Refusal}
-use Rattle.refusal.specs.declared.Refusal.the-variants.{RingSize, SponsorCount, NodeNumber, Unsound, SlotLimit, SpareBit, OutputShort, NotOut, LedgerUnfit, JobCount}
+use Rattle.refusal.specs.declared.Refusal.the-variants.{NodeNumber, Unsound, SlotLimit, SpareBit, OutputShort, NotOut, LedgerUnfit}
+use Rattle.refusal.specs.Causes.{cause}
 use Rattle.nodeset.specs.Sets.{has, within, withIf}
 use Rattle.ring.specs.declared.Cable.{Cable}
-use Rattle.ring.specs.Ring.{ringSize, sponsorCount, jobCount, nodeNumber}
+use Rattle.ring.specs.Ring.{cableFits, nodeNumber}
+use Rattle.ring.specs.Answers.{faultOf}
 use Rattle.message.specs.declared.Reading.{Reading}
 use Rattle.message.specs.declared.Reading.the-variants as reading
 use Rattle.message.specs.Message.{jobsWithin}
@@ -55,12 +57,10 @@ ifGood good cause o = cond good o (order.Refuse cause)
 
 abbrev pub setUpOrder : Cable → ℕ → Bool → Order
 setUpOrder cable size reports =
-    ifGood (ringSize (cable .n)) RingSize
-    (ifGood (sponsorCount cable) SponsorCount
-    (ifGood (jobCount (cable .m)) JobCount
+    ifGood (cableFits cable) (cause (faultOf cable))
     (ifGood reports Unsound
     (ifGood (eqb size (cable .n)) Unsound
-    (order.Start cable)))))
+    (order.Start cable)))
 
 abbrev pub offOrder : ℕ → Survey → ℕ → Bool → Order
 offOrder a s size fits =

@@ -16,14 +16,9 @@ ghost use Rattle.bench_walks.specs.Orders.{setUpOrder, offOrder, restart
 pub fn set_up_order(cable: Cable, size: usize, reports: bool) -> Order
     ensures { λ r. ⌜ r ≡ setUpOrder cable size reports ⌝ }
 {
-    if !ring::is_ring_size(cable.n) {
-        return Order::Refuse(Refusal::RingSize);
-    }
-    if !ring::is_sponsor_count(cable) {
-        return Order::Refuse(Refusal::SponsorCount);
-    }
-    if !ring::is_job_count(cable.m) {
-        return Order::Refuse(Refusal::JobCount);
+    if !ring::cable_fits(cable) {
+        let cause = ring::fault(cable);
+        return Order::Refuse(cause);
     }
     if !reports {
         return Order::Refuse(Refusal::Unsound);

@@ -13,8 +13,9 @@ use Rattle.ring.specs.declared.Cable.{Cable}
 use Rattle.ring.specs.declared.Speaker.{Speaker}
 use Rattle.ring.specs.declared.Found.{Found}
 use Rattle.ring.specs.declared.Lookup.{Lookup}
-use Rattle.ring.specs.Answers.{beforeOf, onCable}
-use Rattle.ring.specs.Ring.{ringSize, nodeNumber, sponsorCount, jobCount, sponsored, decided}
+use Rattle.ring.specs.Answers.{faultOf, beforeOf, onCable}
+use Rattle.ring.proofs.Ranges.{fault-by}
+use Rattle.ring.specs.Ring.{ringSize, nodeNumber, lagFits, sponsorCount, jobCount, cableFits, sponsored, decided}
 use Rattle.bench.specs.Reports.{reportsFit, jobsOn}
 use Rattle.node.specs.declared.Answer.{Answer}
 use Rattle.node_reports.specs.Reports.{Counts, countsWithin}
@@ -30,7 +31,7 @@ use Rattle.node_record.specs.States.{isOut}
 use Rattle.node_record.specs.declared.Node.{Node}
 use Rattle.node.specs.declared.Answer.the-variants as answer
 use Rattle.node.specs.declared.Stepped.{Stepped}
-use Rattle.node.specs.Calls.{itsTurn, setUpOf, stepOf, sendOf, offOf, restartOf, isDone, refused, withCounts, countsAfter, countedOf}
+use Rattle.node.specs.Calls.{itsTurn, noNode, setUpOf, stepOf, sendOf, offOf, restartOf, isDone, refused, withCounts, countsAfter, countedOf}
 use Rattle.node.proofs.Sent.{sent-or-short}
 use Rattle.bench.specs.declared.Command.{Command}
 use Rattle.bench.specs.declared.Command.the-variants as command
@@ -75,10 +76,10 @@ Ends numbers a = EndsBy numbers (ofLookup a)
 finds-before : (n set x j : ℕ) → Ends (1 ∷ 3 ∷ []) (beforeOf n set x j)
 finds-before n set x j = let P = Ends (1 ∷ 3 ∷ []) in either P (ringSize n) (either P (nodeNumber n x) tt refl) refl
 
-finds-on : (cable : Cable) (x : ℕ) (f : Found) → Ends (1 ∷ 2 ∷ 3 ∷ []) (onCable cable x f)
+finds-on : (cable : Cable) (x : ℕ) (f : Found) → Ends (1 ∷ 16 ∷ 2 ∷ 3 ∷ []) (onCable cable x f)
 finds-on cable x f =
-    let P = Ends (1 ∷ 2 ∷ 3 ∷ []) in
-    either P (ringSize (cable .n)) (either P (sponsorCount cable) (either P (nodeNumber (cable .n) x) tt refl) refl) refl
+    let P = Ends (1 ∷ 16 ∷ 2 ∷ 3 ∷ []) in
+    either P (ringSize (cable .n)) (either P (lagFits (cable .lag)) (either P (sponsorCount cable) (either P (nodeNumber (cable .n) x) tt refl) refl) refl) refl
 
 -- ---- the message
 
@@ -171,11 +172,11 @@ to-two k bytes out =
 
 -- ---- the node record
 
-sets-up : (cable : Cable) (own : ℕ) → EndsBy (1 ∷ 2 ∷ 14 ∷ 3 ∷ []) (ofAnswer (setUpOf cable own .answer))
+sets-up : (cable : Cable) (own : ℕ) → EndsBy (1 ∷ 16 ∷ 2 ∷ 14 ∷ 3 ∷ []) (ofAnswer (setUpOf cable own .answer))
 unfolding setUpOf
 sets-up cable own =
-    let P : Stepped → Type 0 = λ s. EndsBy (1 ∷ 2 ∷ 14 ∷ 3 ∷ []) (ofAnswer (s .answer)) in
-    either P (ringSize (cable .n)) (either P (sponsorCount cable) (either P (jobCount (cable .m)) (either P (nodeNumber (cable .n) own) tt refl) refl) refl) refl
+    let P : Stepped → Type 0 = λ s. EndsBy (1 ∷ 16 ∷ 2 ∷ 14 ∷ 3 ∷ []) (ofAnswer (s .answer)) in
+    either P (cableFits cable) (either P (nodeNumber (cable .n) own) tt refl) (fault-by (λ number. P (refused number noNode)) cable refl refl refl refl)
 
 steps : (heard : Reading) (v : Node) → StepsBy (4 ∷ 5 ∷ []) v (stepOf heard v)
 unfolding stepOf
@@ -234,14 +235,12 @@ runs : (c : Command) (t : Table) (ledger : Ledger) (counts : List Counts) (out :
 unfolding bench.setUpOf bench.slotOf bench.offOf bench.restartOf bench.lookOf setUpWith slotWith offWith slotGiven
 runs (command.SetUp cable) t ledger counts out =
     let P = Runs (command.SetUp cable) t ledger counts out in
-    either-passed P (ringSize (cable .n)) 1
-    (either-passed P (sponsorCount cable) 2
-    (either-passed P (jobCount (cable .m)) 14
+    let fault : P (record { table = t; answer = answer.Refused (cause (faultOf cable)) })
+    = fault-by (λ number. P (record { table = t; answer = answer.Refused (cause number) })) cable (refl, refl) (refl, refl) (refl, refl) (refl, refl) in
+    either-passed P (cableFits cable) (faultOf cable)
     (either-passed P (eqb (length counts) (cable .n)) 4
-    (either-passed P (ringSize (cable .n)) 1
-    (either-passed P (sponsorCount cable) 2
-    (either-passed P (jobCount (cable .m)) 14
-    (either-passed P (eqb (length t) (cable .n)) 4 (tt, tt) (refl, refl)) (refl, refl)) (refl, refl)) (refl, refl)) (refl, refl)) (refl, refl)) (refl, refl)) (refl, refl)
+    (either-passed P (cableFits cable) (faultOf cable)
+    (either-passed P (eqb (length t) (cable .n)) 4 (tt, tt) (refl, refl)) fault) (refl, refl)) fault
 runs (command.Slot lost missed jobs) t ledger counts out =
     let P = Runs (command.Slot lost missed jobs) t ledger counts out in
     either-passed P (tableSound t) 4

@@ -123,7 +123,7 @@ ConvertsBy numbers r out f = EndsBy numbers (ofText (f .written)) × Keeps {A = 
 
 -- By which numbers a call of the bench may be refused, in the order of its tests.
 abbrev pub numbersFor : Command → List ℕ
-numbersFor (command.SetUp cable) = 1 ∷ 2 ∷ 14 ∷ 4 ∷ []
+numbersFor (command.SetUp cable) = 1 ∷ 16 ∷ 2 ∷ 14 ∷ 4 ∷ []
 numbersFor (command.Slot lost missed jobs) = 4 ∷ 3 ∷ 13 ∷ 5 ∷ 8 ∷ 9 ∷ []
 numbersFor (command.Off a) = 4 ∷ 3 ∷ 13 ∷ []
 numbersFor (command.Restart a) = 4 ∷ 3 ∷ 11 ∷ []
@@ -135,8 +135,8 @@ pub record Demand1 : Type 0 where
   -- the ring
   pub sender : (n s : ℕ) → EndsBy (1 ∷ []) (ofSpeaker (senderOf n s))
   pub before : (n set x j : ℕ) → EndsBy (1 ∷ 3 ∷ []) (ofLookup (beforeOf n set x j))
-  pub sponsored : (cable : Cable) (set x j : ℕ) → EndsBy (1 ∷ 2 ∷ 3 ∷ []) (ofLookup (sponsoredOf cable set x j))
-  pub decided : (cable : Cable) (set x : ℕ) → EndsBy (1 ∷ 2 ∷ 3 ∷ []) (ofLookup (decidedOf cable set x))
+  pub sponsored : (cable : Cable) (set x j : ℕ) → EndsBy (1 ∷ 16 ∷ 2 ∷ 3 ∷ []) (ofLookup (sponsoredOf cable set x j))
+  pub decided : (cable : Cable) (set x : ℕ) → EndsBy (1 ∷ 16 ∷ 2 ∷ 3 ∷ []) (ofLookup (decidedOf cable set x))
   -- the message; the reader writes to no byte
   pub read : (k m : ℕ) (bytes : List ℕ) → EndsBy (2 ∷ 14 ∷ 6 ∷ 7 ∷ 8 ∷ []) (ofReading (readOf k m bytes .reading))
   pub write : (k m acknowledgements : ℕ) (returnBit : Bool) (jobs : ℕ) (out : List ℕ)
@@ -147,7 +147,7 @@ pub record Demand1 : Type 0 where
   pub to-three : (k : ℕ) (bytes out : List ℕ) → WritesBy (2 ∷ 6 ∷ 7 ∷ 8 ∷ 9 ∷ []) out (toThreeOf k bytes out)
   pub to-two : (k : ℕ) (bytes out : List ℕ) → WritesBy (2 ∷ 6 ∷ 7 ∷ 8 ∷ 15 ∷ 9 ∷ []) out (toTwoOf k bytes out)
   -- the node record; set-up is given none, and sending returns none
-  pub set-up : (cable : Cable) (own : ℕ) → EndsBy (1 ∷ 2 ∷ 14 ∷ 3 ∷ []) (ofAnswer (startOf cable own .stepped .answer))
+  pub set-up : (cable : Cable) (own : ℕ) → EndsBy (1 ∷ 16 ∷ 2 ∷ 14 ∷ 3 ∷ []) (ofAnswer (startOf cable own .stepped .answer))
   pub slot : (bytes : List ℕ) (v : Node) (counts : Counts) → CountsBy (4 ∷ 5 ∷ []) v counts (slotOf bytes v counts)
   pub step : (received : Received) (v : Node) (counts : Counts) → CountsBy (4 ∷ 5 ∷ []) v counts (countedOf received v counts)
   pub send : (v : Node) (jobs : ℕ) (out : List ℕ) → WritesBy (4 ∷ 5 ∷ 8 ∷ 10 ∷ 9 ∷ []) out (sendOf v jobs out)

@@ -1,5 +1,5 @@
--- The premises of request g are met by a run in which all but two die; with request e or f taken back the claim is false. Whatever records were lent to set-up. Assumes nothing.
-use Prim.Native.Nat.{ℕ, _+_, _-_, _≤_}
+-- The premises of request g are met, with lag 0 and with lag 1, by a run in which all but two die; with request e or f taken back the claim is false. Whatever records were lent to set-up. Assumes nothing.
+use Prim.Native.Nat.{ℕ, zero, suc, _+_, _-_, _≤_}
 use mathlib.Core.Path.{_≡_, refl, sym, ap, _∙_, subst}
 use mathlib.Core.Logic.{_≢_}
 use mathlib.Core.Bool.{Bool, true, false, not, _&&_, true≢false}
@@ -12,7 +12,7 @@ use Rattle.nodeset.specs.Sets.{has}
 use Rattle.nodeset.proofs.Bits.{has-none}
 use Rattle.nodeset.proofs.Tests.{both}
 use Rattle.ring.specs.declared.Cable.{Cable}
-use Rattle.ring.specs.Ring.{cableOf, cableFits, sender}
+use Rattle.ring.specs.Ring.{cableOf, laggingCable, cableFits, sender}
 use Rattle.node_record.specs.declared.Node.{Node}
 use Rattle.node_record.specs.declared.State.{State}
 use Rattle.node_record.specs.declared.State.the-variants.{Member, Out}
@@ -83,20 +83,23 @@ abbrev shown : Table → List (State × ℕ)
 shown t = map {B = State × ℕ} (λ v. (v .state, v .set)) t
 
 module _ (a b c d e f : Node) where
-  abbrev six : Table
-  six = setUpOf (cableOf 6 3) (a ∷ b ∷ c ∷ d ∷ e ∷ f ∷ []) .table
+  abbrev six : ℕ → Table
+  six lag = setUpOf (laggingCable 6 3 lag) (a ∷ b ∷ c ∷ d ∷ e ∷ f ∷ []) .table
 
-  pub premises-met : OnlyOffs (cableOf 6 3) (tableAfter six) (reverse powerCut) × TwoStayOn 6 (reverse powerCut)
+  pub premises-met : (lag : ℕ) → OnlyOffs (laggingCable 6 3 lag) (tableAfter (six lag)) (reverse powerCut) × TwoStayOn 6 (reverse powerCut)
   unfolding every
-  premises-met = (
-    only-offs (cableOf 6 3) (tableAfter six) (reverse powerCut) refl,
+  premises-met lag = (
+    only-offs (laggingCable 6 3 lag) (tableAfter (six lag)) (reverse powerCut) refl,
     record { a = 3; b = 4; first = stays-on 6 3 (reverse powerCut) (lit≤ tt) (lit≤ tt) refl; second = stays-on 6 4 (reverse powerCut) (lit≤ tt) (lit≤ tt) refl; two = λ p. omega arith },
   )
 
-  pub two-left : shown (tableAfter six (reverse powerCut))
+  -- with either lag the two that stay on hold one another at the end
+  pub two-left : (lag : ℕ) → lag ≤ 1 → shown (tableAfter (six lag) (reverse powerCut))
       ≡ (Out SwitchedOff, 0) ∷ (Out SwitchedOff, 0) ∷ (Member, 0b001100) ∷ (Member, 0b001100) ∷ (Out SwitchedOff, 0) ∷ (Out SwitchedOff, 0) ∷ []
   unfolding computed
-  two-left = refl
+  two-left zero h = refl
+  two-left (suc zero) h = refl
+  two-left (suc (suc lag)) h = let z : ⊥ = omega arith in absurd z
 
 -- ---- without request f, and without request e
 

@@ -15,7 +15,7 @@ use Rattle.nodeset.proofs.Laws.{has-full}
 use Rattle.nodeset.proofs.Counts.{size-le}
 use Rattle.ring.specs.declared.Cable.{Cable}
 use Rattle.ring.specs.Ring.{nodeNumber, sender, sponsors, sponsored, cableFits}
-use Rattle.ring.proofs.Ranges.{ring-size, sponsor-count, fitting}
+use Rattle.ring.proofs.Ranges.{ring-size, lag-fits, sponsor-count, fitting}
 use Rattle.ring.proofs.Senders.{sender-range, sender-period, its-slot}
 use Rattle.node.specs.Calls.{isDone}
 use Rattle.message.specs.declared.Reading.{Reading}
@@ -50,7 +50,7 @@ use Rattle.agreement.proofs.History.{num-is, num-isnt}
 use Rattle.agreement.proofs.Marks.{no-both, not-true}
 use Rattle.agreement.proofs.Reached.{hear, hear-message}
 use Rattle.agreement.proofs.Records.{readOf, record-after, sent-bits}
-use Rattle.agreement.proofs.Parts.{size-two}
+use Rattle.agreement.proofs.Parts.{size-three}
 use Rattle.many_dead.specs.Many.{Undisturbed, OnlyOffs, StaysOn, TwoStayOn, Survives, ManyDead}
 use Rattle.many_dead.proofs.Shrinking.{sponsored-node, shrunk, shrunk-keeps}
 use Rattle.many_dead.proofs.Lists.{marksNext, Lists, lists-same, lists-start, inside-lists, outside-lists}
@@ -91,7 +91,7 @@ off-is : (v : Node) → sound v ≡ true → node.offOf v .node ≡ outFor Switc
 unfolding node.offOf
 off-is v e = ap (λ (x : Stepped). x .node) (chosen _ _ e)
 
-module _ (cable : Cable) (n-pos : 1 ≤ cable .n) (n-most : cable .n ≤ 32) (k-pos : 1 ≤ cable .k) (k-lt : cable .k < cable .n) where
+module _ (cable : Cable) (n-pos : 1 ≤ cable .n) (n-most : cable .n ≤ 32) (k-pos : 1 ≤ cable .k) (bounds : (cable .k < cable .n) × (cable .lag ≤ 1)) where
   open Cable cable using (n, k)
 
   -- any node: a member like all others, or out
@@ -194,7 +194,7 @@ module _ (cable : Cable) (n-pos : 1 ≤ cable .n) (n-most : cable .n ≤ 32) (k-
           let al = alive-of s (speaks i p) in
           let r = sponsored-range j x l e in
           ap (λ (y : Reading). has (bitsHeard y) (suc j)) (message-is i p)
-          ∙ sent-bits cable L s (recordOf t s) (al .member) (al .cable-is) (al .set-is) (al .own-is) (omega (arith, sponsors-most L, k-lt, n-most)) j x l e
+          ∙ sent-bits cable L s (recordOf t s) (al .member) (al .cable-is) (al .set-is) (al .own-is) (omega (arith, sponsors-most L, bounds .0, n-most)) j x l e
           ∙ al .marks x (r .0) (r .1);
       ret = by-cases (isHeard (hd i)) (λ p. ap returnIn (message-is i p) ∙ quiet (alive-of s (speaks i p))) (λ p. unheard-return (hd i) p);
     }
@@ -291,11 +291,16 @@ module _ (cable : Cable) (n-pos : 1 ≤ cable .n) (n-most : cable .n ≤ 32) (k-
         step o = outside-alive cable n-pos n-most k-pos N (suc T) L P i (inv .lists .late) (S (suc N)) (hd i) (counted (recordOf t i)) (alive-counted i mi) (gets i mi) (mi .pos) (mi .le)
             away (unsent away) (o .c) (o .is .pos) (o .is .le) (o .other) (alive-of (o .c) (o .is) .marked)
 
-    two-left : 2 ≤ size n L′
-    two-left = size-two n L′ a b (ma .pos) (ma .le) (mb .pos) (mb .le) ab (stays a ma) (stays b mb)
+    -- a member that is not marked is another than the two that stay on
+    many-left : (x : ℕ) → 1 ≤ x → x ≤ n → has L′ x ≡ true → has P′ x ≡ false → 2 + cable .lag ≤ size n L′
+    many-left x h l on unmarked =
+        omega (arith, bounds .1, size-three n L′ a b x (ma .pos) (ma .le) (mb .pos) (mb .le) h l ab (other a ma) (other b mb) (stays a ma) (stays b mb) on)
       where
         stays : (i : ℕ) → MemberOf t i → has L′ i ≡ true
         stays i mi = shrunk-keeps cable n-pos k-pos n P′ s L i (marked-of i mi) (alive-of i mi .listed)
+
+        other : (i : ℕ) → MemberOf t i → i ≢ x
+        other i mi e = no-both (marked-of i mi) (ap (has P′) e ∙ unmarked)
 
     -- the table after the slot, and who is still a member
     pub record Next : Type 0 where
@@ -306,7 +311,7 @@ module _ (cable : Cable) (n-pos : 1 ≤ cable .n) (n-most : cable .n ≤ 32) (k-
 
     pub slot-keeps : Next
     slot-keeps = by-cases (has L s)
-        (λ on. made L′ P′ (inside-lists cable n-pos n-most k-pos S N L P (inv .lists) on two-left (size-le n L)) (alive-listed on))
+        (λ on. made L′ P′ (inside-lists cable n-pos n-most k-pos S N L P (inv .lists) on many-left (size-le n L)) (alive-listed on))
         (λ away. made L P (outside-lists cable n-pos n-most k-pos S N L P (inv .lists) away (unsent away)) (alive-outside away))
       where
         made : (L₁ P₁ : ℕ) → Lists cable n-pos n-most k-pos S (suc N) L₁ P₁
@@ -396,8 +401,8 @@ module _ (cable : Cable) (fits : cableFits cable ≡ true) (lent : Table) (one-e
   k-pos : 1 ≤ cable .k
   k-pos = omega (arith, sponsor-count cable (fitting cable fits .sponsors))
 
-  k-lt : cable .k < cable .n
-  k-lt = omega (arith, sponsor-count cable (fitting cable fits .sponsors))
+  bounds : (cable .k < cable .n) × (cable .lag ≤ 1)
+  bounds = (omega (arith, sponsor-count cable (fitting cable fits .sponsors)), lag-fits (cable .lag) (fitting cable fits .lag))
 
   -- something was sent in slot q; the first n are those of the round before the start
   abbrev sentIn : List Call → ℕ → Bool
@@ -409,7 +414,7 @@ module _ (cable : Cable) (fits : cableFits cable ≡ true) (lent : Table) (one-e
   record Run (cs : List Call) : Type 0 where
     L : ℕ
     P : ℕ
-    inv : TableInv cable n-pos n-most k-pos k-lt (sentIn cs) (slotsOf (tableAfter start cs) + n) (slotsOf (tableAfter start cs)) L P (tableAfter start cs)
+    inv : TableInv cable n-pos n-most k-pos bounds (sentIn cs) (slotsOf (tableAfter start cs) + n) (slotsOf (tableAfter start cs)) L P (tableAfter start cs)
     on : (i : ℕ) → StaysOn n i cs → isMember (recordOf (tableAfter start cs) i .state) ≡ true
 
   sound-at : (cs : List Call) (i : ℕ) → 1 ≤ i → i ≤ n → sound (recordOf (tableAfter start cs) i) ≡ true
@@ -429,17 +434,17 @@ module _ (cable : Cable) (fits : cableFits cable ≡ true) (lent : Table) (one-e
 
   -- the invariant of another table, after the calls c ∷ cs
   moved : (c : Call) (cs : List Call) (N T L P : ℕ) (u : Table) → tableAfter start (c ∷ cs) ≡ u → slotsOf (tableAfter start (c ∷ cs)) ≡ T → T + n ≡ N
-      → TableInv cable n-pos n-most k-pos k-lt (sentIn (c ∷ cs)) N T L P u
-      → TableInv cable n-pos n-most k-pos k-lt (sentIn (c ∷ cs)) (slotsOf (tableAfter start (c ∷ cs)) + n) (slotsOf (tableAfter start (c ∷ cs))) L P (tableAfter start (c ∷ cs))
+      → TableInv cable n-pos n-most k-pos bounds (sentIn (c ∷ cs)) N T L P u
+      → TableInv cable n-pos n-most k-pos bounds (sentIn (c ∷ cs)) (slotsOf (tableAfter start (c ∷ cs)) + n) (slotsOf (tableAfter start (c ∷ cs))) L P (tableAfter start (c ∷ cs))
   moved c cs N T L P u e q z v =
       let y : slotsOf (tableAfter start (c ∷ cs)) + n ≡ N = omega arith in
-      subst (λ (x : ℕ). TableInv cable n-pos n-most k-pos k-lt (sentIn (c ∷ cs)) x (slotsOf (tableAfter start (c ∷ cs))) L P (tableAfter start (c ∷ cs))) (sym y)
-      (subst (λ (x : ℕ). TableInv cable n-pos n-most k-pos k-lt (sentIn (c ∷ cs)) N x L P (tableAfter start (c ∷ cs))) (sym q)
-      (subst (λ (x : Table). TableInv cable n-pos n-most k-pos k-lt (sentIn (c ∷ cs)) N T L P x) (sym e) v))
+      subst (λ (x : ℕ). TableInv cable n-pos n-most k-pos bounds (sentIn (c ∷ cs)) x (slotsOf (tableAfter start (c ∷ cs))) L P (tableAfter start (c ∷ cs))) (sym y)
+      (subst (λ (x : ℕ). TableInv cable n-pos n-most k-pos bounds (sentIn (c ∷ cs)) N x L P (tableAfter start (c ∷ cs))) (sym q)
+      (subst (λ (x : Table). TableInv cable n-pos n-most k-pos bounds (sentIn (c ∷ cs)) N T L P x) (sym e) v))
 
   -- the same table, with the calls c ∷ cs counted
-  again : (c : Call) (cs : List Call) (r : Run cs) → TableInv cable n-pos n-most k-pos k-lt (sentIn (c ∷ cs)) (slotsOf (tableAfter start cs) + n) (slotsOf (tableAfter start cs)) (r .L) (r .P) (tableAfter start cs)
-  again c cs r = same-slots cable n-pos n-most k-pos k-lt (sentIn cs) (sentIn (c ∷ cs)) (slotsOf (t cs) + n) (slotsOf (t cs)) (r .L) (r .P) (t cs)
+  again : (c : Call) (cs : List Call) (r : Run cs) → TableInv cable n-pos n-most k-pos bounds (sentIn (c ∷ cs)) (slotsOf (tableAfter start cs) + n) (slotsOf (tableAfter start cs)) (r .L) (r .P) (tableAfter start cs)
+  again c cs r = same-slots cable n-pos n-most k-pos bounds (sentIn cs) (sentIn (c ∷ cs)) (slotsOf (t cs) + n) (slotsOf (t cs)) (r .L) (r .P) (t cs)
       (λ q h. ap (λ (e : Past). e .sent) (past-old start c cs (q - n) (omega arith))) (r .inv)
 
   same-table : (c : Call) (cs : List Call) → Run cs → isSlot c (tableAfter start cs) ≡ false → tableAfter start (c ∷ cs) ≡ tableAfter start cs → Run (c ∷ cs)
@@ -454,11 +459,11 @@ module _ (cable : Cable) (fits : cableFits cable ≡ true) (lent : Table) (one-e
   unfolding tableAfter
   one-more (slot lost missed room) cs un tw r = by-cases (isSlot (slot lost missed room) (t cs)) go (λ e. same-table (slot lost missed room) cs r e (slot-refused lost missed room (t cs) e))
     where
-      member-of : (i : ℕ) → StaysOn n i cs → MemberOf cable n-pos n-most k-pos k-lt (tableAfter start cs) i
+      member-of : (i : ℕ) → StaysOn n i cs → MemberOf cable n-pos n-most k-pos bounds (tableAfter start cs) i
       member-of i o = record { pos = o .pos; le = o .le; member = r .on i o }
 
       go : isSlot (slot lost missed room) (tableAfter start cs) ≡ true → Run (slot lost missed room ∷ cs)
-      go e = made (slot-keeps cable n-pos n-most k-pos k-lt (sentIn (slot lost missed room ∷ cs)) (slotsOf (t cs) + n) (slotsOf (t cs)) (r .L) (r .P) (t cs) (again (slot lost missed room) cs r) lost missed now (un e)
+      go e = made (slot-keeps cable n-pos n-most k-pos bounds (sentIn (slot lost missed room ∷ cs)) (slotsOf (t cs) + n) (slotsOf (t cs)) (r .L) (r .P) (t cs) (again (slot lost missed room) cs r) lost missed now (un e)
           (tw .a) (tw .b) (member-of (tw .a) (tw .first)) (member-of (tw .b) (tw .second)) (tw .two) (sound-at cs) (below-limit cable _ _ n-pos (placed-run cable n-pos start begins cs) lost missed room e))
         where
           now : sentIn (slot lost missed room ∷ cs) (suc (slotsOf (tableAfter start cs) + n)) ≡ (transmits (tableAfter start cs) && not lost)
@@ -469,7 +474,7 @@ module _ (cable : Cable) (fits : cableFits cable ≡ true) (lent : Table) (one-e
           table-is : tableAfter start (slot lost missed room ∷ cs) ≡ tableAfterSlot lost missed (tableAfter start cs)
           table-is = slot-done lost missed room (t cs) e
 
-          made : Next cable n-pos n-most k-pos k-lt (sentIn (slot lost missed room ∷ cs)) (slotsOf (t cs) + n) (slotsOf (t cs)) (r .L) (r .P) (t cs) (again (slot lost missed room) cs r) lost missed now (un e)
+          made : Next cable n-pos n-most k-pos bounds (sentIn (slot lost missed room ∷ cs)) (slotsOf (t cs) + n) (slotsOf (t cs)) (r .L) (r .P) (t cs) (again (slot lost missed room) cs r) lost missed now (un e)
               (tw .a) (tw .b) (member-of (tw .a) (tw .first)) (member-of (tw .b) (tw .second)) (tw .two) (sound-at cs) (below-limit cable _ _ n-pos (placed-run cable n-pos start begins cs) lost missed room e) → Run (slot lost missed room ∷ cs)
           made x = record {
             L = x .L₁;
@@ -487,7 +492,7 @@ module _ (cable : Cable) (fits : cableFits cable ≡ true) (lent : Table) (one-e
         L = r .L;
         P = r .P;
         inv = moved (off x) cs (slotsOf (t cs) + n) (slotsOf (t cs)) (r .L) (r .P) (tableAfterOff x (t cs)) table-is (omega (arith, slots-next cable n-pos start begins (off x) cs, num-isnt (off-no-slot x (t cs)))) refl
-            (off-keeps cable n-pos n-most k-pos k-lt (sentIn (off x ∷ cs)) (slotsOf (t cs) + n) (slotsOf (t cs)) (r .L) (r .P) (t cs) (again (off x) cs r) x (sound-at cs));
+            (off-keeps cable n-pos n-most k-pos bounds (sentIn (off x ∷ cs)) (slotsOf (t cs) + n) (slotsOf (t cs)) (r .L) (r .P) (t cs) (again (off x) cs r) x (sound-at cs));
         on = λ i o. ap (λ (y : Table). isMember (recordOf y i .state)) table-is
             ∙ ap (λ (v : Node). isMember (v .state)) (after-off-record x (t cs) i (o .pos) (omega (arith, o .le, run-length cable n-pos start begins cs)) ∙ otherwise _ _ (ne-eqb i x (λ p. spared x cs i o (sym p))))
             ∙ r .on i (earlier (off x) cs i o);
@@ -509,11 +514,11 @@ module _ (cable : Cable) (fits : cableFits cable ≡ true) (lent : Table) (one-e
   first = record {
     L = full n;
     P = full n;
-    inv = subst (λ (x : ℕ). TableInv cable n-pos n-most k-pos k-lt (sentIn []) (x + n) x (full n) (full n) start) (sym none-yet) (record {
+    inv = subst (λ (x : ℕ). TableInv cable n-pos n-most k-pos bounds (sentIn []) (x + n) x (full n) (full n) start) (sym none-yet) (record {
       len = run-length cable n-pos start begins [];
       at = refl;
       lists = let z : n ≡ 0 + n = omega arith in subst (λ (x : ℕ). Lists cable n-pos n-most k-pos (sentIn []) x (full n) (full n)) z (lists-start cable n-pos n-most k-pos (sentIn []) (λ q h. early [] q h));
-      nodes = λ i h l. subst (Stands cable n-pos n-most k-pos k-lt 0 (full n) (full n) i) (sym (start-record cable fits lent one-each i h l)) (start-stands cable n-pos n-most k-pos k-lt i h l);
+      nodes = λ i h l. subst (Stands cable n-pos n-most k-pos bounds 0 (full n) (full n) i) (sym (start-record cable fits lent one-each i h l)) (start-stands cable n-pos n-most k-pos bounds i h l);
     });
     on = λ i o. ap (λ (v : Node). isMember (v .state)) (start-record cable fits lent one-each i (o .pos) (o .le));
   }

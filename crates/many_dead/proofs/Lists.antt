@@ -25,7 +25,7 @@ abbrev pub marksNext : Bool → ℕ → ℕ → ℕ
 marksNext sent s P = cond sent (with P s) (without P s)
 
 module _ (cable : Cable) (n-pos : 1 ≤ cable .n) (n-most : cable .n ≤ 32) (k-pos : 1 ≤ cable .k) where
-  open Cable cable using (n, k)
+  open Cable cable using (n, k, lag)
 
   -- the members that spoke, or had their slot, in the e slots after slot u
   abbrev pub since : ℕ → ℕ → ℕ → ℕ
@@ -37,8 +37,8 @@ module _ (cable : Cable) (n-pos : 1 ≤ cable .n) (n-most : cable .n ≤ 32) (k-
     pub marks : (u e : ℕ) → u + e ≡ N → e < n → has L (sender n u) ≡ true → has P (sender n u) ≡ S u
     -- who spoke in its last slot is a member
     pub spoke : (u e : ℕ) → u + e ≡ N → e < n → S u ≡ true → has L (sender n u) ≡ true
-    -- a member whose last slot was silent has had fewer than ks members speak since
-    pub soon : (u e : ℕ) → u + e ≡ N → e < n → has L (sender n u) ≡ true → S u ≡ false → (since L u e < k) × (suc (since L u e) < size n L)
+    -- a member whose last slot was silent has had fewer than ks members, and the lag, speak since
+    pub soon : (u e : ℕ) → u + e ≡ N → e < n → has L (sender n u) ≡ true → S u ≡ false → (since L u e < k + lag) × (suc (since L u e) < size n L)
     -- who spoke a round ago is a member at the end of its slot
     pub waits : (u : ℕ) → u + n ≡ N → S u ≡ true → has L (sender n N) ≡ true
     -- n - 1 slots after a silent one its node is gone
@@ -64,7 +64,7 @@ module _ (cable : Cable) (n-pos : 1 ≤ cable .n) (n-most : cable .n ≤ 32) (k-
 
   -- within a round the silent one is gone
   in-time : (S : ℕ → Bool) (N L u e : ℕ) → n ≤ N → u + e ≡ N → suc e ≡ n
-      → (has L (sender n u) ≡ true → S u ≡ false → (since L u e < k) × (suc (since L u e) < size n L))
+      → (has L (sender n u) ≡ true → S u ≡ false → (since L u e < k + lag) × (suc (since L u e) < size n L))
       → S u ≡ false → has L (sender n u) ≡ false
   in-time S N L u e hn z w soon s = not-true (has L (sender n u)) (λ on.
       let m : ℕ → ℕ = walks.member n n-pos L in
@@ -99,7 +99,7 @@ module _ (cable : Cable) (n-pos : 1 ≤ cable .n) (n-most : cable .n ≤ 32) (k-
         spoke u zero z w p = absurd (no-both p (ap S (here u z) ∙ sil))
         spoke u (suc e) z w p = l .spoke u e (omega arith) (omega arith) p
 
-        soon : (u e : ℕ) → u + e ≡ suc N → e < n → has L (sender n u) ≡ true → S u ≡ false → (since L u e < k) × (suc (since L u e) < size n L)
+        soon : (u e : ℕ) → u + e ≡ suc N → e < n → has L (sender n u) ≡ true → S u ≡ false → (since L u e < k + lag) × (suc (since L u e) < size n L)
         soon u zero z w on p = absurd (no-both on (ap (λ (x : ℕ). has L (sender n x)) (here u z) ∙ off))
         soon u (suc e) z w on p =
             let m : ℕ → ℕ = walks.member n n-pos L in
@@ -156,15 +156,19 @@ module _ (cable : Cable) (n-pos : 1 ≤ cable .n) (n-most : cable .n ≤ 32) (k-
           (λ e. omega (arith, num-is e, num-is (part (sender n q) e)))
           (λ e. omega (arith, num-isnt e)))
 
-      module _ (two : 2 ≤ size n L′) (small : size n L ≤ n) where
-        soon-in : (u e : ℕ) → u + e ≡ suc N → e < n → has L′ (sender n u) ≡ true → S u ≡ false → (since L′ u e < k) × (suc (since L′ u e) < size n L′)
-        soon-in u zero z w h p = (omega (arith, sum-none (walks.member n n-pos L′) (suc u), k-pos), omega (arith, sum-none (walks.member n n-pos L′) (suc u)))
-        soon-in u (suc e) z w h p = go (decLt (since L′ u (suc e)) k) (decLt (suc (since L′ u (suc e))) (size n L′))
+      -- with a member that is not marked the list has two more, and the lag
+      module _ (many : (x : ℕ) → 1 ≤ x → x ≤ n → has L′ x ≡ true → has P′ x ≡ false → 2 + lag ≤ size n L′) (small : size n L ≤ n) where
+        many-at : (u e : ℕ) → u + e ≡ suc N → e < n → has L′ (sender n u) ≡ true → S u ≡ false → 2 + lag ≤ size n L′
+        many-at u e z w h p = let r = sender-range n n-pos u in many (sender n u) (r .0) (r .1) h (marks-in u e z w h ∙ p)
+
+        soon-in : (u e : ℕ) → u + e ≡ suc N → e < n → has L′ (sender n u) ≡ true → S u ≡ false → (since L′ u e < k + lag) × (suc (since L′ u e) < size n L′)
+        soon-in u zero z w h p = (omega (arith, sum-none (walks.member n n-pos L′) (suc u), k-pos), omega (arith, sum-none (walks.member n n-pos L′) (suc u), many-at u zero z w h p))
+        soon-in u (suc e) z w h p = go (decLt (since L′ u (suc e)) (k + lag)) (decLt (suc (since L′ u (suc e))) (size n L′))
           where
             ago : u + e ≡ N
             ago = omega arith
 
-            old : (since L u e < k) × (suc (since L u e) < size n L)
+            old : (since L u e < k + lag) × (suc (since L u e) < size n L)
             old = l .soon u e ago (omega arith) (part (sender n u) h) p
 
             more : since L′ u (suc e) ≡ suc (since L′ u e)
@@ -175,19 +179,19 @@ module _ (cable : Cable) (n-pos : 1 ≤ cable .n) (n-most : cable .n ≤ 32) (k-
                 omega (arith, sum-next m (suc u) e)
 
             -- it would be decided, and would have left
-            exact : suc (since L′ u e) ≡ sponsors cable L′ → ⊥
+            exact : suc (since L′ u e) ≡ sponsors cable L′ + lag → ⊥
             exact c =
-                let d : member cable n-pos k-pos L′ (sender n (suc N)) ≡ sender n u = decided-is cable n-pos k-pos N L′ u e (l .late) ago w h two c in
-                no-both (goes-by-other cable n-pos k-pos P′ N L′ (l .late) two (ap (has P′) d ∙ marks-in u (suc e) z w h ∙ p)) (shrunk-ends cable n-pos k-pos n P′ N L (l .late) small)
+                let d : member cable n-pos k-pos L′ (sender n (suc N)) ≡ sender n u = decided-is cable n-pos k-pos N L′ u e (l .late) ago w h (many-at u (suc e) z w h p) c in
+                no-both (goes-by-other cable n-pos k-pos P′ N L′ (l .late) (many-at u (suc e) z w h p) (ap (has P′) d ∙ marks-in u (suc e) z w h ∙ p)) (shrunk-ends cable n-pos k-pos n P′ N L (l .late) small)
 
             -- all others, the sender included, are at most one less than the size
             most : suc (since L′ u (suc e)) ≤ size n L′
             most = within-round L′ u (suc e) (omega (arith, l .late)) (omega arith) h
 
-            count : (suc (since L′ u e) ≡ k) ⊎ (suc (suc (since L′ u e)) ≡ size n L′) → suc (since L′ u e) ≤ k → suc (since L′ u e) ≡ sponsors cable L′
-            count c b = sponsors-of cable n-pos k-pos L′ (suc (since L′ u e)) c b (omega (arith, most, more))
+            count : (suc (since L′ u e) ≡ k + lag) ⊎ (suc (suc (since L′ u e)) ≡ size n L′) → suc (since L′ u e) ≤ k + lag → suc (since L′ u e) ≡ sponsors cable L′ + lag
+            count c b = sponsors-of cable n-pos k-pos L′ (suc (since L′ u e)) c b (omega (arith, most, more)) (many-at u (suc e) z w h p)
 
-            go : Dec (since L′ u (suc e) < k) → Dec (suc (since L′ u (suc e)) < size n L′) → (since L′ u (suc e) < k) × (suc (since L′ u (suc e)) < size n L′)
+            go : Dec (since L′ u (suc e) < k + lag) → Dec (suc (since L′ u (suc e)) < size n L′) → (since L′ u (suc e) < k + lag) × (suc (since L′ u (suc e)) < size n L′)
             go (yes a) (yes b) = (a, b)
             go (yes a) (no b) = absurd (exact (count (inr (omega (arith, more, most))) (omega (arith, more))))
             go (no a) d = absurd (exact (count (inl (omega (arith, more, fewer (suc u) e, old .0))) (omega (arith, fewer (suc u) e, old .0))))

@@ -28,45 +28,45 @@ use Rattle.agreement.proofs.Parts.{without-part}
 use Rattle.agreement.proofs.Marks.{no-both}
 
 module _ (cable : Cable) (n-pos : 1 ≤ cable .n) (k-pos : 1 ≤ cable .k) where
-  open Cable cable using (n, k)
+  open Cable cable using (n, k, lag)
 
   -- ---- the decided member
 
-  -- with two members or more one is decided
-  some-sponsored : (L : ℕ) → 2 ≤ size n L → (1 ≤ sponsors cable L) × (sponsors cable L < size n L)
+  -- with two members or more, and the lag, one is decided
+  some-sponsored : (L : ℕ) → 2 + lag ≤ size n L → (1 ≤ sponsors cable L) × (sponsors cable L + lag < size n L)
   unfolding sponsors
   some-sponsored L h = (omega arith, omega arith)
 
-  pub deciding : (N L : ℕ) → n ≤ N → 2 ≤ size n L → Before n n-pos N L (sponsors cable L)
-  deciding N L hn h = let q = some-sponsored L h in before n n-pos N L (sponsors cable L) hn (q .0) (q .1)
+  pub deciding : (N L : ℕ) → n ≤ N → 2 + lag ≤ size n L → Before n n-pos N L (sponsors cable L + lag)
+  deciding N L hn h = let q = some-sponsored L h in before n n-pos N L (sponsors cable L + lag) hn (omega (arith, q .0)) (q .1)
 
-  pub decided-at : (N L : ℕ) (hn : n ≤ N) (h : 2 ≤ size n L) → decided cable L (sender n (suc N)) ≡ found.Member (sender n (deciding N L hn h .u)) (suc (deciding N L hn h .e))
+  pub decided-at : (N L : ℕ) (hn : n ≤ N) (h : 2 + lag ≤ size n L) → decided cable L (sender n (suc N)) ≡ found.Member (sender n (deciding N L hn h .u)) (suc (deciding N L hn h .e))
   decided-at N L hn h = decided-before cable L (sender n (suc N)) (some-sponsored L h .0) ∙ deciding N L hn h .it
 
-  decided-none : (L s : ℕ) → size n L ≤ 1 → decided cable L s ≡ found.Nobody
+  decided-none : (L s : ℕ) → size n L ≤ 1 + lag → decided cable L s ≡ found.Nobody
   unfolding decided sponsored sponsors
   decided-none L s h =
       let z : sponsors cable L ≡ 0 = omega arith in
       ap (sponsored cable L s) z
 
-  -- a member with as many members from its slot on as are sponsored is the decided one
-  pub decided-is : (N L u e : ℕ) → n ≤ N → u + e ≡ N → suc e < n → has L (sender n u) ≡ true → 2 ≤ size n L
-      → suc (sum (walks.member n n-pos L) (suc u) e) ≡ sponsors cable L → memberIn (decided cable L (sender n (suc N))) ≡ sender n u
+  -- a member with as many members from its slot on as are sponsored, and the lag, is the decided one
+  pub decided-is : (N L u e : ℕ) → n ≤ N → u + e ≡ N → suc e < n → has L (sender n u) ≡ true → 2 + lag ≤ size n L
+      → suc (sum (walks.member n n-pos L) (suc u) e) ≡ sponsors cable L + lag → memberIn (decided cable L (sender n (suc N))) ≡ sender n u
   decided-is N L u e hn z he hm h c =
       let m : ℕ → ℕ = walks.member n n-pos L in
       let b = deciding N L hn h in
-      let c′ : sum m u (suc e) ≡ sponsors cable L = omega (arith, sum-first m u e, num-is hm) in
-      let same : b .u ≡ u = one-place m (sponsors cable L) (b .u) (suc (b .e)) u (suc e) (omega (arith, b .ago)) (b .count) c′ (omega (arith, num-is (b .listed))) (omega (arith, num-is hm)) in
+      let c′ : sum m u (suc e) ≡ sponsors cable L + lag = omega (arith, sum-first m u e, num-is hm) in
+      let same : b .u ≡ u = one-place m (sponsors cable L + lag) (b .u) (suc (b .e)) u (suc e) (omega (arith, b .ago)) (b .count) c′ (omega (arith, num-is (b .listed))) (omega (arith, num-is hm)) in
       ap memberIn (decided-at N L hn h) ∙ ap (sender n) same
 
   -- whoever is sponsored is a node
-  sponsored-few : (L j : ℕ) → j < sponsors cable L → suc j < size n L
+  sponsored-few : (L j : ℕ) → j < sponsors cable L → suc j + lag < size n L
   unfolding sponsors
   sponsored-few L j h = omega arith
 
   pub sponsored-node : (N L j x : ℕ) → n ≤ N → j < sponsors cable L → At x (sponsored cable L (sender n (suc N)) (suc j)) → (1 ≤ x) × (x ≤ n)
   sponsored-node N L j x hn h e =
-      let b = before n n-pos N L (suc j) hn (omega arith) (sponsored-few L j h) in
+      let b = before n n-pos N L (suc j + lag) hn (omega arith) (sponsored-few L j h) in
       let same : sender n (b .u) ≡ x = same-member (sym (b .it) ∙ sym (sponsored-before cable L (sender n (suc N)) (suc j) (omega arith) (omega arith)) ∙ e .it) in
       let r = sender-range n n-pos (b .u) in
       (omega arith, omega arith)
@@ -94,10 +94,10 @@ module _ (cable : Cable) (n-pos : 1 ≤ cable .n) (k-pos : 1 ≤ cable .k) where
   unfolding goes
   none-goes P s L e = ap (λ (f : Found). isFound (memberIn f) f && not (has P (memberIn f))) e
 
-  pub goes-two : (P N L : ℕ) → goes P (sender n (suc N)) L ≡ true → 2 ≤ size n L
-  goes-two P N L e = go (decLe (size n L) 1)
+  pub goes-many : (P N L : ℕ) → goes P (sender n (suc N)) L ≡ true → 2 + lag ≤ size n L
+  goes-many P N L e = go (decLe (size n L) (1 + lag))
     where
-      go : Dec (size n L ≤ 1) → 2 ≤ size n L
+      go : Dec (size n L ≤ 1 + lag) → 2 + lag ≤ size n L
       go (yes l) = absurd (no-both e (none-goes P (sender n (suc N)) L (decided-none L (sender n (suc N)) l)))
       go (no l) = omega arith
 
@@ -108,7 +108,7 @@ module _ (cable : Cable) (n-pos : 1 ≤ cable .n) (k-pos : 1 ≤ cable .k) where
     pub on : has L (sender n u) ≡ true
     pub other : sender n u ≢ sender n (suc N)
 
-  pub decided-other : (N L : ℕ) → n ≤ N → 2 ≤ size n L → Other N L
+  pub decided-other : (N L : ℕ) → n ≤ N → 2 + lag ≤ size n L → Other N L
   decided-other N L hn h =
       let b = deciding N L hn h in
       let z : b .u + suc (b .e) ≡ suc N = omega (arith, b .ago) in
@@ -120,16 +120,16 @@ module _ (cable : Cable) (n-pos : 1 ≤ cable .n) (k-pos : 1 ≤ cable .k) where
       }
 
   -- a decided member that is not marked leaves
-  pub goes-by-other : (P N L : ℕ) → n ≤ N → 2 ≤ size n L → has P (member L (sender n (suc N))) ≡ false → goes P (sender n (suc N)) L ≡ true
+  pub goes-by-other : (P N L : ℕ) → n ≤ N → 2 + lag ≤ size n L → has P (member L (sender n (suc N))) ≡ false → goes P (sender n (suc N)) L ≡ true
   goes-by-other P N L hn h e =
       let b = deciding N L hn h in
       goes-by P (sender n (suc N)) L (sender n (b .u)) (suc (b .e)) (decided-at N L hn h) ∙ ap not (ap (has P) (sym (ap memberIn (decided-at N L hn h))) ∙ e)
 
-  -- how many are sponsored, where there are k before or all others are
-  pub sponsors-of : (L j : ℕ) → (j ≡ k) ⊎ (suc j ≡ size n L) → j ≤ k → j < size n L → j ≡ sponsors cable L
+  -- how many are sponsored, where there are k and the lag before or all others are
+  pub sponsors-of : (L j : ℕ) → (j ≡ k + lag) ⊎ (suc j ≡ size n L) → j ≤ k + lag → j < size n L → 2 + lag ≤ size n L → j ≡ sponsors cable L + lag
   unfolding sponsors
-  sponsors-of L j (inl e) a b = omega arith
-  sponsors-of L j (inr e) a b = omega arith
+  sponsors-of L j (inl e) a b m = omega arith
+  sponsors-of L j (inr e) a b m = omega arith
 
   -- ---- so many times
 
@@ -162,7 +162,7 @@ module _ (cable : Cable) (n-pos : 1 ≤ cable .n) (k-pos : 1 ≤ cable .k) where
   shrunk-sender (suc t) P N L hn h =
       choose (λ (y : ℕ). has y (sender n (suc N)) ≡ true) (goes P (sender n (suc N)) L) (shrunk t P (sender n (suc N)) (without L (member L (sender n (suc N))))) L
       (λ e.
-      let o = decided-other N L hn (goes-two P N L e) in
+      let o = decided-other N L hn (goes-many P N L e) in
       shrunk-sender t P N (without L (member L (sender n (suc N)))) hn (has-without-other L (member L (sender n (suc N))) (sender n (suc N)) (λ p. o .other (sym (o .it) ∙ p)) ∙ h))
       (λ e. h)
 
@@ -176,19 +176,19 @@ module _ (cable : Cable) (n-pos : 1 ≤ cable .n) (k-pos : 1 ≤ cable .k) where
     where
       less : goes P (sender n (suc N)) L ≡ true → suc (size n (without L (member L (sender n (suc N))))) ≡ size n L
       less e =
-          let o = decided-other N L hn (goes-two P N L e) in
+          let o = decided-other N L hn (goes-many P N L e) in
           ap (λ (x : ℕ). suc (size n (without L x))) (o .it) ∙ size-without n L (sender n (o .u)) (sender-range n n-pos (o .u) .0) (sender-range n n-pos (o .u) .1) (o .on)
 
   -- only the marks of nodes count
   pub goes-alike : (P Q N L : ℕ) → n ≤ N → ((x : ℕ) → 1 ≤ x → x ≤ n → has P x ≡ has Q x) → goes P (sender n (suc N)) L ≡ goes Q (sender n (suc N)) L
-  goes-alike P Q N L hn h = go (decLe (size n L) 1)
+  goes-alike P Q N L hn h = go (decLe (size n L) (1 + lag))
     where
-      go : Dec (size n L ≤ 1) → goes P (sender n (suc N)) L ≡ goes Q (sender n (suc N)) L
+      go : Dec (size n L ≤ 1 + lag) → goes P (sender n (suc N)) L ≡ goes Q (sender n (suc N)) L
       go (yes l) = let d = decided-none L (sender n (suc N)) l in none-goes P (sender n (suc N)) L d ∙ sym (none-goes Q (sender n (suc N)) L d)
       go (no l) =
-          let two : 2 ≤ size n L = omega arith in
-          let b = deciding N L hn two in
-          let d = decided-at N L hn two in
+          let many : 2 + lag ≤ size n L = omega arith in
+          let b = deciding N L hn many in
+          let d = decided-at N L hn many in
           let r = sender-range n n-pos (b .u) in
           goes-by P (sender n (suc N)) L (sender n (b .u)) (suc (b .e)) d ∙ ap not (h (sender n (b .u)) (r .0) (r .1)) ∙ sym (goes-by Q (sender n (suc N)) L (sender n (b .u)) (suc (b .e)) d)
 

@@ -33,7 +33,7 @@ runWithoutE start cs = runBy slotWithoutE start cs
 
 -- ---- plans
 
--- `6 3`: nodes 5, 6, 1 and 2 die one slot after the other; 3 and 4 stay on.
+-- `6 3`, with lag 0 or 1: nodes 5, 6, 1 and 2 die one slot after the other; 3 and 4 stay on.
 abbrev pub powerCut : List Call
 powerCut = ok ∷ ok ∷ ok ∷ ok ∷ off 5 ∷ ok ∷ off 6 ∷ ok ∷ off 1 ∷ ok ∷ off 2 ∷ replicate 5 ok
 

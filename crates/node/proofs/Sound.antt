@@ -8,11 +8,13 @@ use native.Mathlib.Omega.{arith}
 use lib.Dec.{leb}
 use borrow.Author.Tests.{le-leb, leb-false}
 use Rattle.refusal.specs.declared.Refusal.{Refusal}
-use Rattle.refusal.specs.declared.Refusal.the-variants.{RingSize, SponsorCount, JobCount, NodeNumber}
+use Rattle.refusal.specs.declared.Refusal.the-variants.{NodeNumber}
+use Rattle.refusal.specs.Causes.{cause}
 use Rattle.nodeset.proofs.Tests.{by-cases}
 use Rattle.ring.specs.declared.Cable.{Cable}
-use Rattle.ring.specs.Ring.{ringSize, sponsorCount, jobCount, nodeNumber, sender}
-use Rattle.ring.proofs.Ranges.{ring-size}
+use Rattle.ring.specs.Ring.{cableFits, nodeNumber, sender}
+use Rattle.ring.specs.Answers.{faultOf}
+use Rattle.ring.proofs.Ranges.{ring-size, fitting}
 use Rattle.ring.proofs.Senders.{sender-range}
 use Rattle.message.specs.declared.Received.{Received}
 use Rattle.node_reports.specs.Reports.{Counts, countsWithin}
@@ -93,13 +95,11 @@ refused-not-done r e = let z : _≡_ {A = ℕ} 0 1 = cc in omega arith
 
 pub set-up-sound : (cable : Cable) (own : ℕ) → setUpOf cable own .answer ≡ Done → sound (setUpOf cable own .node) ≡ true
 unfolding setUpOf
-set-up-sound cable own e = go (ringSize (cable .n)) (sponsorCount cable) (jobCount (cable .m)) (nodeNumber (cable .n) own) refl refl refl refl e
+set-up-sound cable own e = go (cableFits cable) (nodeNumber (cable .n) own) refl refl e
   where
-    go : (a b c d : Bool) → ringSize (cable .n) ≡ a → sponsorCount cable ≡ b → jobCount (cable .m) ≡ c → nodeNumber (cable .n) own ≡ d
-        → cond a (cond b (cond c (cond d (done (starting cable own)) (refused 3 noNode)) (refused 14 noNode)) (refused 2 noNode)) (refused 1 noNode) .answer ≡ Done
-        → sound (cond a (cond b (cond c (cond d (done (starting cable own)) (refused 3 noNode)) (refused 14 noNode)) (refused 2 noNode)) (refused 1 noNode) .node) ≡ true
-    go true true true true p q r t e = starting-sound cable own (record { ring = p; sponsors = q; jobs = r }) t
-    go true true true false p q r t e = absurd (refused-not-done NodeNumber e)
-    go true true false d p q r t e = absurd (refused-not-done JobCount e)
-    go true false c d p q r t e = absurd (refused-not-done SponsorCount e)
-    go false b c d p q r t e = absurd (refused-not-done RingSize e)
+    go : (a b : Bool) → cableFits cable ≡ a → nodeNumber (cable .n) own ≡ b
+        → cond a (cond b (done (starting cable own)) (refused 3 noNode)) (refused (faultOf cable) noNode) .answer ≡ Done
+        → sound (cond a (cond b (done (starting cable own)) (refused 3 noNode)) (refused (faultOf cable) noNode) .node) ≡ true
+    go true true p q e = starting-sound cable own (fitting cable p) q
+    go true false p q e = absurd (refused-not-done NodeNumber e)
+    go false b p q e = absurd (refused-not-done (cause (faultOf cable)) e)

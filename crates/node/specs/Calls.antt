@@ -8,7 +8,8 @@ use lib.Dec.{eqb, leb}
 use Rattle.refusal.specs.Causes.{cause}
 use Rattle.nodeset.specs.Sets.{has}
 use Rattle.ring.specs.declared.Cable.{Cable}
-use Rattle.ring.specs.Ring.{cableOf, ringSize, sponsorCount, jobCount, nodeNumber, sender}
+use Rattle.ring.specs.Ring.{cableOf, cableFits, nodeNumber, sender}
+use Rattle.ring.specs.Answers.{faultOf}
 use Rattle.node_reports.specs.Reports.{Counts, noReports, countsWithin, countsWith}
 use Rattle.message.specs.declared.Reading.{Reading}
 use Rattle.message.specs.declared.Received.{Received}
@@ -50,7 +51,7 @@ withCounts stepped counts = record { stepped = stepped; counts = counts }
 abbrev pub unsent : ℕ → List ℕ → Written × List ℕ
 unsent number out = (written.Refused (cause number), out)
 
--- ---- set-up: 1, 2, 14 and 3
+-- ---- set-up: 1, 16, 2, 14 and 3
 
 -- The record that comes with a refused set-up.
 abbrev pub noNode : Node
@@ -58,13 +59,9 @@ noNode = record { cable = cableOf 0 0; own = 0; slots = 0; state = Out (leavingC
 
 unfoldable pub setUpOf : Cable → ℕ → Stepped
 setUpOf cable own =
-    cond (ringSize (cable .n))
-    (cond (sponsorCount cable)
-    (cond (jobCount (cable .m))
+    cond (cableFits cable)
     (cond (nodeNumber (cable .n) own) (done (starting cable own)) (refused 3 noNode))
-    (refused 14 noNode))
-    (refused 2 noNode))
-    (refused 1 noNode)
+    (refused (faultOf cable) noNode)
 
 -- The record, and "only set-up clears" the counts (h).
 abbrev pub startOf : Cable → ℕ → Counted

@@ -48,7 +48,12 @@ pub struct Counted {
 
 // A record of no node: it comes with a refused set-up.
 pub const NO_NODE: Node = Node {
-    cable: Cable { n: 0, k: 0, m: 0 },
+    cable: Cable {
+        n: 0,
+        k: 0,
+        m: 0,
+        lag: 0,
+    },
     own: 0,
     slots: 0,
     state: State::Out(Cause::SwitchedOff),
@@ -66,26 +71,15 @@ pub const NO_NODE: Node = Node {
     },
 };
 
-// The record of node `own` at the common start. Refuses by 1, 2, 14 and 3, in this order.
+// The record of node `own` at the common start. Refuses by 1, 16, 2, 14 and 3, in this order.
 fn started(cable: Cable, own: u32) -> Stepped
     ensures { λ r. ⌜ r ≡ setUpOf cable own ⌝ }
 {
-    if !ring::is_ring_size(cable.n) {
+    if !ring::cable_fits(cable) {
+        let cause = ring::fault(cable);
         return Stepped {
             node: NO_NODE,
-            answer: Answer::Refused(Refusal::RingSize),
-        };
-    }
-    if !ring::is_sponsor_count(cable) {
-        return Stepped {
-            node: NO_NODE,
-            answer: Answer::Refused(Refusal::SponsorCount),
-        };
-    }
-    if !ring::is_job_count(cable.m) {
-        return Stepped {
-            node: NO_NODE,
-            answer: Answer::Refused(Refusal::JobCount),
+            answer: Answer::Refused(cause),
         };
     }
     if !ring::is_node_number(cable.n, own) {
@@ -101,8 +95,8 @@ fn started(cable: Cable, own: u32) -> Stepped
     }
 }
 
-// The record of node `own` at the common start, and no reports heard. Refuses by 1, 2, 14 and 3, in this
-// order.
+// The record of node `own` at the common start, and no reports heard. Refuses by 1, 16, 2, 14 and 3, in
+// this order.
 pub fn set_up(cable: Cable, own: u32) -> Counted
     ensures { λ r. ⌜ r ≡ startOf cable own ⌝ }
 {

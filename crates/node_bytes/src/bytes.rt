@@ -8,7 +8,7 @@ use run_io::block;
 use run_io::block::Block;
 
 // How many bytes a record is.
-pub const RECORD: u8 = 56;
+pub const RECORD: u8 = 60;
 
 fn state_of(number: u8) -> State {
     match number {
@@ -60,6 +60,7 @@ pub fn node_of(bytes: &Block) -> Node {
         n: block::word(bytes, 0),
         k: block::word(bytes, 4),
         m: block::word(bytes, 52),
+        lag: block::word(bytes, 56),
     };
     Node {
         cable,
@@ -89,6 +90,7 @@ pub fn set_node(bytes: &mut Block, node: Node) {
     block::set_word(bytes, 0, node.cable.n);
     block::set_word(bytes, 4, node.cable.k);
     block::set_word(bytes, 52, node.cable.m);
+    block::set_word(bytes, 56, node.cable.lag);
     block::set_word(bytes, 8, node.own);
     block::set_long_word(bytes, 12, node.slots);
     bytes[20] = number_of(state);

@@ -38,8 +38,9 @@ fn set_up(arguments: &Block) -> Counted {
     let n = block::word(arguments, 0);
     let k = block::word(arguments, 4);
     let m = block::word(arguments, 8);
-    let own = block::word(arguments, 12);
-    node::set_up(Cable { n, k, m }, own)
+    let lag = block::word(arguments, 12);
+    let own = block::word(arguments, 16);
+    node::set_up(Cable { n, k, m, lag }, own)
 }
 
 // The first bytes, all if there are not so many.

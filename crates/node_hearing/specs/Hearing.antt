@@ -25,7 +25,7 @@ abbrev pub windowAfter : ℕ → Reading → Node → Window
 windowAfter s heard v = cond (eqb s (v .own)) (slotUnheard (v .listening)) (overheard s heard (v .listening))
 
 -- "A window is clean if every message heard has return bit 0, and the run of ones from bit 1 in each is at least the smaller of k and
--- (number of nodes heard) - 1"; "a window with fewer than two nodes heard is unclean".
+-- (number of nodes heard) - 1"; "the listening rule uses the same reduced number" (document 02, j); "a window with fewer than two nodes heard is unclean".
 unfoldable pub clean : Cable → Window → Bool
 clean cable w =
     let count = size (cable .n) (w .heard) in

@@ -2,7 +2,7 @@
 // failure reports, and the answers go to standard output. Numbers are lowest byte first; input that ends
 // within a command counts as followed by zeros.
 //
-//   U n k m own       set-up
+//   U n k m lag own   set-up
 //   S size bytes      one slot, with these bytes heard
 //   T size jobs       sending, with this job byte, into a buffer of so many bytes, each 0xA5
 //   F                 off
@@ -65,7 +65,7 @@ fn head(input: &mut [u8; 4096], left: Unread) -> Command {
 // How many bytes follow the letter and the size.
 fn body(letter: u8, size: u8) -> u8 {
     match letter {
-        b'U' => 16,
+        b'U' => 20,
         b'S' => size,
         b'T' => 1,
         b'L' => bytes::RECORD,

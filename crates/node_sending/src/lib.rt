@@ -14,7 +14,7 @@ fn mark_bits(v: Node) -> u32
 {
     let cable = v.cable;
     let most = ring::sponsors(cable, v.set);
-    let mut place = ring::start_at(cable.n, v.own);
+    let mut place = ring::sponsors_from(cable, v.set, v.own);
     let mut bits = 0;
     let mut j = 0;
     while j < most {

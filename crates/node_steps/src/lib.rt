@@ -66,7 +66,7 @@ fn said_of(s: u32, bits: u32, cable: Cable, set: u32) -> Said
     ensures { λ r. ⌜ r ≡ saidOf s bits cable set ⌝ }
 {
     let most = ring::sponsors(cable, set);
-    let mut place = ring::start_at(cable.n, s);
+    let mut place = ring::sponsors_from(cable, set, s);
     let mut yes = nodeset::with(0, s);
     let mut no = 0;
     let mut j = 0;

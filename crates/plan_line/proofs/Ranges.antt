@@ -29,7 +29,7 @@ opened line =
     if-opened (shortEnough line) PlanLine (numbersOf (before line) (after line)) (λ _.
     if-opened (isNumber (before line) && isNumber (after line)) PlanLine (ringOf n k) (λ _.
     if-opened (ringSize n) RingSize (ifOpened (sponsorCount (cableOf n k)) SponsorCount (opening.Ring n k)) (λ size.
-    if-opened (sponsorCount (cableOf n k)) SponsorCount (opening.Ring n k) (λ count. fits-by (cableOf n k) (record { ring = size; sponsors = count; jobs = refl })))))
+    if-opened (sponsorCount (cableOf n k)) SponsorCount (opening.Ring n k) (λ count. fits-by (cableOf n k) (record { ring = size; lag = refl; sponsors = count; jobs = refl })))))
   where
     n : ℕ
     n = valueOf (before line)

@@ -11,7 +11,6 @@ use node_record::Node;
 use plan_line::Line;
 use plan_line::Opening;
 use refusal::Refusal;
-use ring::Cable;
 ghost use mathlib.Core.Path.{_≡_};
 ghost use Prim.Native.Nat.{_≤_};
 ghost use lib.ListN.{length};
@@ -74,7 +73,7 @@ pub fn first_act(line: &[u8]) -> Act
 {
     let opening = plan_line::opening_of(line);
     match opening {
-        Opening::Ring(n, k) => Act::Call(Command::SetUp(Cable { n, k, m: 0 })),
+        Opening::Ring(n, k) => Act::Call(Command::SetUp(ring::cable_of(n, k))),
         Opening::Refused(cause) => Act::Refuse(cause),
     }
 }

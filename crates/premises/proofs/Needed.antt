@@ -1,13 +1,14 @@
--- Each premise of demand 3 is needed: a run that breaks it alone, and a claim with it. Whatever records were lent to set-up. Assumes nothing.
-use Prim.Native.Nat.{ℕ, suc, _+_, _-_, _≤_}
+-- Each premise of demand 3 is needed, with lag 0 and with lag 1: a run that breaks it alone, and a claim with it. Whatever records were lent to set-up. Assumes nothing.
+use Prim.Native.Nat.{ℕ, _+_, _-_, _≤_}
 use mathlib.Core.Path.{_≡_, refl, sym, ap, _∙_}
-use mathlib.Core.Bool.{Bool, true, false, _&&_, true≢false}
-use mathlib.Core.List.{List, [], _∷_, reverse}
+use mathlib.Core.Bool.{Bool, true, false, not, _&&_, true≢false}
+use mathlib.Core.List.{List, reverse}
 use native.Mathlib.Omega.{arith}
-use lib.Dec.{lit≤}
+use lib.Dec.{ltb, lit≤}
 use lib.ListN.{length}
+use borrow.Author.Tests.{ltb-true, not-true}
 use Rattle.ring.specs.declared.Cable.{Cable}
-use Rattle.ring.specs.Ring.{cableOf, cableFits}
+use Rattle.ring.specs.Ring.{laggingCable, cableFits}
 use Rattle.ring.proofs.Ranges.{ring-size, fitting}
 use Rattle.node_record.specs.declared.Node.{Node}
 use Rattle.nodeset.proofs.Tests.{both}
@@ -16,17 +17,17 @@ use Rattle.node_record.specs.States.{isMember}
 use Rattle.bench.specs.Table.{Table, recordOf, slotsOf}
 use Rattle.bench.specs.Calls.{setUpOf, greatest}
 use Rattle.bench.specs.Runs.{Call, tableAfter}
-use Rattle.agreement.specs.Demand.{next, onwards, isDeciding, decidingRan, LostOrSilent, Premises, Agree, InTime, EverySequence}
+use Rattle.agreement.specs.Demand.{next, onwards, isDeciding, decidingRan, LostOrSilent, PremisesOn, Premises, Agree, InTime, EverySequence}
 use Rattle.agreement.specs.Repeated.{callBy, runBy, ruleBefore, runBefore}
 use Rattle.bench.proofs.Computed.{computed}
 use Rattle.bench.proofs.Places.{Placed}
 use Rattle.bench.proofs.Runs.{start-placed, run-length}
 use Rattle.agreement.proofs.Beginnings.{at-end}
 use Rattle.agreement.proofs.Throughout.{nothing-apart}
-use Rattle.premises.specs.Plans.{twoMiss, twoKnocks, threeLeft, noThird, missesTwice, twoAtOnce}
+use Rattle.premises.specs.Plans.{twoMiss, twoKnocks, oneFewer, noneToDecide, missesTwice, twoAtOnce}
 use Rattle.premises.specs.Needed.{Premise, few-failures, one-outside, list-kept, all-heard, HoldsOn, Holds, Others, Bites, Without, EachNeeded, BetweenNeeded}
-use Rattle.premises.proofs.Scan.{noted, scan, calls-before}
-use Rattle.premises.proofs.Tested.{every, testBy, test, by-test-on, by-test, by-failed-test}
+use Rattle.premises.proofs.Scan.{noted, Scan, scan, called, calls-before}
+use Rattle.premises.proofs.Tested.{each-lag, records, how-many, every, testOf, scanBy, test, threeTests, otherTests, allTests, of-three, of-four, by-test-on, by-test, table-right, by-failed-test}
 
 -- the four are the premises of demand 3, and no others
 pub the-four : (cable : Cable) (start : Table) (cs : List Call) → ((p : Premise) → Holds p cable start cs) → Premises cable start cs
@@ -40,11 +41,18 @@ each-of-four cable start cs h all-heard = h .all-heard
 
 -- ---- what a run that bites has to show
 
+-- this premise and no other is broken, and the bench tells a distance that is not 0
+abbrev partsLists : Premise → Cable → Scan → Bool
+partsLists p cable s = otherTests p cable s && (not (testOf p cable s) && ltb 0 (greatest (cable .n) (s .table)))
+
 module _ (cable : Cable) (fits : cableFits cable ≡ true) (lent : Table) (one-each : length lent ≡ cable .n) (cs : List Call) where
   open Cable cable using (n)
 
   abbrev start : Table
   start = setUpOf cable lent .table
+
+  abbrev scanned : Scan
+  scanned = scanBy called cable start cs
 
   pos : 1 ≤ n
   pos = omega (arith, ring-size n (fitting cable fits .ring))
@@ -52,40 +60,33 @@ module _ (cable : Cable) (fits : cableFits cable ≡ true) (lent : Table) (one-e
   begins : Placed cable 0 start
   begins = start-placed cable fits lent one-each
 
-  -- tests of three premises
-  abbrev tests : Premise → Premise → Premise → Bool
-  tests p q r = test p cable start cs && (test q cable start cs && test r cable start cs)
-
-  by-tests : (p q r : Premise) → tests p q r ≡ true → Holds p cable start cs × Holds q cable start cs × Holds r cable start cs
+  by-tests : (p q r : Premise) → threeTests p q r cable scanned ≡ true → Holds p cable start cs × Holds q cable start cs × Holds r cable start cs
   by-tests p q r e =
-      let x = both (test p cable start cs) (test q cable start cs && test r cable start cs) e in
-      let y = both (test q cable start cs) (test r cable start cs) (x .1) in
-      (by-test cable pos start begins cs p (x .0), by-test cable pos start begins cs q (y .0), by-test cable pos start begins cs r (y .1))
+      let x = of-three p q r cable scanned e in
+      (by-test cable pos start begins cs p (x .0), by-test cable pos start begins cs q (x .1), by-test cable pos start begins cs r (x .2))
 
-  abbrev other-tests : Premise → Bool
-  other-tests few-failures = tests one-outside list-kept all-heard
-  other-tests one-outside = tests few-failures list-kept all-heard
-  other-tests list-kept = tests few-failures one-outside all-heard
-  other-tests all-heard = tests few-failures one-outside list-kept
-
-  others-by : (p : Premise) → other-tests p ≡ true → Others p cable start cs
+  others-by : (p : Premise) → otherTests p cable scanned ≡ true → Others p cable start cs
   others-by few-failures e = by-tests one-outside list-kept all-heard e
   others-by one-outside e = by-tests few-failures list-kept all-heard e
   others-by list-kept e = by-tests few-failures one-outside all-heard e
   others-by all-heard e = by-tests few-failures one-outside list-kept e
 
-  -- the lists differ where the bench tells a distance that is not 0
-  bites-agree : (p : Premise) (d : ℕ) → other-tests p ≡ true → test p cable start cs ≡ false → greatest n (tableAfter start cs) ≡ suc d → Bites p Agree cable lent cs
-  bites-agree p d o f e = record {
-    fits = fits;
-    one-each = one-each;
-    others = others-by p o;
-    broken = by-failed-test cable pos start begins cs p f;
-    fails = λ h. omega (arith, e, nothing-apart n (tableAfter start cs) (run-length cable pos start begins cs) h);
-  }
+  bites-agree : (p : Premise) → partsLists p cable scanned ≡ true → Bites p Agree cable lent cs
+  bites-agree p e =
+      let d = greatest n (scanned .table) in
+      let x = both (otherTests p cable scanned) (not (testOf p cable scanned) && ltb 0 d) e in
+      let y = both (not (testOf p cable scanned)) (ltb 0 d) (x .1) in
+      let same : d ≡ greatest n (tableAfter start cs) = ap (greatest n) (table-right cable pos start begins cs) in
+      record {
+        fits = fits;
+        one-each = one-each;
+        others = others-by p (x .0);
+        broken = by-failed-test cable pos start begins cs p (not-true (testOf p cable scanned) (y .0));
+        fails = λ h. omega (arith, same, ltb-true 0 d (y .1), nothing-apart n (tableAfter start cs) (run-length cable pos start begins cs) h);
+      }
 
   -- slot s has failed, n - 1 slots ran after it, and it is not decided
-  bites-in-time : (p : Premise) (s : ℕ) → other-tests p ≡ true → test p cable start cs ≡ false → LostOrSilent cable start s cs → s + (n - 1) ≤ slotsOf (tableAfter start cs) → decidingRan cable start s cs ≡ false
+  bites-in-time : (p : Premise) (s : ℕ) → otherTests p cable scanned ≡ true → test p cable start cs ≡ false → LostOrSilent cable start s cs → s + (n - 1) ≤ slotsOf (tableAfter start cs) → decidingRan cable start s cs ≡ false
       → Bites p InTime cable lent cs
   bites-in-time p s o f x l e = record {
     fits = fits;
@@ -97,73 +98,106 @@ module _ (cable : Cable) (fits : cableFits cable ≡ true) (lent : Table) (one-e
 
 -- ---- the runs
 
-module _ (a b c d : Node) where
-  abbrev four : Table
-  four = a ∷ b ∷ c ∷ d ∷ []
+-- the cable with this lag, and the plan
+abbrev cableFor : Premise → ℕ → Cable
+cableFor few-failures lag = laggingCable (4 + lag) 2 lag
+cableFor one-outside lag = laggingCable (5 + lag) 2 lag
+cableFor list-kept lag = laggingCable (4 + lag) 3 lag
+cableFor all-heard lag = laggingCable (4 + lag) 2 lag
 
-  pub failures-bite : Bites few-failures Agree (cableOf 4 2) four (reverse twoMiss)
-  unfolding computed every noted scan
-  failures-bite = bites-agree (cableOf 4 2) refl four refl (reverse twoMiss) few-failures 0 refl refl refl
+abbrev planFor : Premise → ℕ → List Call
+planFor few-failures lag = twoMiss lag
+planFor one-outside lag = twoKnocks lag
+planFor list-kept lag = oneFewer lag
+planFor all-heard lag = missesTwice lag
 
-  pub list-bites : Bites list-kept Agree (cableOf 4 3) four (reverse threeLeft)
-  unfolding computed every noted scan
-  list-bites = bites-agree (cableOf 4 3) refl four refl (reverse threeLeft) list-kept 0 refl refl refl
+fits-for : (lag : ℕ) → lag ≤ 1 → (p : Premise) → cableFits (cableFor p lag) ≡ true
+fits-for lag h few-failures = each-lag (λ lag. cableFits (cableFor few-failures lag) ≡ true) refl refl lag h
+fits-for lag h one-outside = each-lag (λ lag. cableFits (cableFor one-outside lag) ≡ true) refl refl lag h
+fits-for lag h list-kept = each-lag (λ lag. cableFits (cableFor list-kept lag) ≡ true) refl refl lag h
+fits-for lag h all-heard = each-lag (λ lag. cableFits (cableFor all-heard lag) ≡ true) refl refl lag h
 
-  pub list-bites-in-time : Bites list-kept InTime (cableOf 4 3) four (reverse noThird)
-  unfolding computed every noted scan next onwards isDeciding decidingRan
-  list-bites-in-time = bites-in-time (cableOf 4 3) refl four refl (reverse noThird) list-kept 2 refl refl (lit≤ tt, lit≤ tt, refl, refl) (lit≤ tt) refl
+-- whatever records were lent
+module _ (given : ℕ → Node) where
+  abbrev lentFor : Cable → Table
+  lentFor cable = records given (cable .n)
 
-  pub hearing-bites : Bites all-heard Agree (cableOf 4 2) four (reverse missesTwice)
-  unfolding computed every noted scan
-  hearing-bites = bites-agree (cableOf 4 2) refl four refl (reverse missesTwice) all-heard 0 refl refl refl
+  abbrev Parts : Premise → ℕ → Type 0
+  Parts p lag = partsLists p (cableFor p lag) (scanBy called (cableFor p lag) (setUpOf (cableFor p lag) (lentFor (cableFor p lag)) .table) (reverse (planFor p lag))) ≡ true
 
-module _ (a b c d e : Node) where
-  abbrev five : Table
-  five = a ∷ b ∷ c ∷ d ∷ e ∷ []
+  parts : (lag : ℕ) → lag ≤ 1 → (p : Premise) → Parts p lag
+  unfolding computed every noted scan records
+  parts lag h few-failures = each-lag (Parts few-failures) refl refl lag h
+  parts lag h one-outside = each-lag (Parts one-outside) refl refl lag h
+  parts lag h list-kept = each-lag (Parts list-kept) refl refl lag h
+  parts lag h all-heard = each-lag (Parts all-heard) refl refl lag h
 
-  pub outside-bites : Bites one-outside Agree (cableOf 5 2) five (reverse twoKnocks)
-  unfolding computed every noted scan
-  outside-bites = bites-agree (cableOf 5 2) refl five refl (reverse twoKnocks) one-outside 1 refl refl refl
+  pub bites : (lag : ℕ) → lag ≤ 1 → (p : Premise) → Bites p Agree (cableFor p lag) (lentFor (cableFor p lag)) (reverse (planFor p lag))
+  bites lag h p = bites-agree (cableFor p lag) (fits-for lag h p) (lentFor (cableFor p lag)) (how-many given (cableFor p lag .n)) (reverse (planFor p lag)) p (parts lag h p)
+
+  abbrev Late : ℕ → Type 0
+  Late lag = Bites list-kept InTime (cableFor list-kept lag) (lentFor (cableFor list-kept lag)) (reverse (noneToDecide lag))
+
+  pub list-bites-in-time : (lag : ℕ) → lag ≤ 1 → Late lag
+  unfolding computed every noted scan records next onwards isDeciding decidingRan
+  list-bites-in-time = each-lag Late
+      (bites-in-time _ refl _ refl _ list-kept 2 refl refl (lit≤ tt, lit≤ tt, refl, refl) (lit≤ tt) refl)
+      (bites-in-time _ refl _ refl _ list-kept 2 refl refl (lit≤ tt, lit≤ tt, refl, refl) (lit≤ tt) refl)
 
 -- ---- demand 3 does not hold without any of them
 
-refuted : (p : Premise) (cable : Cable) (lent : Table) (cs : List Call) → Bites p Agree cable lent cs → Without p → ⊥
+refuted : (p : Premise) (cable : Cable) (lent : Table) (cs : List Call) → Bites p Agree cable lent cs → Without (cable .lag) p → ⊥
 unfolding EverySequence
-refuted p cable lent cs b w = b .fails (at-end (Agree cable (setUpOf cable lent .table)) cs (w cable (b .fits) lent (b .one-each) cs (b .others) .agree))
+refuted p cable lent cs b w = b .fails (at-end (Agree cable (setUpOf cable lent .table)) cs (w cable (b .fits) lent (b .one-each) cs (refl, b .others) .agree))
 
 pub needed : EachNeeded
-needed few-failures = refuted few-failures _ _ _ (failures-bite noNode noNode noNode noNode)
-needed one-outside = refuted one-outside _ _ _ (outside-bites noNode noNode noNode noNode noNode)
-needed list-kept = refuted list-kept _ _ _ (list-bites noNode noNode noNode noNode)
-needed all-heard = refuted all-heard _ _ _ (hearing-bites noNode noNode noNode noNode)
+needed lag h p w = refuted p (cableFor p lag) _ _ (bites (λ _. noNode) lag h p) (rw (lag-for p) w)
+  where
+    lag-for : (p : Premise) → cableFor p lag .lag ≡ lag
+    lag-for few-failures = refl
+    lag-for one-outside = refl
+    lag-for list-kept = refl
+    lag-for all-heard = refl
 
--- ---- nothing differs only with k + 1 members between a departure and a joining, too
+-- ---- nothing differs only with k + 1 members, and the lag, between a departure and a joining, too
 
-module _ (a b c d e : Node) where
-  meets-before : (p : Premise) → HoldsOn p (cableOf 5 3) (runBefore (setUpOf (cableOf 5 3) (a ∷ b ∷ c ∷ d ∷ e ∷ []) .table)) (reverse twoAtOnce)
-  unfolding computed every noted scan
-  meets-before p = by-test-on (cableOf 5 3) (calls-before (setUpOf (cableOf 5 3) (a ∷ b ∷ c ∷ d ∷ e ∷ []) .table)) (reverse twoAtOnce) p (each p)
-    where
-      each : (p : Premise) → testBy (callBy ruleBefore) p (cableOf 5 3) (setUpOf (cableOf 5 3) (a ∷ b ∷ c ∷ d ∷ e ∷ []) .table) (reverse twoAtOnce) ≡ true
-      each few-failures = refl
-      each one-outside = refl
-      each list-kept = refl
-      each all-heard = refl
+module _ (given : ℕ → Node) where
+  abbrev cableBetween : ℕ → Cable
+  cableBetween lag = laggingCable (5 + lag) 3 lag
 
-  -- node 2 is a member by the rule before, and has left now
-  was-member : isMember (recordOf (runBefore (setUpOf (cableOf 5 3) (a ∷ b ∷ c ∷ d ∷ e ∷ []) .table) (reverse twoAtOnce)) 2 .state) ≡ true
-  unfolding computed runBy
-  was-member = refl
+  abbrev startBetween : ℕ → Table
+  startBetween lag = setUpOf (cableBetween lag) (records given (5 + lag)) .table
 
-  has-left : isMember (recordOf (tableAfter (setUpOf (cableOf 5 3) (a ∷ b ∷ c ∷ d ∷ e ∷ []) .table) (reverse twoAtOnce)) 2 .state) ≡ false
-  unfolding computed
-  has-left = refl
+  -- the premises are met by the rule before, and node 2 is a member; it has left now
+  abbrev Met : ℕ → Type 0
+  Met lag = allTests (cableBetween lag) (scanBy (callBy ruleBefore) (cableBetween lag) (startBetween lag) (reverse (twoAtOnce lag))) ≡ true
+
+  met-before : (lag : ℕ) → lag ≤ 1 → Met lag
+  unfolding computed every noted scan records
+  met-before = each-lag Met refl refl
+
+  abbrev WasMember : ℕ → Type 0
+  WasMember lag = isMember (recordOf (runBefore (startBetween lag) (reverse (twoAtOnce lag))) 2 .state) ≡ true
+
+  was-member : (lag : ℕ) → lag ≤ 1 → WasMember lag
+  unfolding computed records runBy
+  was-member = each-lag WasMember refl refl
+
+  abbrev HasLeft : ℕ → Type 0
+  HasLeft lag = isMember (recordOf (tableAfter (startBetween lag) (reverse (twoAtOnce lag))) 2 .state) ≡ false
+
+  has-left : (lag : ℕ) → lag ≤ 1 → HasLeft lag
+  unfolding computed records
+  has-left = each-lag HasLeft refl refl
 
 pub between-needed : BetweenNeeded
 unfolding EverySequence
-between-needed w =
-    let o = noNode in
-    let start = setUpOf (cableOf 5 3) (o ∷ o ∷ o ∷ o ∷ o ∷ []) .table in
-    let m = meets-before o o o o o in
-    let same = at-end (λ cs. tableAfter start cs ≡ runBefore start cs) (reverse twoAtOnce) (w (cableOf 5 3) refl (o ∷ o ∷ o ∷ o ∷ o ∷ []) refl (reverse twoAtOnce) (record { few-failures = m few-failures; one-outside = m one-outside; list-kept = m list-kept; all-heard = m all-heard })) in
-    true≢false (sym (ap (λ (t : Table). isMember (recordOf t 2 .state)) same ∙ was-member o o o o o) ∙ has-left o o o o o)
+between-needed lag h w =
+    let given : ℕ → Node = λ i. noNode in
+    let cs = reverse (twoAtOnce lag) in
+    let start = startBetween given lag in
+    let m : (p : Premise) → HoldsOn p (cableBetween given lag) (runBefore start) cs = λ p. by-test-on (cableBetween given lag) (calls-before start) cs p (of-four (cableBetween given lag) (scanBy (callBy ruleBefore) (cableBetween given lag) start cs) (met-before given lag h) p) in
+    let fits = each-lag (λ lag. cableFits (cableBetween given lag) ≡ true) refl refl lag h in
+    let met : PremisesOn (cableBetween given lag) (runBefore start) cs = record { few-failures = m few-failures; one-outside = m one-outside; list-kept = m list-kept; all-heard = m all-heard } in
+    let same = at-end (λ before. tableAfter start before ≡ runBefore start before) cs (w (cableBetween given lag) fits (records given (5 + lag)) (how-many given (5 + lag)) cs (refl, met)) in
+    true≢false (sym (ap (λ (t : Table). isMember (recordOf t 2 .state)) same ∙ was-member given lag h) ∙ has-left given lag h)

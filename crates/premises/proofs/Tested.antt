@@ -6,21 +6,40 @@ use mathlib.Core.List.{List, [], _∷_}
 use native.Mathlib.Omega.{arith}
 use native.Mathlib.Decide.{ℕ-discrete, decLe}
 use lib.Dec.{eqb, leb}
+use lib.ListN.{length}
 use borrow.Author.Tests.{eqb-false, ne-eqb, leb-true, le-leb}
 use Rattle.nodeset.specs.Sums.{sum, num}
 use Rattle.nodeset.specs.Sets.{has, size}
 use Rattle.nodeset.proofs.Sums.{sum-same, sum-zero}
 use Rattle.nodeset.proofs.Tests.{by-cases, both, all, or-left, or-right, or-else}
 use Rattle.ring.specs.declared.Cable.{Cable}
+use Rattle.node_record.specs.declared.Node.{Node}
 use Rattle.node_record.specs.States.{isMember, isOut}
 use Rattle.bench.specs.Table.{Table, recordOf, slotsOf, speaker}
 use Rattle.bench.specs.Calls.{transmits}
-use Rattle.bench.specs.Runs.{Call, slot, off, restart, isSlot, listOf, Entry, noEntry, entryOn}
+use Rattle.bench.specs.Runs.{Call, slot, off, restart, tableAfter, isSlot, listOf, Entry, noEntry, entryOn}
 use Rattle.agreement.specs.Demand.{AtEach, AllHear, KeepsListOn, HearEverythingOn}
 use Rattle.bench.proofs.Places.{Placed}
 use Rattle.agreement.proofs.Beginnings.{on-later}
 use Rattle.premises.specs.Needed.{Premise, few-failures, one-outside, list-kept, all-heard, HoldsOn, Holds}
 use Rattle.premises.proofs.Scan.{Notes, noted, Scan, SlotTest, scan, Run, atSlots, Right, scan-right, called, calls}
+
+-- ---- the lags, and tables that are lent
+
+pub each-lag : (P : ℕ → Type 0) → P 0 → P 1 → (lag : ℕ) → lag ≤ 1 → P lag
+each-lag P none one zero h = none
+each-lag P none one (suc zero) h = one
+each-lag P none one (suc (suc lag)) h = let z : ⊥ = omega arith in absurd z
+
+-- m records, whatever they are
+unfoldable pub records : (ℕ → Node) → ℕ → Table
+records given zero = []
+records given (suc m) = given m ∷ records given m
+
+pub how-many : (given : ℕ → Node) (m : ℕ) → length (records given m) ≡ m
+unfolding records
+how-many given zero = refl
+how-many given (suc m) = ap suc (how-many given m)
 
 -- ---- a test of each of the numbers 1 to m
 
@@ -52,7 +71,7 @@ abbrev pub fewIn : (ℕ → ℕ) → ℕ → ℕ → ℕ → Bool
 fewIn f n c m = every (λ a. leb (sum f a n) c) m
 
 abbrev pub keepsIn : Cable → SlotTest
-keepsIn cable c t u = leb (cable .k + 1) (size (cable .n) (listOf t)) && leb (cable .k + 1) (size (cable .n) (listOf u))
+keepsIn cable c t u = leb (cable .k + (1 + cable .lag)) (size (cable .n) (listOf t)) && leb (cable .k + (1 + cable .lag)) (size (cable .n) (listOf u))
 
 -- node i hears, or need not
 abbrev pub hearsAt : Bool → ℕ → Table → ℕ → Bool
@@ -71,11 +90,48 @@ testOf one-outside cable s = fewIn (noted (s .outside)) (cable .n) 1 (slotsOf (s
 testOf list-kept cable s = s .kept
 testOf all-heard cable s = s .heard
 
+abbrev pub scanBy : (Call → Table → Table) → Cable → Table → List Call → Scan
+scanBy step cable start cs = scan step (keepsIn cable) (hearIn (cable .n)) start cs
+
 abbrev pub testBy : (Call → Table → Table) → Premise → Cable → Table → List Call → Bool
-testBy step p cable start cs = testOf p cable (scan step (keepsIn cable) (hearIn (cable .n)) start cs)
+testBy step p cable start cs = testOf p cable (scanBy step cable start cs)
 
 abbrev pub test : Premise → Cable → Table → List Call → Bool
 test p cable start cs = testBy called p cable start cs
+
+-- all four, and the three others, of one scan
+abbrev pub threeTests : Premise → Premise → Premise → Cable → Scan → Bool
+threeTests p q r cable s = testOf p cable s && (testOf q cable s && testOf r cable s)
+
+abbrev pub otherTests : Premise → Cable → Scan → Bool
+otherTests few-failures cable s = threeTests one-outside list-kept all-heard cable s
+otherTests one-outside cable s = threeTests few-failures list-kept all-heard cable s
+otherTests list-kept cable s = threeTests few-failures one-outside all-heard cable s
+otherTests all-heard cable s = threeTests few-failures one-outside list-kept cable s
+
+abbrev pub allTests : Cable → Scan → Bool
+allTests cable s = testOf few-failures cable s && otherTests few-failures cable s
+
+pub of-three : (p q r : Premise) (cable : Cable) (s : Scan) → threeTests p q r cable s ≡ true → (testOf p cable s ≡ true) × (testOf q cable s ≡ true) × (testOf r cable s ≡ true)
+of-three p q r cable s e =
+    let x = both (testOf p cable s) (testOf q cable s && testOf r cable s) e in
+    let y = both (testOf q cable s) (testOf r cable s) (x .1) in
+    (x .0, y .0, y .1)
+
+pub of-four : (cable : Cable) (s : Scan) → allTests cable s ≡ true → (p : Premise) → testOf p cable s ≡ true
+of-four cable s e = each
+  where
+    x : (testOf few-failures cable s ≡ true) × (otherTests few-failures cable s ≡ true)
+    x = both (testOf few-failures cable s) (otherTests few-failures cable s) e
+
+    y : (testOf one-outside cable s ≡ true) × (testOf list-kept cable s ≡ true) × (testOf all-heard cable s ≡ true)
+    y = of-three one-outside list-kept all-heard cable s (x .1)
+
+    each : (p : Premise) → testOf p cable s ≡ true
+    each few-failures = x .0
+    each one-outside = y .0
+    each list-kept = y .1
+    each all-heard = y .2
 
 -- ---- n in a row
 
@@ -120,15 +176,15 @@ module _ (P : Call → List Call → Type 0) (f : SlotTest) (run : List Call →
   each-complete h (c ∷ cs) p =
       all (each-complete h cs (p .0)) (implying (isSlot c (run cs)) (f c (run cs) (run (c ∷ cs))) (h c cs (p .1)))
 
-keeps-sound : (cable : Cable) (t u : Table) (c : Call) → keepsIn cable c t u ≡ true → (cable .k + 1 ≤ size (cable .n) (listOf t)) × (cable .k + 1 ≤ size (cable .n) (listOf u))
+keeps-sound : (cable : Cable) (t u : Table) (c : Call) → keepsIn cable c t u ≡ true → (cable .k + (1 + cable .lag) ≤ size (cable .n) (listOf t)) × (cable .k + (1 + cable .lag) ≤ size (cable .n) (listOf u))
 keeps-sound cable t u c e =
     let n = cable .n in
     let k = cable .k in
-    let x = both (leb (k + 1) (size n (listOf t))) (leb (k + 1) (size n (listOf u))) e in
-    (leb-true (k + 1) (size n (listOf t)) (x .0), leb-true (k + 1) (size n (listOf u)) (x .1))
+    let x = both (leb (k + (1 + cable .lag)) (size n (listOf t))) (leb (k + (1 + cable .lag)) (size n (listOf u))) e in
+    (leb-true (k + (1 + cable .lag)) (size n (listOf t)) (x .0), leb-true (k + (1 + cable .lag)) (size n (listOf u)) (x .1))
 
-keeps-complete : (cable : Cable) (t u : Table) (c : Call) → (cable .k + 1 ≤ size (cable .n) (listOf t)) × (cable .k + 1 ≤ size (cable .n) (listOf u)) → keepsIn cable c t u ≡ true
-keeps-complete cable t u c (a, b) = all (le-leb (cable .k + 1) (size (cable .n) (listOf t)) a) (le-leb (cable .k + 1) (size (cable .n) (listOf u)) b)
+keeps-complete : (cable : Cable) (t u : Table) (c : Call) → (cable .k + (1 + cable .lag) ≤ size (cable .n) (listOf t)) × (cable .k + (1 + cable .lag) ≤ size (cable .n) (listOf u)) → keepsIn cable c t u ≡ true
+keeps-complete cable t u c (a, b) = all (le-leb (cable .k + (1 + cable .lag)) (size (cable .n) (listOf t)) a) (le-leb (cable .k + (1 + cable .lag)) (size (cable .n) (listOf u)) b)
 
 -- ---- hearing
 
@@ -188,6 +244,9 @@ module _ (cable : Cable) (R : Run) (cs : List Call) where
     few-tested : ((a : ℕ) → sum (λ u. f (entryOn run cs u)) (suc a) n ≤ c) → fewIn (noted notes) n c (slotsOf (S .table)) ≡ true
     few-tested h = few-complete (noted notes) n c (slotsOf (S .table)) (λ a. omega (arith, same-sum (suc a), h a))
 
+  pub table-scanned : S .table ≡ run cs
+  table-scanned = right .table-is
+
   pub by-test-on : (p : Premise) → testBy (R .step) p cable (R .start) cs ≡ true → HoldsOn p cable run cs
   unfolding KeepsListOn HearEverythingOn
   by-test-on few-failures e = few-by (λ x. x .failures) refl (S .failures) (right .failures-are) (k - 1) e
@@ -206,6 +265,9 @@ module _ (cable : Cable) (R : Run) (cs : List Call) where
 module _ (cable : Cable) (pos : 1 ≤ cable .n) (start : Table) (begins : Placed cable 0 start) (cs : List Call) where
   pub by-test : (p : Premise) → test p cable start cs ≡ true → Holds p cable start cs
   by-test p e = by-test-on cable (calls cable pos start begins) cs p e
+
+  pub table-right : scanBy called cable start cs .table ≡ tableAfter start cs
+  table-right = table-scanned cable (calls cable pos start begins) cs
 
   pub by-failed-test : (p : Premise) → test p cable start cs ≡ false → Holds p cable start cs → ⊥
   by-failed-test p e h = true≢false (sym (tested cable (calls cable pos start begins) cs p h) ∙ e)

@@ -1,5 +1,5 @@
--- What it means that each premise of demand 3 is needed: a run that breaks it alone, and a claim with it; and that one clause more is needed where nothing is to differ from the rule before
--- request f.
+-- What it means that each premise of demand 3 is needed, whatever the lag: a run that breaks it alone, and a claim with it; and that one clause more is needed where nothing is to differ from the
+-- rule before request f.
 use Prim.Native.Nat.{ℕ, suc, _-_, _≤_}
 use mathlib.Core.Path.{_≡_}
 use mathlib.Core.Bool.{true}
@@ -46,18 +46,23 @@ pub record Bites (p : Premise) (Claim : Cable → Table → List Call → Type 0
   pub broken : Holds p cable (setUpOf cable lent .table) cs → ⊥
   pub fails : Claim cable (setUpOf cable lent .table) cs → ⊥
 
--- Demand 3 with the premises but this one.
-abbrev pub Without : Premise → Type 0
-Without p = EverySequence (Others p) Claims
+-- What is assumed, on the cables with this lag.
+abbrev pub WithLag : ℕ → (Cable → Table → List Call → Type 0) → Cable → Table → List Call → Type 0
+WithLag lag assumed cable start cs = (cable .lag ≡ lag) × assumed cable start cs
 
--- Each is needed: without it the demand is false.
+-- Demand 3 with the premises but this one, for one lag.
+abbrev pub Without : ℕ → Premise → Type 0
+Without lag p = EverySequence (WithLag lag (Others p)) Claims
+
+-- Each is needed, with lag 0 and with lag 1: without it the demand is false.
 abbrev pub EachNeeded : Type 0
-EachNeeded = (p : Premise) → Without p → ⊥
+EachNeeded = (lag : ℕ) → lag ≤ 1 → (p : Premise) → Without lag p → ⊥
 
 -- And so is the clause of `NothingDiffers` (agreement's specs/Repeated) on the members between a departure and a joining: without it something differs.
 abbrev pub BetweenNeeded : Type 0
 BetweenNeeded =
-    EverySequence
-    (λ cable start cs. PremisesOn cable (runBefore start) cs)
+    (lag : ℕ) → lag ≤ 1
+    → EverySequence
+    (WithLag lag (λ cable start cs. PremisesOn cable (runBefore start) cs))
     (λ cable start cs. AfterEach (λ before. tableAfter start before ≡ runBefore start before) cs)
     → ⊥

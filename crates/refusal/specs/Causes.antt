@@ -3,7 +3,7 @@ use Prim.Native.Nat.{ℕ}
 use mathlib.Core.Bool.{cond}
 use lib.Dec.{eqb}
 use Rattle.refusal.specs.declared.Refusal.{Refusal}
-use Rattle.refusal.specs.declared.Refusal.the-variants.{RingSize, SponsorCount, NodeNumber, Unsound, SlotLimit, MessageLength, SectionCount, SpareBit, OutputShort, NotItsSlot, NotOut, PlanLine, LedgerUnfit, JobCount, HasJobs}
+use Rattle.refusal.specs.declared.Refusal.the-variants.{RingSize, SponsorCount, NodeNumber, Unsound, SlotLimit, MessageLength, SectionCount, SpareBit, OutputShort, NotItsSlot, NotOut, PlanLine, LedgerUnfit, JobCount, HasJobs, Lag}
 
 abbrev pub numberOf : Refusal → ℕ
 -- "n not 3 to 32"
@@ -36,6 +36,8 @@ numberOf LedgerUnfit = 13
 numberOf JobCount = 14
 -- "Message with a job count of 1 to 8 to be taken back" (request i)
 numberOf HasJobs = 15
+-- "Lag above 1" (request j)
+numberOf Lag = 16
 
 -- The cause with this number, so that a definition can name a refusal as document 01 does. (proofs/Numbers: its number is this one. No
 -- definition asks for a number that is none.)
@@ -54,4 +56,5 @@ cause number =
     (cond (eqb number 11) NotOut
     (cond (eqb number 12) PlanLine
     (cond (eqb number 13) LedgerUnfit
-    (cond (eqb number 14) JobCount HasJobs)))))))))))))
+    (cond (eqb number 14) JobCount
+    (cond (eqb number 15) HasJobs Lag))))))))))))))

@@ -19,6 +19,7 @@ pub enum Refusal {
     LedgerUnfit,
     JobCount,
     HasJobs,
+    Lag,
 }
 
 // The number of the cause.
@@ -41,5 +42,6 @@ pub fn number(cause: Refusal) -> u32
         Refusal::LedgerUnfit => 13,
         Refusal::JobCount => 14,
         Refusal::HasJobs => 15,
+        Refusal::Lag => 16,
     }
 }

@@ -1,12 +1,12 @@
 -- Whoever a walk back finds is a member, and sponsored members are the members before (specs/Ring). Assumes nothing.
-use Prim.Native.Nat.{ℕ, zero, suc, _-_, _≤_}
+use Prim.Native.Nat.{ℕ, zero, suc, _+_, _-_, _≤_}
 use mathlib.Core.Path.{_≡_, sym, ap, _∙_}
 use mathlib.Core.Bool.{true, _&&_}
 use native.Mathlib.Omega.{arith}
 use lib.Dec.{eqb, leb}
 use borrow.Author.Tests.{le-leb}
 use Rattle.nodeset.specs.Sums.{num}
-use Rattle.nodeset.specs.Sets.{has}
+use Rattle.nodeset.specs.Sets.{has, size}
 use Rattle.nodeset.proofs.Tests.{by-cases, both, all, chosen, otherwise}
 use Rattle.ring.specs.declared.Cable.{Cable}
 use Rattle.ring.specs.declared.Found.{Found}
@@ -41,15 +41,20 @@ pub sponsored-member : (cable : Cable) (set x j m back : ℕ) → sponsored cabl
 unfolding sponsored
 sponsored-member cable set x j m back e =
     by-cases (leb 1 j && leb j (sponsors cable set))
-    (λ t. before-member (cable .n) set x j m back (sym (chosen _ Nobody t) ∙ e))
-    (λ t. absurd (nobody-found m back (sym (otherwise (memberBefore (cable .n) set x j) Nobody t) ∙ e)))
+    (λ t. before-member (cable .n) set x (j + cable .lag) m back (sym (chosen _ Nobody t) ∙ e))
+    (λ t. absurd (nobody-found m back (sym (otherwise (memberBefore (cable .n) set x (j + cable .lag)) Nobody t) ∙ e)))
 
--- as far as ks, the j-th sponsored member is the j-th before
-pub sponsored-before : (cable : Cable) (set x j : ℕ) → 1 ≤ j → j ≤ sponsors cable set → sponsored cable set x j ≡ memberBefore (cable .n) set x j
+-- as far as ks, the j-th sponsored member is the j-th before, after as many as the lag is
+pub sponsored-before : (cable : Cable) (set x j : ℕ) → 1 ≤ j → j ≤ sponsors cable set → sponsored cable set x j ≡ memberBefore (cable .n) set x (j + cable .lag)
 unfolding sponsored
 sponsored-before cable set x j h l = chosen _ Nobody (all (le-leb 1 j h) (le-leb j (sponsors cable set) l))
 
+-- the members sponsored, and those that the lag leaves out, are others than the one that sponsors
+pub sponsors-others : (cable : Cable) (set : ℕ) → 1 ≤ sponsors cable set → suc (sponsors cable set + cable .lag) ≤ size (cable .n) set
+unfolding sponsors
+sponsors-others cable set h = omega arith
+
 -- the decided member is the last one sponsored
-pub decided-before : (cable : Cable) (set x : ℕ) → 1 ≤ sponsors cable set → decided cable set x ≡ memberBefore (cable .n) set x (sponsors cable set)
+pub decided-before : (cable : Cable) (set x : ℕ) → 1 ≤ sponsors cable set → decided cable set x ≡ memberBefore (cable .n) set x (sponsors cable set + cable .lag)
 unfolding decided
 decided-before cable set x h = sponsored-before cable set x (sponsors cable set) h (omega arith)

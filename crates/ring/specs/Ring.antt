@@ -1,4 +1,4 @@
--- Document 01, "The ring", in the order of its sentences. What set-up chooses for the whole cable is one struct: n and k, and the number of jobs m of document 02, h.
+-- Document 01, "The ring", in the order of its sentences. What set-up chooses for the whole cable is one struct: n and k, and of document 02 the number of jobs m (h) and the lag (j).
 use Prim.Native.Nat.{ℕ, zero, suc, _+_, _-_, _%_, min}
 use mathlib.Core.Bool.{Bool, false, cond, _&&_}
 use lib.Dec.{eqb, leb}
@@ -8,13 +8,17 @@ use Rattle.ring.specs.declared.Cable.{Cable}
 use Rattle.ring.specs.declared.Found.{Found}
 use Rattle.ring.specs.declared.Found.the-variants.{Member, Nobody}
 
--- The cable with these numbers, and no jobs.
+-- The cable with these numbers, no jobs and no lag.
 abbrev pub cableOf : ℕ → ℕ → Cable
-cableOf n k = record { n = n; k = k; m = 0 }
+cableOf n k = record { n = n; k = k; m = 0; lag = 0 }
+
+-- With this lag.
+abbrev pub laggingCable : ℕ → ℕ → ℕ → Cable
+laggingCable n k lag = record { n = n; k = k; m = 0; lag = lag }
 
 -- The same choices.
 abbrev pub sameCable : Cable → Cable → Bool
-sameCable a b = eqb (a .n) (b .n) && (eqb (a .k) (b .k) && eqb (a .m) (b .m))
+sameCable a b = eqb (a .n) (b .n) && (eqb (a .k) (b .k) && (eqb (a .m) (b .m) && eqb (a .lag) (b .lag)))
 
 -- "n nodes are numbered 1 to n, n from 3 to 32."
 abbrev pub ringSize : ℕ → Bool
@@ -23,9 +27,13 @@ ringSize n = leb 3 n && leb n 32
 abbrev pub nodeNumber : ℕ → ℕ → Bool
 nodeNumber n x = leb 1 x && leb x n
 
--- "k is from 2 to n - 1."
+-- "A lag of 0 or 1 is chosen for the whole cable" (j).
+abbrev pub lagFits : ℕ → Bool
+lagFits lag = leb lag 1
+
+-- "k is from 2 to n - 1"; "k is at most n - 1 less the lag" (j).
 abbrev pub sponsorCount : Cable → Bool
-sponsorCount cable = leb 2 (cable .k) && leb (cable .k) (cable .n - 1)
+sponsorCount cable = leb 2 (cable .k) && leb (cable .k) (cable .n - (1 + cable .lag))
 
 -- "The number of jobs m, 0 to 8" (h).
 abbrev pub jobCount : ℕ → Bool
@@ -33,15 +41,15 @@ jobCount m = leb m 8
 
 -- Every choice is in range.
 abbrev pub cableFits : Cable → Bool
-cableFits cable = ringSize (cable .n) && (sponsorCount cable && jobCount (cable .m))
+cableFits cable = ringSize (cable .n) && (lagFits (cable .lag) && (sponsorCount cable && jobCount (cable .m)))
 
 -- "The sender of slot s is ((s - 1) mod n) + 1."
 unfoldable pub sender : ℕ → ℕ → ℕ
 sender n s = (s - 1) % n + 1
 
--- "With c members, ks is the smaller of k and c - 1." (With none it is 0.)
+-- "With c members, ks is the smaller of k and c - 1"; "with lag 1 .. the smaller of k and c - 2" (j). (It is 0 where there are not so many.)
 abbrev pub ks : Cable → ℕ → ℕ
-ks cable c = min (cable .k) (c - 1)
+ks cable c = min (cable .k) (c - (1 + cable .lag))
 
 -- "Going back round the ring in slot order": the node whose slot comes just before that of node x.
 unfoldable pub previous : ℕ → ℕ → ℕ
@@ -64,11 +72,11 @@ memberBefore n set x j = walk (n - 1) n set x j
 unfoldable pub sponsors : Cable → ℕ → ℕ
 sponsors cable set = ks cable (size (cable .n) set)
 
--- "A member sponsors the ks members before it": the j-th of those, the nearest first.
+-- "A member sponsors the ks members before it": the j-th of those, the nearest first; with lag 1 sponsoring begins "two members back", and "bit 1 concerns the second member back" (j).
 unfoldable pub sponsored : Cable → ℕ → ℕ → ℕ → Found
-sponsored cable set x j = cond (leb 1 j && leb j (sponsors cable set)) (memberBefore (cable .n) set x j) Nobody
+sponsored cable set x j = cond (leb 1 j && leb j (sponsors cable set)) (memberBefore (cable .n) set x (j + cable .lag)) Nobody
 
--- "The one furthest back is the member it decides. With one member nobody is decided."
+-- "The one furthest back is the member it decides. With one member nobody is decided", with lag 1 "with two members or fewer" (j).
 unfoldable pub decided : Cable → ℕ → ℕ → Found
 decided cable set x = sponsored cable set x (sponsors cable set)
 

@@ -3,17 +3,20 @@
 use refusal::Refusal;
 ghost use mathlib.Core.Path.{_≡_};
 ghost use Prim.Native.Nat.{_+_, _-_};
+ghost use Rattle.refusal.specs.Causes.{cause};
 ghost use Rattle.nodeset.specs.Sums.{num};
-ghost use Rattle.ring.specs.Ring.{sameCable, ringSize, nodeNumber, sponsorCount, jobCount, cableFits, ks, previous, memberBefore, sponsors, sponsored, decided};
-ghost use Rattle.ring.specs.Answers.{senderOf, beforeOf, sponsoredOf, decidedOf};
-ghost use Rattle.ring.specs.Places.{testsOf, startAt, reach, nearestOf, foundAt};
+ghost use Rattle.ring.specs.Ring.{cableOf, sameCable, ringSize, nodeNumber, lagFits, sponsorCount, jobCount, cableFits, ks, previous, memberBefore, sponsors, sponsored, decided};
+ghost use Rattle.ring.specs.Answers.{faultOf, senderOf, beforeOf, sponsoredOf, decidedOf};
+ghost use Rattle.ring.specs.Places.{testsOf, startAt, reach, nearestOf, sponsorsFrom, foundAt};
 
 // What set-up chooses for the whole cable: how many nodes are on it, how many others a member sponsors
-// at the most, and how many jobs a message reports on.
+// at the most, how many jobs a message reports on, and how many members before a sender it has not
+// judged yet.
 pub struct Cable {
     pub n: u32,
     pub k: u32,
     pub m: u32,
+    pub lag: u32,
 }
 
 // Whose slot it is.
@@ -40,11 +43,18 @@ enum Tests {
     Refused(Refusal),
 }
 
+// The cable with these numbers, no jobs and no lag.
+pub fn cable_of(n: u32, k: u32) -> Cable
+    ensures { λ r. ⌜ r ≡ cableOf n k ⌝ }
+{
+    Cable { n, k, m: 0, lag: 0 }
+}
+
 // Whether two cables are the same.
 pub fn is_same_cable(a: Cable, b: Cable) -> bool
     ensures { λ r. ⌜ r ≡ sameCable a b ⌝ }
 {
-    (a.n == b.n) & ((a.k == b.k) & (a.m == b.m))
+    (a.n == b.n) & ((a.k == b.k) & ((a.m == b.m) & (a.lag == b.lag)))
 }
 
 // Whether a ring may have n nodes.
@@ -61,11 +71,26 @@ pub fn is_node_number(n: u32, x: u32) -> bool
     1 <= x && x <= n
 }
 
-// Whether the cable's k is 2 to n - 1.
+// Whether the lag is 0 or 1.
+pub fn is_lag(lag: u32) -> bool
+    ensures { λ r. ⌜ r ≡ lagFits lag ⌝ }
+{
+    lag <= 1
+}
+
+// Of two numbers, by how much the first is greater; 0 where it is not.
+fn less(a: u32, b: u32) -> u32
+    ensures { λ r. ⌜ r ≡ a - b ⌝ }
+{
+    if a < b { 0 } else { a - b }
+}
+
+// Whether the cable's k is 2 to n - 1 less the lag.
 pub fn is_sponsor_count(cable: Cable) -> bool
     ensures { λ r. ⌜ r ≡ sponsorCount cable ⌝ }
 {
-    2 <= cable.k && cable.k < cable.n
+    let most = less(less(cable.n, 1), cable.lag);
+    2 <= cable.k && cable.k <= most
 }
 
 // Whether m is 0 to 8.
@@ -79,20 +104,34 @@ pub fn is_job_count(m: u32) -> bool
 pub fn cable_fits(cable: Cable) -> bool
     ensures { λ r. ⌜ r ≡ cableFits cable ⌝ }
 {
-    is_ring_size(cable.n) & (is_sponsor_count(cable) & is_job_count(cable.m))
+    is_ring_size(cable.n) & (is_lag(cable.lag) & (is_sponsor_count(cable) & is_job_count(cable.m)))
+}
+
+// By what a cable is refused of which a choice is not in range: 1, 16, 2 or 14, the first in this order.
+pub fn fault(cable: Cable) -> Refusal
+    ensures { λ r. ⌜ r ≡ cause (faultOf cable) ⌝ }
+{
+    if !is_ring_size(cable.n) {
+        return Refusal::RingSize;
+    }
+    if !is_lag(cable.lag) {
+        return Refusal::Lag;
+    }
+    if !is_sponsor_count(cable) {
+        return Refusal::SponsorCount;
+    }
+    Refusal::JobCount
 }
 
 // How many of c members one of them sponsors.
 pub fn ks(cable: Cable, c: u32) -> u32
     ensures { λ r. ⌜ r ≡ ks cable c ⌝ }
 {
-    if cable.k < c {
+    let others = less(less(c, 1), cable.lag);
+    if cable.k < others {
         return cable.k;
     }
-    if c == 0 {
-        return 0;
-    }
-    c - 1
+    others
 }
 
 // ---- Inner: the walk back, which takes every number as it is; the rules of a slot use it.
@@ -163,11 +202,16 @@ pub fn nearest(n: u32, set: u32, place: Place) -> Place
     walk(place.left, n, set, place.node, 1)
 }
 
-// Of two numbers, by how much the first is greater; 0 where it is not.
-fn less(a: u32, b: u32) -> u32
-    ensures { λ r. ⌜ r ≡ a - b ⌝ }
+// Where the walk to the members that node x sponsors begins: at the last of the members before it that
+// it has not judged yet; at x where the lag is 0.
+pub fn sponsors_from(cable: Cable, set: u32, x: u32) -> Place
+    ensures { λ r. ⌜ r ≡ sponsorsFrom cable set x ⌝ }
 {
-    if a < b { 0 } else { a - b }
+    let start = start_at(cable.n, x);
+    if cable.lag == 0 {
+        return start;
+    }
+    walk(start.left, cable.n, set, x, cable.lag)
 }
 
 // The member at a place, and how many slots back from the start of the walk it speaks; nobody where the
@@ -208,7 +252,7 @@ fn sponsored_member(cable: Cable, set: u32, x: u32, j: u32) -> Found
     if sponsors(cable, set) < j {
         return Found::Nobody;
     }
-    member_before(cable.n, set, x, j)
+    member_before(cable.n, set, x, j + cable.lag)
 }
 
 // The member that node x decides: the last that it sponsors.
@@ -245,12 +289,15 @@ pub fn before(n: u32, set: u32, x: u32, j: u32) -> Lookup
     Lookup::Found(found)
 }
 
-// Whether a cable and node x pass the tests: 1, 2 and 3.
+// Whether a cable and node x pass the tests: 1, 16, 2 and 3.
 fn tests_of(cable: Cable, x: u32) -> Tests
     ensures { λ r. ⌜ r ≡ testsOf cable x ⌝ }
 {
     if !is_ring_size(cable.n) {
         return Tests::Refused(Refusal::RingSize);
+    }
+    if !is_lag(cable.lag) {
+        return Tests::Refused(Refusal::Lag);
     }
     if !is_sponsor_count(cable) {
         return Tests::Refused(Refusal::SponsorCount);
@@ -261,7 +308,7 @@ fn tests_of(cable: Cable, x: u32) -> Tests
     Tests::Passed
 }
 
-// The j-th member that node x sponsors, the nearest first. Refuses by 1, 2 and 3.
+// The j-th member that node x sponsors, the nearest first. Refuses by 1, 16, 2 and 3.
 pub fn sponsored(cable: Cable, set: u32, x: u32, j: u32) -> Lookup
     ensures { λ r. ⌜ r ≡ sponsoredOf cable set x j ⌝ }
 {
@@ -275,7 +322,7 @@ pub fn sponsored(cable: Cable, set: u32, x: u32, j: u32) -> Lookup
     }
 }
 
-// The member that node x decides. Refuses by 1, 2 and 3.
+// The member that node x decides. Refuses by 1, 16, 2 and 3.
 pub fn decided(cable: Cable, set: u32, x: u32) -> Lookup
     ensures { λ r. ⌜ r ≡ decidedOf cable set x ⌝ }
 {

@@ -7,7 +7,7 @@ use ring::Speaker;
 ghost use mathlib.Core.Path.{_≡_};
 ghost use Prim.Native.Nat.{_+_};
 ghost use Rattle.nodeset.specs.Sets.{has, with, without, union, full, within, subset, size, distance, run};
-ghost use Rattle.ring.specs.Ring.{cableOf, ringSize, nodeNumber, sponsorCount, ks};
+ghost use Rattle.ring.specs.Ring.{laggingCable, ringSize, nodeNumber, sponsorCount, ks};
 ghost use Rattle.ring.specs.Answers.{senderOf, beforeOf, sponsoredOf, decidedOf};
 ghost use Rattle.ring_c.specs.Numbers.{speakerNumber, foundNumber, backNumber, lookupNumber, lookupBack};
 
@@ -100,17 +100,17 @@ pub extern "C" fn ring_is_node_number(n: u32, x: u32) -> bool
 }
 
 #[no_mangle]
-pub extern "C" fn ring_is_sponsor_count(n: u32, k: u32) -> bool
-    ensures { λ r. ⌜ r ≡ sponsorCount (cableOf n k) ⌝ }
+pub extern "C" fn ring_is_sponsor_count(n: u32, k: u32, lag: u32) -> bool
+    ensures { λ r. ⌜ r ≡ sponsorCount (laggingCable n k lag) ⌝ }
 {
-    ring::is_sponsor_count(Cable { n, k, m: 0 })
+    ring::is_sponsor_count(Cable { n, k, m: 0, lag })
 }
 
 #[no_mangle]
-pub extern "C" fn ring_ks(n: u32, k: u32, c: u32) -> u32
-    ensures { λ r. ⌜ r ≡ ks (cableOf n k) c ⌝ }
+pub extern "C" fn ring_ks(n: u32, k: u32, lag: u32, c: u32) -> u32
+    ensures { λ r. ⌜ r ≡ ks (laggingCable n k lag) c ⌝ }
 {
-    ring::ks(Cable { n, k, m: 0 }, c)
+    ring::ks(Cable { n, k, m: 0, lag }, c)
 }
 
 // Whose slot follows `done` slots: the refusal's number, or 2^33 and the node.
@@ -175,17 +175,17 @@ pub extern "C" fn ring_before(n: u32, set: u32, x: u32, j: u32) -> u64
 }
 
 #[no_mangle]
-pub extern "C" fn ring_sponsored(n: u32, k: u32, set: u32, x: u32, j: u32) -> u64
-    ensures { λ r. ⌜ r ≡ lookupNumber (sponsoredOf (cableOf n k) set x j) ⌝ }
+pub extern "C" fn ring_sponsored(n: u32, k: u32, lag: u32, set: u32, x: u32, j: u32) -> u64
+    ensures { λ r. ⌜ r ≡ lookupNumber (sponsoredOf (laggingCable n k lag) set x j) ⌝ }
 {
-    lookup_number(ring::sponsored(Cable { n, k, m: 0 }, set, x, j))
+    lookup_number(ring::sponsored(Cable { n, k, m: 0, lag }, set, x, j))
 }
 
 #[no_mangle]
-pub extern "C" fn ring_decided(n: u32, k: u32, set: u32, x: u32) -> u64
-    ensures { λ r. ⌜ r ≡ lookupNumber (decidedOf (cableOf n k) set x) ⌝ }
+pub extern "C" fn ring_decided(n: u32, k: u32, lag: u32, set: u32, x: u32) -> u64
+    ensures { λ r. ⌜ r ≡ lookupNumber (decidedOf (laggingCable n k lag) set x) ⌝ }
 {
-    lookup_number(ring::decided(Cable { n, k, m: 0 }, set, x))
+    lookup_number(ring::decided(Cable { n, k, m: 0, lag }, set, x))
 }
 
 #[no_mangle]
@@ -196,15 +196,15 @@ pub extern "C" fn ring_before_back(n: u32, set: u32, x: u32, j: u32) -> u64
 }
 
 #[no_mangle]
-pub extern "C" fn ring_sponsored_back(n: u32, k: u32, set: u32, x: u32, j: u32) -> u64
-    ensures { λ r. ⌜ r ≡ lookupBack (sponsoredOf (cableOf n k) set x j) ⌝ }
+pub extern "C" fn ring_sponsored_back(n: u32, k: u32, lag: u32, set: u32, x: u32, j: u32) -> u64
+    ensures { λ r. ⌜ r ≡ lookupBack (sponsoredOf (laggingCable n k lag) set x j) ⌝ }
 {
-    lookup_back(ring::sponsored(Cable { n, k, m: 0 }, set, x, j))
+    lookup_back(ring::sponsored(Cable { n, k, m: 0, lag }, set, x, j))
 }
 
 #[no_mangle]
-pub extern "C" fn ring_decided_back(n: u32, k: u32, set: u32, x: u32) -> u64
-    ensures { λ r. ⌜ r ≡ lookupBack (decidedOf (cableOf n k) set x) ⌝ }
+pub extern "C" fn ring_decided_back(n: u32, k: u32, lag: u32, set: u32, x: u32) -> u64
+    ensures { λ r. ⌜ r ≡ lookupBack (decidedOf (laggingCable n k lag) set x) ⌝ }
 {
-    lookup_back(ring::decided(Cable { n, k, m: 0 }, set, x))
+    lookup_back(ring::decided(Cable { n, k, m: 0, lag }, set, x))
 }

@@ -182,7 +182,7 @@ unfolding forget
 sound-same v e =
     let c = clauses v e in
     sound-by (forget v) (record {
-      choices = record { ring = c .choices .ring; sponsors = c .choices .sponsors; jobs = refl };
+      choices = record { ring = c .choices .ring; lag = c .choices .lag; sponsors = c .choices .sponsors; jobs = refl };
       own = c .own;
       slots = c .slots;
       sets = c .sets;

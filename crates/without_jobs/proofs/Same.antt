@@ -6,7 +6,7 @@ use mathlib.Core.List.{[], _∷_}
 use native.Mathlib.Omega.{arith}
 use lib.ListN.{length}
 use Rattle.ring.specs.declared.Cable.{Cable}
-use Rattle.ring.specs.Ring.{cableOf, cableFits}
+use Rattle.ring.specs.Ring.{cableFits}
 use Rattle.ring.proofs.Ranges.{ring-size, fitting, fits-by}
 use Rattle.node_changes.specs.Changes.{starting}
 use Rattle.bench.specs.Table.{Table, eachFrom, slotsOf}
@@ -15,22 +15,22 @@ use Rattle.bench.specs.Runs.{callOf, tableAfter}
 use Rattle.bench.proofs.Runs.{start-table, start-placed, placed-run}
 use Rattle.ledger.specs.Runs.{taken}
 use Rattle.ledger.proofs.AnyLent.{any-lent}
-use Rattle.without_jobs.specs.Without.{forget, forgetAll, startWithout, SameMembership, SameAsMade}
+use Rattle.without_jobs.specs.Without.{withoutJobs, forget, forgetAll, startWithout, SameMembership, SameAsMade}
 use Rattle.without_jobs.proofs.Tables.{call-same}
 
 -- ---- the common start
 
 starts-from : (cable : Cable) (i : ℕ) (lent other : Table) → length lent ≡ length other
-    → forgetAll (eachFrom (λ i v. starting cable i) i lent) ≡ eachFrom (λ i v. starting (cableOf (cable .n) (cable .k)) i) i other
+    → forgetAll (eachFrom (λ i v. starting cable i) i lent) ≡ eachFrom (λ i v. starting (withoutJobs cable) i) i other
 unfolding forget eachFrom
 starts-from cable i [] [] e = refl
 starts-from cable i [] (w ∷ other) e = let z : ⊥ = omega arith in absurd z
 starts-from cable i (v ∷ lent) [] e = let z : ⊥ = omega arith in absurd z
-starts-from cable i (v ∷ lent) (w ∷ other) e = ap (λ (t : Table). starting (cableOf (cable .n) (cable .k)) i ∷ t) (starts-from cable (suc i) lent other (omega arith))
+starts-from cable i (v ∷ lent) (w ∷ other) e = ap (λ (t : Table). starting (withoutJobs cable) i ∷ t) (starts-from cable (suc i) lent other (omega arith))
 
 module _ (cable : Cable) (fits : cableFits cable ≡ true) (lent other : Table) (one-each : length lent ≡ cable .n) (one-other : length other ≡ cable .n) where
-  fits-without : cableFits (cableOf (cable .n) (cable .k)) ≡ true
-  fits-without = let f = fitting cable fits in fits-by (cableOf (cable .n) (cable .k)) (record { ring = f .ring; sponsors = f .sponsors; jobs = refl })
+  fits-without : cableFits (withoutJobs cable) ≡ true
+  fits-without = let f = fitting cable fits in fits-by (withoutJobs cable) (record { ring = f .ring; lag = f .lag; sponsors = f .sponsors; jobs = refl })
 
   n-pos : 1 ≤ cable .n
   n-pos = omega (arith, ring-size (cable .n) (fitting cable fits .ring) .0)
@@ -39,7 +39,7 @@ module _ (cable : Cable) (fits : cableFits cable ≡ true) (lent other : Table) 
   starts-same =
       ap forgetAll (start-table cable fits lent one-each)
       ∙ starts-from cable 1 lent other (one-each ∙ sym one-other)
-      ∙ sym (start-table (cableOf (cable .n) (cable .k)) fits-without other one-other)
+      ∙ sym (start-table (withoutJobs cable) fits-without other one-other)
 
 -- ---- the theorems
 

@@ -9,7 +9,7 @@ use lib.Dec.{eqb, leb, ltb}
 use lib.ListN.{length, getD, length-map, List·getD-map}
 use Rattle.nodeset.specs.Sets.{has, within}
 use Rattle.ring.specs.declared.Cable.{Cable}
-use Rattle.ring.specs.Ring.{cableOf, nodeNumber, sender}
+use Rattle.ring.specs.Ring.{nodeNumber, sender}
 use Rattle.message.specs.declared.Reading.{Reading}
 use Rattle.message.specs.declared.Reading.the-variants as reading
 use Rattle.node_record.specs.declared.Node.{Node}
@@ -23,7 +23,7 @@ use Rattle.bench.specs.Table.{Table, recordOf, eachFrom, each, tableSound, slot
 use Rattle.bench.specs.Calls.{Called, done, ifPassed, transmits, unheard, spoken, heardBy, tableAfterSlot, slotOf, tableAfterOff, offOf, tableAfterRestart, restartOf}
 use Rattle.bench.specs.Runs.{Call, slot, off, restart, callOf}
 use Rattle.bench.proofs.Places.{InPlace, Placed, placed-sound}
-use Rattle.without_jobs.specs.Without.{forget, forgetAll}
+use Rattle.without_jobs.specs.Without.{withoutJobs, forget, forgetAll}
 use Rattle.without_jobs.proofs.Records.{forgetStepped, alike, sound-same, step-same, off-same, restart-same, bits-sent}
 
 -- ---- what a table says of the next slot
@@ -95,20 +95,20 @@ module _ (cable : Cable) (slots : ℕ) (t : Table) (pos : 1 ≤ cable .n) (P : P
   good : (i : ℕ) → 1 ≤ i → i ≤ length t → sound (recordOf t i) ≡ true
   good i h l = P .at i h (omega (arith, P .length-is)) .is-sound
 
-  in-place-same : (i : ℕ) (v : Node) → InPlace cable slots i v → InPlace (cableOf (cable .n) (cable .k)) slots i (forget v)
+  in-place-same : (i : ℕ) (v : Node) → InPlace cable slots i v → InPlace (withoutJobs cable) slots i (forget v)
   unfolding forget
   in-place-same i v p = record {
     is-sound = sound-same v (p .is-sound);
-    cable-is = ap (λ (c : Cable). cableOf (c .n) (c .k)) (p .cable-is);
+    cable-is = ap (λ (c : Cable). withoutJobs c) (p .cable-is);
     slots-is = p .slots-is;
     own-is = p .own-is;
   }
 
-  placed-same : Placed (cableOf (cable .n) (cable .k)) slots (forgetAll t)
+  placed-same : Placed (withoutJobs cable) slots (forgetAll t)
   placed-same = record { length-is = length-map t forget ∙ P .length-is; at = λ i h l. rw (record-same t i) (in-place-same i (recordOf t i) (P .at i h l)) }
 
   both-sound : tableSound (forgetAll t) ≡ tableSound t
-  both-sound = placed-sound (cableOf (cable .n) (cable .k)) slots (forgetAll t) pos placed-same ∙ sym (placed-sound cable slots t pos P)
+  both-sound = placed-sound (withoutJobs cable) slots (forgetAll t) pos placed-same ∙ sym (placed-sound cable slots t pos P)
 
   after-slot : (lost : Bool) (missed : ℕ) → tableAfterSlot lost missed (forgetAll t) ≡ forgetAll (tableAfterSlot lost missed t)
   unfolding tableAfterSlot

@@ -5,24 +5,28 @@ use mathlib.Core.Bool.{true}
 use mathlib.Core.List.{List, map}
 use lib.ListN.{length}
 use Rattle.ring.specs.declared.Cable.{Cable}
-use Rattle.ring.specs.Ring.{cableOf, cableFits}
+use Rattle.ring.specs.Ring.{laggingCable, cableFits}
 use Rattle.node_record.specs.declared.Node.{Node}
 use Rattle.bench.specs.Table.{Table}
 use Rattle.bench.specs.Calls.{setUpOf}
 use Rattle.bench.specs.Runs.{Call, tableAfter}
 use Rattle.ledger.specs.Runs.{Lent, tableLent, taken}
 
+-- A cable's choices but for the number of jobs, which is 0.
+abbrev pub withoutJobs : Cable → Cable
+withoutJobs cable = laggingCable (cable .n) (cable .k) (cable .lag)
+
 -- A record with its number of jobs put to 0, and all else of it.
 unfoldable pub forget : Node → Node
-forget v = record { cable = record { n = v .cable .n; k = v .cable .k; m = 0 }; own = v .own; slots = v .slots; state = v .state; set = v .set; present = v .present; returning = v .returning; «return_heard» = v .«return_heard»; «yes_heard» = v .«yes_heard»; listening = v .listening }
+forget v = record { cable = withoutJobs (v .cable); own = v .own; slots = v .slots; state = v .state; set = v .set; present = v .present; returning = v .returning; «return_heard» = v .«return_heard»; «yes_heard» = v .«yes_heard»; listening = v .listening }
 
 -- Each record of a table so.
 abbrev pub forgetAll : Table → Table
 forgetAll t = map forget t
 
--- "As if the section were absent": the common start with the same n and k and no jobs.
+-- "As if the section were absent": the common start with the same choices and no jobs.
 abbrev pub startWithout : Cable → Table → Table
-startWithout cable lent = setUpOf (cableOf (cable .n) (cable .k)) lent .table
+startWithout cable lent = setUpOf (withoutJobs cable) lent .table
 
 -- The tables after any calls are, but for m, those of the same calls where there are no jobs.
 abbrev pub SameMembership : Type 0

@@ -7,7 +7,7 @@ use Rattle.bench.proofs.Computed.{computed}
 use Rattle.plan_program.proofs.Computed.{printing}
 use Rattle.worked_examples.specs.Rows.{AllHold}
 use Rattle.worked_examples.specs.Examples.{examples}
-use Rattle.worked_examples.specs.Requests.{fixedOrder, feederCut, ownMarks}
+use Rattle.worked_examples.specs.Requests.{fixedOrder, feederCut, ownMarks, slowReceivers}
 
 infixr 1 _and_
 _and_ : {A B : Type 0} → A → B → A × B
@@ -32,9 +32,14 @@ pub request-examples : (a b c d e f : Node)
     → AllHold (fixedOrder (a ∷ b ∷ c ∷ d ∷ []))
     × AllHold (feederCut (a ∷ b ∷ c ∷ d ∷ e ∷ f ∷ []))
     × AllHold (ownMarks (a ∷ b ∷ c ∷ d ∷ []))
-unfolding fixedOrder feederCut ownMarks computed
+    × AllHold (slowReceivers (a ∷ b ∷ c ∷ d ∷ e ∷ []))
+unfolding fixedOrder feederCut ownMarks slowReceivers computed
 request-examples a b c d e f = (
   refl and refl and tt,
   refl and refl and refl and refl and refl and refl and refl and refl and tt,
   refl and refl and refl and refl and tt,
+  refl and refl and refl and refl  -- sponsored and decided
+      and refl and refl and refl  -- the bits, and leaving
+      and refl and refl and refl and refl and refl and refl and refl  -- listening
+      and tt,
 )

@@ -4,12 +4,19 @@ use mathlib.Core.Bool.{Bool, true, false}
 use mathlib.Core.List.{List, [], _∷_, _++_}
 use lib.ListN.{replicate}
 use Rattle.nodeset.specs.Sets.{has}
+use Rattle.ring.specs.declared.Cable.{Cable}
+use Rattle.ring.specs.declared.Found.the-variants as found
+use Rattle.ring.specs.Ring.{cableOf, laggingCable}
+use Rattle.ring.specs.Answers.{finds, sponsoredOf, decidedOf}
+use Rattle.node_record.specs.declared.Window.{Window}
+use Rattle.node_hearing.specs.Hearing.{clean}
+use Rattle.node_sending.specs.Sending.{bitsSent}
 use Rattle.bench.specs.Table.{Table, recordOf}
 use Rattle.bench.specs.Calls.{slotOf}
 use Rattle.bench.specs.Pairs.{slotBytes}
 use Rattle.bench.specs.Runs.{Call, off, restart}
 use Rattle.bench.specs.Plans.{ok, lost}
-use Rattle.worked_examples.specs.Rows.{Row, _gives_, these, Standing, holds, out, standings, miss, after}
+use Rattle.worked_examples.specs.Rows.{Row, _gives_, these, Standing, holds, out, standings, miss, afterOn, after}
 
 -- ---- c: changes in a fixed order
 
@@ -73,4 +80,43 @@ ownMarks lent =
     ∷ (ownMark (after 4 3 lent noAfterYes) 2 gives (false, false))
     -- A silent sponsor says no "no".
     ∷ (ownMark (after 4 3 lent silentSponsor) 1 gives (true, false))
+    ∷ []
+
+-- ---- j: slow receivers
+
+-- The cable of n nodes with k = 2 and lag 1.
+abbrev pub slow : ℕ → Cable
+slow n = laggingCable n 2 1
+
+-- The message of node 2 in slot 2 is lost, and so many slots follow.
+abbrev pub secondLost : ℕ → List Call
+secondLost slots = ok ∷ lost ∷ replicate slots ok
+
+-- A window in which these nodes were heard, the shortest run of ones being this.
+abbrev pub window : List ℕ → ℕ → Window
+window nodes run = record { done = 5; heard = these nodes; shortest = run; «return_seen» = false; last = 0 }
+
+-- Over any table of five records that was lent to set-up.
+unfoldable pub slowReceivers : Table → List Row
+slowReceivers lent =
+    -- "With lag 1 and c members, ks is the smaller of k and c - 2": of {1,3,4} node 1 sponsors 3 and nobody else, and decides 3,
+    (sponsoredOf (slow 4) (these (1 ∷ 3 ∷ 4 ∷ [])) 1 1 gives finds (found.Member 3 2))
+    ∷ (sponsoredOf (slow 4) (these (1 ∷ 3 ∷ 4 ∷ [])) 1 2 gives finds found.Nobody)
+    ∷ (decidedOf (slow 4) (these (1 ∷ 3 ∷ 4 ∷ [])) 1 gives finds (found.Member 3 2))
+    -- "and with two members or fewer nobody is decided."
+    ∷ (decidedOf (slow 4) (these (1 ∷ 3 ∷ [])) 1 gives finds found.Nobody)
+    -- "Bit 1 concerns the second member back": in slot 4 node 4 says no of node 2, and yes of node 1.
+    ∷ (bitsSent (recordOf (afterOn (slow 5) lent (secondLost 1)) 4) gives 0b10)
+    -- "Leaving falls at the (k + lag)-th member after": node 2 leaves at slot 5, that of the third member after it.
+    ∷ (standings (afterOn (slow 5) lent (secondLost 2)) gives replicate 5 (holds (these (1 ∷ 2 ∷ 3 ∷ 4 ∷ 5 ∷ []))))
+    ∷ (standings (afterOn (slow 5) lent (secondLost 3)) gives holds (these (1 ∷ 3 ∷ 4 ∷ 5 ∷ [])) ∷ out 1 ∷ replicate 3 (holds (these (1 ∷ 3 ∷ 4 ∷ 5 ∷ []))))
+    -- "The listening rule uses the same reduced number": three heard need a run of one, two heard a run of none,
+    ∷ (clean (slow 5) (window (1 ∷ 2 ∷ 3 ∷ []) 1) gives true)
+    ∷ (clean (slow 5) (window (1 ∷ 2 ∷ 3 ∷ []) 0) gives false)
+    ∷ (clean (slow 5) (window (1 ∷ 2 ∷ []) 0) gives true)
+    -- without lag two and one.
+    ∷ (clean (cableOf 5 2) (window (1 ∷ 2 ∷ 3 ∷ []) 2) gives true)
+    ∷ (clean (cableOf 5 2) (window (1 ∷ 2 ∷ 3 ∷ []) 1) gives false)
+    ∷ (clean (cableOf 5 2) (window (1 ∷ 2 ∷ []) 1) gives true)
+    ∷ (clean (cableOf 5 2) (window (1 ∷ 2 ∷ []) 0) gives false)
     ∷ []

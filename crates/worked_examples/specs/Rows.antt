@@ -6,6 +6,7 @@ use mathlib.Core.List.{List, [], _∷_, foldr, map, reverse}
 use Rattle.refusal.specs.Causes.{numberOf}
 use Rattle.nodeset.specs.Sums.{sum}
 use Rattle.nodeset.specs.Sets.{with}
+use Rattle.ring.specs.declared.Cable.{Cable}
 use Rattle.ring.specs.Ring.{cableOf}
 use Rattle.message.specs.declared.Reading.{Reading}
 use Rattle.message.specs.declared.Reading.the-variants as reading
@@ -68,8 +69,12 @@ abbrev pub miss : List ℕ → Call
 miss nodes = slot false (these nodes) 64
 
 -- The table after a plan (the first line comes first), over a table that was lent to set-up.
+abbrev pub afterOn : Cable → Table → List Call → Table
+afterOn cable lent plan = tableAfter (setUpOf cable lent .table) (reverse plan)
+
+-- With no jobs and no lag.
 abbrev pub after : ℕ → ℕ → Table → List Call → Table
-after n k lent plan = tableAfter (setUpOf (cableOf n k) lent .table) (reverse plan)
+after n k lent plan = afterOn (cableOf n k) lent plan
 
 -- The failures in the first m slots of a plan.
 abbrev pub failures : ℕ → ℕ → Table → List Call → ℕ → ℕ

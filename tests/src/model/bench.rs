@@ -2,6 +2,7 @@
 //! records and change it, slot and off also the ledger of request a, set-up and slot also the counts of request h; a
 //! refused call gives the number of the refusal and leaves all as it was.
 
+use super::choices::Choices;
 use super::counts::{self, Counts};
 use super::ledger::{self, Figures};
 use super::message::{self, Said};
@@ -72,21 +73,17 @@ pub enum Call {
 }
 
 /// "All start as members", a record for each node in the lent table of this length.
-pub fn set_up(n: u32, k: u32, m: u32, length: usize) -> Result<Vec<Node>, u32> {
-    let first = Node::set_up(n, k, m, 1)?;
-    if length != n as usize {
+pub fn set_up(chosen: Choices, length: usize) -> Result<Vec<Node>, u32> {
+    let first = Node::set_up(chosen, 1)?;
+    if length != chosen.n as usize {
         return Err(refusal::UNSOUND);
     }
-    Ok((1..=n).map(|own| Node { own, ..first }).collect())
+    Ok((1..=chosen.n).map(|own| Node { own, ..first }).collect())
 }
 
 /// The same beside the counts, which it clears: "not one array of counts per node in set-up .. gives 4".
-pub fn counted_set_up(
-    (n, k, m): (u32, u32, u32),
-    length: usize,
-    counts: &mut [Counts],
-) -> Result<Vec<Node>, u32> {
-    let table = set_up(n, k, m, length)?;
+pub fn counted_set_up(chosen: Choices, length: usize, counts: &mut [Counts]) -> Result<Vec<Node>, u32> {
+    let table = set_up(chosen, length)?;
     counts::check_number(counts, table.len())?;
     counts.fill(counts::NONE);
     Ok(table)
@@ -96,10 +93,9 @@ pub fn counted_set_up(
 /// .. not the same throughout the table"
 pub fn check_table(nodes: &[Node]) -> Result<(), u32> {
     let Some(first) = nodes.first() else { return Err(refusal::UNSOUND) };
-    let chosen = |node: &Node| (node.n, node.k, node.m, node.slots);
-    let alike = |node: &Node| chosen(node) == chosen(first);
+    let alike = |node: &Node| (node.chosen, node.slots) == (first.chosen, first.slots);
     let in_order = nodes.iter().zip(1..).all(|(node, number)| node.own == number);
-    let whole = nodes.len() == first.n as usize && in_order;
+    let whole = nodes.len() == first.chosen.n as usize && in_order;
     if whole && nodes.iter().all(|node| alike(node) && node.is_sound()) {
         Ok(())
     } else {
@@ -109,7 +105,7 @@ pub fn check_table(nodes: &[Node]) -> Result<(), u32> {
 
 /// "node number not 1 to n"
 fn check_node(nodes: &[Node], x: u32) -> Result<(), u32> {
-    ring::check_node(nodes[0].n, x)
+    ring::check_node(nodes[0].chosen.n, x)
 }
 
 /// A table that is none, or counts that do not fit it: 4.
@@ -121,7 +117,7 @@ fn check_counted(nodes: &[Node], counts: &[Counts]) -> Result<(), u32> {
 
 /// "node number not 1 to n", of those who miss a message
 fn check_missed(nodes: &[Node], missed: Set) -> Result<(), u32> {
-    if missed.within(Set::full(nodes[0].n)) {
+    if missed.within(Set::full(nodes[0].chosen.n)) {
         Ok(())
     } else {
         Err(refusal::NODE)
@@ -166,7 +162,7 @@ pub fn slot(nodes: &mut [Node], beside: Beside, message: Message, room: usize) -
     check_missed(nodes, message.missed)?;
     ledger::check(ledger, nodes)?;
     check_limit(nodes)?;
-    message::check_jobs(nodes[0].m, message.jobs)?;
+    message::check_jobs(nodes[0].chosen.m, message.jobs)?;
     check_room(room)?;
     let before = nodes.to_vec();
     let slot = run_slot(&Document01, nodes, message, |node, heard| {
@@ -248,7 +244,7 @@ pub fn look(nodes: &[Node], lost: bool) -> Result<Look, u32> {
 
 /// The sender of the table's next slot.
 pub fn next_sender(nodes: &[Node]) -> u32 {
-    ring::sender(nodes[0].n, nodes[0].slots + 1)
+    nodes[0].next_sender()
 }
 
 /// One slot of a table that is as it must be and below the limit. `hear` is told of each node as the slot begins, and

@@ -1,7 +1,8 @@
-//! Demand 3, as "The bench" of document 01 reads it: what must hold after each call of a sequence, as
-//! long as the sequence keeps the premises. It looks only at the tables before and after each call.
+//! Demand 3, as "The bench" of document 01 and request j of document 02 read it: what must hold after each call of a
+//! sequence, as long as the sequence keeps the premises. It looks only at the tables before and after each call.
 
 use super::bench::{self, Call, Fate, Slot};
+use super::choices::Choices;
 use super::node::{Node, State};
 use super::ring::Set;
 use std::collections::VecDeque;
@@ -13,7 +14,7 @@ pub enum Premise {
     Failures,
     /// "and at most one transmission from outside the list"
     Outside,
-    /// "the list keeps k + 1 members"
+    /// "the list must keep k + 1 members plus the lag"
     List,
     /// "a returning node hears everything"
     Hearing,
@@ -56,8 +57,9 @@ struct Undecided {
 /// The sequence so far, from the table that set-up leaves.
 #[derive(Clone)]
 pub struct Demand {
-    n: u32,
-    k: u32,
+    chosen: Choices,
+    /// The members that the list must keep.
+    least: u32,
     /// Not judged, to see that the claims need it.
     ignored: Option<Premise>,
     /// The last n slots: "all the slots where fewer than n have run".
@@ -66,19 +68,30 @@ pub struct Demand {
 }
 
 impl Demand {
-    pub fn new(n: u32, k: u32) -> Demand {
-        Demand { n, k, ignored: None, entries: VecDeque::new(), undecided: Vec::new() }
+    pub fn new(chosen: Choices) -> Demand {
+        let least = chosen.k + 1 + chosen.lag;
+        Demand { chosen, least, ignored: None, entries: VecDeque::new(), undecided: Vec::new() }
     }
 
-    pub fn ignoring(n: u32, k: u32, premise: Premise) -> Demand {
-        Demand { ignored: Some(premise), ..Demand::new(n, k) }
+    pub fn ignoring(chosen: Choices, premise: Premise) -> Demand {
+        Demand { ignored: Some(premise), ..Demand::new(chosen) }
+    }
+
+    /// Asks for one member fewer on the list, to see that the claims need it.
+    pub fn one_member_fewer(chosen: Choices) -> Demand {
+        Demand { least: chosen.k + chosen.lag, ..Demand::new(chosen) }
+    }
+
+    /// The members that the list must keep.
+    pub fn least(&self) -> u32 {
+        self.least
     }
 
     /// The failures that the next slot may have.
     pub fn failures_left(&self) -> u32 {
-        let older = self.entries.len().saturating_sub(self.n as usize - 1);
+        let older = self.entries.len().saturating_sub(self.chosen.n as usize - 1);
         let counted: u32 = self.entries.iter().skip(older).map(|entry| entry.failures).sum();
-        (self.k - 1).saturating_sub(counted)
+        (self.chosen.k - 1).saturating_sub(counted)
     }
 
     /// The nodes whose deciding slot is still to come.
@@ -113,34 +126,34 @@ impl Demand {
     fn premises(&mut self, before: &[Node], slot: &Slot, missed: Set, after: &[Node]) -> Result<(), Premise> {
         self.require(self.list_is_kept(before) && self.list_is_kept(after), Premise::List)?;
         self.require(returning_hear(before, slot, missed), Premise::Hearing)?;
-        if self.entries.len() == self.n as usize {
+        if self.entries.len() == self.chosen.n as usize {
             self.entries.pop_front();
         }
         self.entries.push_back(entry(before, slot, missed));
         let failures: u32 = self.entries.iter().map(|entry| entry.failures).sum();
         let outside: u32 = self.entries.iter().map(|entry| entry.outside).sum();
-        self.require(failures < self.k, Premise::Failures)?;
+        self.require(failures < self.chosen.k, Premise::Failures)?;
         self.require(outside <= 1, Premise::Outside)
     }
 
     /// "It keeps k + 1 members if there is such a node and its set holds that many as each slot begins
-    /// and as it ends."
+    /// and as it ends."; with a lag k + 1 members plus the lag
     fn list_is_kept(&self, nodes: &[Node]) -> bool {
-        bench::list(nodes).is_some_and(|list| list.count() > self.k)
+        bench::list(nodes).is_some_and(|list| list.count() >= self.least)
     }
 
     /// Decides the nodes whose deciding slot this is, and notes the sender if its slot was lost or silent.
     fn departures(&mut self, before: &[Node], slot: &Slot, after: &[Node]) -> Result<(), Claim> {
         let list = bench::list(before).unwrap_or(Set::EMPTY);
-        let (n, k) = (self.n, self.k);
-        let decides = |node| member_after(n, k, list, node) == Some(slot.sender);
+        let chosen = self.chosen;
+        let decides = |node| deciding(chosen, list, node) == Some(slot.sender);
         let (ended, mut open): (Vec<Undecided>, Vec<Undecided>) =
             self.undecided.iter().partition(|past| decides(past.node));
         if ended.iter().any(|past| bench::member_sets(after).any(|set| set.has(past.node))) {
             return Err(Claim::StaysLate);
         }
         open.iter_mut().for_each(|past| past.slots += 1);
-        if open.iter().any(|past| past.slots == n - 1) {
+        if open.iter().any(|past| past.slots == chosen.n - 1) {
             return Err(Claim::NoDecidingSlot);
         }
         self.undecided = open;
@@ -164,10 +177,12 @@ impl Demand {
     }
 }
 
-/// "the k-th member after that node, round the ring", which may be the node itself
-fn member_after(n: u32, k: u32, list: Set, node: u32) -> Option<u32> {
+/// "the k-th member after that node, round the ring", which may be the node itself; request j: "leaving falls at the
+/// (k + lag)-th member after"
+fn deciding(chosen: Choices, list: Set, node: u32) -> Option<u32> {
+    let Choices { n, k, lag, .. } = chosen;
     let after = |steps| (node + steps - 1) % n + 1;
-    (1..=n).map(after).filter(|&x| list.has(x)).nth(k as usize - 1)
+    (1..=n).map(after).filter(|&x| list.has(x)).nth((k + lag) as usize - 1)
 }
 
 /// A message that everybody hears who is not named.

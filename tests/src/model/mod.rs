@@ -1,6 +1,7 @@
 //! The rules of document 01 and the requests of document 02 that have landed, written from their texts alone.
 
 pub mod bench;
+pub mod choices;
 pub mod counts;
 pub mod demand;
 pub mod ledger;

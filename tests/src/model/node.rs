@@ -1,8 +1,9 @@
 //! Document 01, "The node record", "One slot, for a member, following or knocking node" and
-//! "Listening", with the own mark of document 02, request e, the repeated departure of request f and the jobs of
-//! request h. Every call takes a record and gives the next one, or the number of the refusal: a refused record stays
-//! as it was.
+//! "Listening", with the own mark of document 02, request e, the repeated departure of request f, the jobs of
+//! request h and the lag of request j. Every call takes a record and gives the next one, or the number of the refusal: a
+//! refused record stays as it was.
 
+use super::choices::Choices;
 use super::counts::{self, Counts};
 use super::message::{self, Said};
 use super::refusal;
@@ -40,8 +41,8 @@ pub struct ListeningData {
 
 #[derive(Clone, Copy, PartialEq, Eq, Hash)]
 pub struct Node {
-    pub n: u32,
-    pub k: u32,
+    /// Request h: "The record keeps m and later choices of set-up."
+    pub chosen: Choices,
     pub own: u32,
     pub slots: u64,
     pub state: State,
@@ -52,8 +53,6 @@ pub struct Node {
     pub listening: ListeningData,
     /// Request e: "one more mark for "yes heard""
     pub yes_heard: bool,
-    /// Request h: "The record keeps m"
-    pub m: u32,
 }
 
 /// A clause of the soundness sentence and whether a record keeps it.
@@ -63,17 +62,17 @@ pub struct Clause {
 }
 
 /// "A record is sound if ..": its clauses in the document's order, what "The node record" and "Listening"
-/// say of the values, and the clauses of requests e and h.
+/// say of the values, and the clauses of requests e, h and j.
 #[rustfmt::skip]
 pub const CLAUSES: &[Clause] = &[
-    Clause { says: "n in range", kept: |r| ring::is_size(r.n) },
-    Clause { says: "k in range", kept: |r| ring::is_sponsor_count(r.n, r.k) },
-    Clause { says: "own number in range", kept: |r| ring::is_node(r.n, r.own) },
+    Clause { says: "n in range", kept: |r| ring::is_size(r.chosen.n) },
+    Clause { says: "k in range", kept: |r| ring::is_sponsor_count(r.chosen.n, r.chosen.k, r.chosen.lag) },
+    Clause { says: "own number in range", kept: |r| ring::is_node(r.chosen.n, r.own) },
     Clause { says: "slot count at most the limit", kept: |r| r.slots <= ring::LIMIT },
-    Clause { says: "set holds only 1 to n", kept: |r| r.set.within(Set::full(r.n)) },
-    Clause { says: "marks hold only 1 to n", kept: |r| r.marks.within(Set::full(r.n)) },
+    Clause { says: "set holds only 1 to n", kept: |r| r.set.within(Set::full(r.chosen.n)) },
+    Clause { says: "marks hold only 1 to n", kept: |r| r.marks.within(Set::full(r.chosen.n)) },
     Clause { says: "each marked node is in the set", kept: |r| r.marks.within(r.set) },
-    Clause { says: "returning is 0 or a node", kept: |r| r.returning == 0 || ring::is_node(r.n, r.returning) },
+    Clause { says: "returning is 0 or a node", kept: |r| r.returning == 0 || ring::is_node(r.chosen.n, r.returning) },
     Clause { says: "returning is outside the set", kept: |r| !r.set.has(r.returning) },
     Clause { says: "own number in a member's set and otherwise not", kept: |r| r.set.has(r.own) == (r.state == State::Member) },
     Clause { says: "returning is the own number exactly when knocking", kept: |r| (r.returning == r.own) == (r.state == State::Knocking) },
@@ -81,18 +80,19 @@ pub const CLAUSES: &[Clause] = &[
     Clause { says: "marks empty when listening or out", kept: |r| !r.knows_nobody() || r.marks == Set::EMPTY },
     Clause { says: "returning 0 when listening or out", kept: |r| !r.knows_nobody() || r.returning == 0 },
     Clause { says: "return heard no except when knocking", kept: |r| !r.return_heard || r.state == State::Knocking },
-    Clause { says: "slots done 0 to n - 1", kept: |r| !r.listens() || r.listening.done < r.n },
-    Clause { says: "nodes heard are nodes", kept: |r| !r.listens() || r.listening.heard.within(Set::full(r.n)) },
+    Clause { says: "slots done 0 to n - 1", kept: |r| !r.listens() || r.listening.done < r.chosen.n },
+    Clause { says: "nodes heard are nodes", kept: |r| !r.listens() || r.listening.heard.within(Set::full(r.chosen.n)) },
     Clause { says: "nodes heard without own number", kept: |r| !r.listens() || !r.listening.heard.has(r.own) },
-    Clause { says: "shortest run 0 to k", kept: |r| !r.listens() || r.listening.shortest <= r.k },
-    Clause { says: "shortest run k while nothing is heard", kept: |r| !r.listens() || r.listening.heard != Set::EMPTY || r.listening.shortest == r.k },
-    Clause { says: "last clean window's nodes are nodes", kept: |r| !r.listens() || r.listening.last.within(Set::full(r.n)) },
+    Clause { says: "shortest run 0 to k", kept: |r| !r.listens() || r.listening.shortest <= r.chosen.k },
+    Clause { says: "shortest run k while nothing is heard", kept: |r| !r.listens() || r.listening.heard != Set::EMPTY || r.listening.shortest == r.chosen.k },
+    Clause { says: "last clean window's nodes are nodes", kept: |r| !r.listens() || r.listening.last.within(Set::full(r.chosen.n)) },
     Clause { says: "last clean window without own number", kept: |r| !r.listens() || !r.listening.last.has(r.own) },
     Clause { says: "last clean window none, or two or more", kept: |r| !r.listens() || r.listening.last.count() != 1 },
     Clause { says: "listening data zero or no in every other state", kept: |r| r.listens() || r.listening == ListeningData::default() },
     Clause { says: "following and knocking need two members", kept: |r| !r.returns() || r.set.count() >= 2 },
     Clause { says: "yes heard only in the member state", kept: |r| !r.yes_heard || r.state == State::Member },
-    Clause { says: "m in range", kept: |r| r.m <= message::MOST_JOBS },
+    Clause { says: "m in range", kept: |r| r.chosen.m <= message::MOST_JOBS },
+    Clause { says: "lag in range", kept: |r| ring::is_lag(r.chosen.lag) },
 ];
 
 /// A node must leave: with a cause, or because too few members remain.
@@ -102,24 +102,21 @@ pub enum Leaving {
 }
 
 impl Node {
-    /// "All start as members, set full, all marks on, returning 0."; yes heard is "cleared at set-up". "14, after 2"
-    pub fn set_up(n: u32, k: u32, m: u32, own: u32) -> Result<Node, u32> {
-        ring::check_size(n, Some(k))?;
-        message::check_m(m)?;
-        ring::check_node(n, own)?;
+    /// "All start as members, set full, all marks on, returning 0."; yes heard is "cleared at set-up".
+    pub fn set_up(chosen: Choices, own: u32) -> Result<Node, u32> {
+        chosen.check()?;
+        ring::check_node(chosen.n, own)?;
         Ok(Node {
-            n,
-            k,
+            chosen,
             own,
             slots: 0,
             state: State::Member,
-            set: Set::full(n),
-            marks: Set::full(n),
+            set: Set::full(chosen.n),
+            marks: Set::full(chosen.n),
             returning: 0,
             return_heard: false,
             listening: ListeningData::default(),
             yes_heard: false,
-            m,
         })
     }
 
@@ -158,7 +155,7 @@ impl Node {
 
     /// The sender of the next slot.
     pub fn next_sender(&self) -> u32 {
-        ring::sender(self.n, self.slots + 1)
+        ring::sender(self.chosen, self.slots + 1)
     }
 
     /// Numbers and slot count stay; all that was known or heard goes.
@@ -176,7 +173,7 @@ impl Node {
     }
 
     fn listening_afresh(&self) -> Node {
-        Node { listening: new_window(self.k, Set::EMPTY), ..self.emptied(State::Listening) }
+        Node { listening: new_window(self.chosen.k, Set::EMPTY), ..self.emptied(State::Listening) }
     }
 
     /// "`off` works in every state, giving cause 4."
@@ -199,9 +196,9 @@ impl Node {
     pub fn send(&self, jobs: u8, out: &mut [u8]) -> Result<usize, u32> {
         self.check_sound()?;
         self.check_limit()?;
-        message::check_jobs(self.m, jobs)?;
+        message::check_jobs(self.chosen.m, jobs)?;
         let said = self.says(jobs).ok_or(refusal::TURN)?;
-        message::write(self.k, self.m, said, out)
+        message::write(self.chosen.k, self.chosen.m, said, out)
     }
 
     /// What this node says in the next slot, if it sends. "Members send in their own slots, bits taken
@@ -218,10 +215,11 @@ impl Node {
         }
     }
 
-    /// "bit 1 concerns the nearest member before the sender"; "Acknowledgement bits past ks are sent as 0"
+    /// "bit 1 concerns the nearest member before the sender", with lag 1 "the second member back"; "Acknowledgement bits
+    /// past ks are sent as 0"
     fn acknowledgements(&self) -> u32 {
         let mut acks = 0;
-        for (bit, met) in ring::sponsored(self.n, self.k, self.set, self.own).enumerate() {
+        for (bit, met) in ring::sponsored(self.chosen, self.set, self.own).enumerate() {
             if self.marks.has(met.member) {
                 acks |= 1 << bit;
             }
@@ -235,7 +233,7 @@ impl Node {
         counts::check(counts, self.slots)?;
         self.check_limit()?;
         // "An unreadable message counts as not heard."; "any other message is unheard"
-        let heard = message::read(self.k, self.m, bytes).ok();
+        let heard = message::read(self.chosen.k, self.chosen.m, bytes).ok();
         counts::enter(counts, self, heard);
         Ok(self.step(heard))
     }
@@ -296,7 +294,7 @@ impl Node {
         };
         self.marks = self.marks.with(sender);
         // "ignored when heard": bits past ks concern nobody.
-        for (bit, met) in ring::sponsored(self.n, self.k, self.set, sender).enumerate() {
+        for (bit, met) in ring::sponsored(self.chosen, self.set, sender).enumerate() {
             let yes = acks >> bit & 1 == 1;
             if met.member == self.own {
                 self.answered(yes);
@@ -349,7 +347,7 @@ impl Node {
 
     /// "the decided member leaves if its mark is off": that member, if it does.
     pub fn departing(&self, sender: u32) -> Option<u32> {
-        let decided = ring::decided(self.n, self.k, self.set, sender)?.member;
+        let decided = ring::decided(self.chosen, self.set, sender)?.member;
         (!self.marks.has(decided)).then_some(decided)
     }
 
@@ -386,7 +384,7 @@ impl Node {
         if self.returning == 0 {
             return;
         }
-        let nearest = ring::members_before(self.n, self.set, self.returning).next();
+        let nearest = ring::members_before(self.chosen, self.set, self.returning).next();
         if nearest.is_none_or(|met| met.member != sender) {
             return;
         }
@@ -420,7 +418,7 @@ impl Node {
             data.shortest = data.shortest.min(acks.trailing_ones());
             data.return_seen |= return_bit;
         }
-        if data.done == self.n {
+        if data.done == self.chosen.n {
             self.end_window();
         }
     }
@@ -431,19 +429,20 @@ impl Node {
     fn end_window(&mut self) {
         let ListeningData { heard, last, .. } = self.listening;
         if !self.window_is_clean() {
-            self.listening = new_window(self.k, Set::EMPTY);
+            self.listening = new_window(self.chosen.k, Set::EMPTY);
         } else if heard != last {
-            self.listening = new_window(self.k, heard);
+            self.listening = new_window(self.chosen.k, heard);
         } else {
             *self = Node { set: heard, marks: heard, ..self.emptied(State::Following) };
         }
     }
 
     /// "every message heard has return bit 0, and the run of ones from bit 1 in each is at least the
-    /// smaller of k and (number of nodes heard) - 1"; "fewer than two nodes heard is unclean"
+    /// smaller of k and (number of nodes heard) - 1"; "fewer than two nodes heard is unclean". Request j: "The listening
+    /// rule uses the same reduced number."
     fn window_is_clean(&self) -> bool {
         let ListeningData { heard, shortest, return_seen, .. } = self.listening;
-        heard.count() >= 2 && !return_seen && shortest >= self.k.min(heard.count() - 1)
+        heard.count() >= 2 && !return_seen && shortest >= ring::ks(self.chosen, heard.count())
     }
 }
 

@@ -1,6 +1,7 @@
 //! Document 01, "The bench program".
 
 use super::bench::{self, Call, Document01, Fate, Slot};
+use super::choices::Choices;
 use super::node::Node;
 use super::refusal;
 use super::ring::{is_node, Set};
@@ -39,16 +40,16 @@ pub fn whole(line: &[u8]) -> Result<&[u8], u32> {
     }
 }
 
-/// "Line one: n, space, k." "The bench program keeps its lines, with m = 0"
+/// "Line one: n, space, k." "The bench program keeps its lines, with m = 0 and later lag 0"
 pub fn line_one(line: &[u8]) -> Result<Vec<Node>, u32> {
     let (n, k) = parted(line);
     let n = number(n)?;
     let k = number(k.ok_or(refusal::LINE)?)?;
-    bench::set_up(n, k, 0, n as usize)
+    bench::set_up(Choices::plain(n, k), n as usize)
 }
 
 pub fn run_line(nodes: &mut [Node], line: &[u8], out: &mut Vec<u8>) -> Result<(), u32> {
-    let call = call(nodes[0].n, line)?;
+    let call = call(nodes[0].chosen.n, line)?;
     if let Some(slot) = bench::run(&Document01, nodes, call)? {
         print_slot(nodes, &slot, out);
     }

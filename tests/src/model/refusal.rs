@@ -2,7 +2,7 @@
 
 /// "n not 3 to 32"
 pub const N: u32 = 1;
-/// "k not 2 to n - 1 (reader and writer alone: 2 to 31)"
+/// "k not 2 to n - 1 (reader and writer alone: 2 to 31)"; request j: "k is at most n - 1 less the lag"
 pub const K: u32 = 2;
 /// "node number not 1 to n"
 pub const NODE: u32 = 3;
@@ -30,3 +30,5 @@ pub const LEDGER: u32 = 13;
 pub const JOBS: u32 = 14;
 /// request i: "Message with a job count of 1 to 8 to be taken back"
 pub const TAKEN_BACK: u32 = 15;
+/// request j: "Lag above 1"
+pub const LAG: u32 = 16;

@@ -1,5 +1,6 @@
-//! Document 01, "The ring", and document 02, request b.
+//! Document 01, "The ring", and document 02, requests b and j.
 
+use super::choices::Choices;
 use super::refusal;
 
 /// "the limit is 1,000,000,000,000,000"
@@ -10,9 +11,14 @@ pub fn is_size(n: u32) -> bool {
     (3..=32).contains(&n)
 }
 
-/// "k is from 2 to n - 1."
-pub fn is_sponsor_count(n: u32, k: u32) -> bool {
-    2 <= k && k < n
+/// "a lag of 0 or 1"
+pub fn is_lag(lag: u32) -> bool {
+    lag <= 1
+}
+
+/// "k is from 2 to n - 1."; "k is at most n - 1 less the lag"
+pub fn is_sponsor_count(n: u32, k: u32, lag: u32) -> bool {
+    2 <= k && u64::from(k) + 1 + u64::from(lag) <= u64::from(n)
 }
 
 /// "n nodes are numbered 1 to n"
@@ -20,15 +26,13 @@ pub fn is_node(n: u32, x: u32) -> bool {
     1 <= x && x <= n
 }
 
-/// "Checks run in table order": n, then k where one is given.
-pub fn check_size(n: u32, k: Option<u32>) -> Result<(), u32> {
-    if !is_size(n) {
-        return Err(refusal::N);
+/// "n not 3 to 32"
+pub fn check_size(n: u32) -> Result<(), u32> {
+    if is_size(n) {
+        Ok(())
+    } else {
+        Err(refusal::N)
     }
-    if k.is_some_and(|k| !is_sponsor_count(n, k)) {
-        return Err(refusal::K);
-    }
-    Ok(())
 }
 
 /// "node number not 1 to n"
@@ -40,15 +44,9 @@ pub fn check_node(n: u32, x: u32) -> Result<(), u32> {
     }
 }
 
-/// n, then k where one is given, then the node's number.
-pub fn check(n: u32, k: Option<u32>, x: u32) -> Result<(), u32> {
-    check_size(n, k)?;
-    check_node(n, x)
-}
-
 /// "The sender of slot s is ((s - 1) mod n) + 1."
-pub fn sender(n: u32, slot: u64) -> u32 {
-    ((slot - 1) % u64::from(n)) as u32 + 1
+pub fn sender(chosen: Choices, slot: u64) -> u32 {
+    ((slot - 1) % u64::from(chosen.n)) as u32 + 1
 }
 
 /// Nodes of 1 to 32; node 1 is the lowest bit.
@@ -113,22 +111,26 @@ pub struct Met {
 
 /// The members before x, the nearest first, "going back round the ring in slot order"; "the number of slots,
 /// from 1 to n - 1".
-pub fn members_before(n: u32, set: Set, x: u32) -> impl Iterator<Item = Met> {
+pub fn members_before(chosen: Choices, set: Set, x: u32) -> impl Iterator<Item = Met> {
+    let n = chosen.n;
     let node = move |back| if back < x { x - back } else { x + n - back };
     (1..n).map(move |back| Met { member: node(back), back }).filter(move |met| set.has(met.member))
 }
 
-/// "With c members, ks is the smaller of k and c - 1." Nobody is sponsored where there is no member.
-pub fn ks(k: u32, c: u32) -> u32 {
-    k.min(c.saturating_sub(1))
+/// "With c members, ks is the smaller of k and c - 1."; "With lag 1 .. the smaller of k and c - 2". Nobody is sponsored
+/// where there are too few members.
+pub fn ks(chosen: Choices, c: u32) -> u32 {
+    chosen.k.min(c.saturating_sub(1).saturating_sub(chosen.lag))
 }
 
-/// "A member *sponsors* the ks members before it": the nearest first, as the acknowledgement bits.
-pub fn sponsored(n: u32, k: u32, set: Set, x: u32) -> impl Iterator<Item = Met> {
-    members_before(n, set, x).take(ks(k, set.count()) as usize)
+/// "A member *sponsors* the ks members before it": the nearest first, as the acknowledgement bits. With lag 1
+/// "sponsoring .. begin[s] two members back", "bit 1 concerns the second member back".
+pub fn sponsored(chosen: Choices, set: Set, x: u32) -> impl Iterator<Item = Met> {
+    members_before(chosen, set, x).skip(chosen.lag as usize).take(ks(chosen, set.count()) as usize)
 }
 
-/// "The one furthest back is the member it *decides*. With one member nobody is decided."
-pub fn decided(n: u32, k: u32, set: Set, x: u32) -> Option<Met> {
-    sponsored(n, k, set, x).last()
+/// "The one furthest back is the member it *decides*. With one member nobody is decided."; with lag 1 "with two
+/// members or fewer nobody is decided"
+pub fn decided(chosen: Choices, set: Set, x: u32) -> Option<Met> {
+    sponsored(chosen, set, x).last()
 }

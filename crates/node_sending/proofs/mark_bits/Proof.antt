@@ -9,7 +9,7 @@ use borrow.Author.Needs.{needs}
 use Rattle.nodeset.specs.Sets.{has, withIf}
 use Rattle.ring.specs.declared.Place.{Place}
 use Rattle.ring.specs.Ring.{memberIn}
-use Rattle.ring.proofs.Places.{After, at-start, one-on, next-sponsored}
+use Rattle.ring.proofs.Places.{Sponsoring, sponsors-start, sponsors-on, next-sponsored}
 use Rattle.node_record.specs.declared.Node.{Node}
 use Rattle.node_record.specs.Sponsoring.{sponsoredIn}
 use Rattle.node_sending.specs.Sending.{markBits}
@@ -19,7 +19,7 @@ use Rattle.node_sending.proofs.mark_bits.Tie as tie
 record Going (v : Node) (most j bits : ℕ) (place : Place) : Type 0 where
   below : j ≤ most
   so-far : bits ≡ markBits j v
-  stands : After (v .cable .n) (v .set) (v .own) j place
+  stands : Sponsoring (v .cable) (v .set) (v .own) j place
 
 abbrev Inv-loop : tie.InvT-loop
 Inv-loop v cable most place₀ bits₀ j₀ place bits j = Going v most j bits place
@@ -39,14 +39,14 @@ one-more v j bits x e f =
 sponsors-requires : tie.Need-sponsors-requires Inv-loop μ-loop
 sponsors-requires c κs = search needs
 
-start-at-requires : tie.Need-start-at-requires Inv-loop μ-loop
-start-at-requires c κs = search needs
+sponsors-from-requires : tie.Need-sponsors-from-requires Inv-loop μ-loop
+sponsors-from-requires c κs = search needs
 
 loop-holds : tie.Need-loop-holds Inv-loop μ-loop
 unfolding markBits
 loop-holds c =
     let v = c .before .before .before .args .v in
-    record { below = omega arith; so-far = refl; stands = rw (c .start-at .ensures) (at-start (v .cable .n) (v .set) (v .own)) }
+    record { below = omega arith; so-far = refl; stands = rw (c .sponsors-from .ensures) (sponsors-start (v .cable) (v .set) (v .own)) }
 
 add-j : tie.Need-add-j Inv-loop μ-loop
 add-j c = omega arith
@@ -76,7 +76,7 @@ loop-again c =
           ∙ ap (λ (b : Bool). withIf b (l .bits) (l .j + 1)) (c .before .has .ensures)
           ∙ one-more v (l .j) (l .bits) (near .result .node) (l .inv .so-far)
           (ap (λ (p : Place). p .node) (near .ensures) ∙ next-sponsored (v .cable) (v .set) (v .own) (l .j) (l .place) (omega arith) (l .inv .stands));
-      stands = rw (near .ensures) (one-on (v .cable .n) (v .set) (v .own) (l .j) (l .place) (l .inv .stands));
+      stands = rw (near .ensures) (sponsors-on (v .cable) (v .set) (v .own) (l .j) (l .place) (l .inv .stands));
     }
 
 returns : tie.Need-returns Inv-loop μ-loop
@@ -92,7 +92,7 @@ mark-bits-spec =
     Inv-loop
     μ-loop
     sponsors-requires
-    start-at-requires
+    sponsors-from-requires
     loop-holds
     add-j
     nearest-requires

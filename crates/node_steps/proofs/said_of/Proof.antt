@@ -10,7 +10,7 @@ use Rattle.nodeset.specs.Sets.{has, with}
 use Rattle.ring.specs.declared.Cable.{Cable}
 use Rattle.ring.specs.declared.Place.{Place}
 use Rattle.ring.specs.Ring.{sponsored, memberIn}
-use Rattle.ring.proofs.Places.{After, at-start, one-on, next-sponsored}
+use Rattle.ring.proofs.Places.{Sponsoring, sponsors-start, sponsors-on, next-sponsored}
 use Rattle.node_steps.specs.Steps.{saysSo}
 use Rattle.node_steps.specs.Digests.{answered}
 use Rattle.node_steps.proofs.said_of.Statement.{statement}
@@ -20,7 +20,7 @@ record Going (s bits : ℕ) (cable : Cable) (set most j yes' no' : ℕ) (place :
   below : j ≤ most
   so-far : yes' ≡ answered true (with 0 s) j s bits cable set
   others : no' ≡ answered false 0 j s bits cable set
-  stands : After (cable .n) set s j place
+  stands : Sponsoring cable set s j place
 
 abbrev Inv-loop : tie.InvT-loop
 Inv-loop s bits cable set most place₀ yes₀ no₀ j₀ place yes' no' j = Going s bits cable set most j yes' no' place
@@ -39,8 +39,8 @@ one-more answer start s bits cable set j nodes x bit b e f =
 sponsors-requires : tie.Need-sponsors-requires Inv-loop μ-loop
 sponsors-requires c κs = search needs
 
-start-at-requires : tie.Need-start-at-requires Inv-loop μ-loop
-start-at-requires c κs = search needs
+sponsors-from-requires : tie.Need-sponsors-from-requires Inv-loop μ-loop
+sponsors-from-requires c κs = search needs
 
 with-requires : tie.Need-with-requires Inv-loop μ-loop
 with-requires c κs = search needs
@@ -49,7 +49,7 @@ loop-holds : tie.Need-loop-holds Inv-loop μ-loop
 unfolding answered
 loop-holds c =
     let a = c .before .before .before .args in
-    record { below = omega arith; so-far = c .with .ensures; others = refl; stands = rw (c .before .start-at .ensures) (at-start (a .cable .n) (a .set) (a .s)) }
+    record { below = omega arith; so-far = c .with .ensures; others = refl; stands = rw (c .before .sponsors-from .ensures) (sponsors-start (a .cable) (a .set) (a .s)) }
 
 add-j : tie.Need-add-j Inv-loop μ-loop
 add-j c = omega arith
@@ -85,7 +85,7 @@ loop-again c =
       others =
           c .with-if2 .ensures
           ∙ one-more false 0 (a .s) (a .bits) (a .cable) (a .set) (l .j) (l .«no») (h .before .nearest .result .node) (h .has .result) (h .has .ensures) (l .inv .others) it;
-      stands = rw near (one-on (a .cable .n) (a .set) (a .s) (l .j) (l .place) (l .inv .stands));
+      stands = rw near (sponsors-on (a .cable) (a .set) (a .s) (l .j) (l .place) (l .inv .stands));
     }
 
 returns : tie.Need-returns Inv-loop μ-loop
@@ -105,7 +105,7 @@ said-of-spec =
     Inv-loop
     μ-loop
     sponsors-requires
-    start-at-requires
+    sponsors-from-requires
     with-requires
     loop-holds
     add-j

@@ -1,9 +1,9 @@
 -- `plan_line::ring_of` meets its contract: at each `return` the tests that led there say which case of `ringOf` holds.
 -- Assumes nothing.
-use mathlib.Core.Path.{_≡_, sym, _∙_}
+use mathlib.Core.Path.{_≡_, sym, ap, _∙_}
 use mathlib.Core.Bool.{true}
 use borrow.Author.Tests.{not-true, not-false}
-use Rattle.ring.specs.Ring.{ringSize}
+use Rattle.ring.specs.Ring.{cableOf, ringSize, sponsorCount}
 use Rattle.plan_line.specs.Plan.{ringOf}
 use borrow.Author.Needs.{needs}
 use Rattle.plan_line.proofs.ring_of.Statement.{statement}
@@ -13,6 +13,10 @@ use Rattle.plan_line.proofs.ring_of.Tie as tie
 sized : (c : tie.Else1) → ringSize (c .before .before .args .n) ≡ true
 sized c = sym (c .before .is-ring-size .ensures) ∙ not-false (c .before .is-ring-size .result) (c .if1 .left)
 
+-- k is tested for the cable with these numbers
+counted : (c : tie.After-is-sponsor-count) → c .is-sponsor-count .result ≡ sponsorCount (cableOf (c .before .before .before .before .args .n) (c .before .before .before .before .args .k))
+counted c = c .is-sponsor-count .ensures ∙ ap sponsorCount (c .before .cable-of .ensures)
+
 is-ring-size-requires : tie.Need-is-ring-size-requires
 is-ring-size-requires c κs = search needs
 
@@ -20,20 +24,23 @@ returns : tie.Need-returns
 unfolding ringOf
 returns c = simp (sym (c .before .is-ring-size .ensures) ∙ not-true (c .before .is-ring-size .result) (c .if1 .taken))
 
+cable-of-requires : tie.Need-cable-of-requires
+cable-of-requires c κs = search needs
+
 is-sponsor-count-requires : tie.Need-is-sponsor-count-requires
 is-sponsor-count-requires c κs = search needs
 
 returns-2 : tie.Need-returns-2
 unfolding ringOf
 returns-2 c =
-    simp (sized (c .before .before), sym (c .before .is-sponsor-count .ensures) ∙ not-true (c .before .is-sponsor-count .result) (c .if2 .taken))
+    simp (sized (c .before .before .before), sym (counted (c .before)) ∙ not-true (c .before .is-sponsor-count .result) (c .if2 .taken))
 
 returns-3 : tie.Need-returns-3
 unfolding ringOf
 returns-3 c =
-    simp (sized (c .before .before), sym (c .before .is-sponsor-count .ensures) ∙ not-false (c .before .is-sponsor-count .result) (c .if2 .left))
+    simp (sized (c .before .before .before), sym (counted (c .before)) ∙ not-false (c .before .is-sponsor-count .result) (c .if2 .left))
 
 pub ring-of-spec : {M : Type 1} → statement M
 ring-of-spec =
     tie.close
-    (tie.spec is-ring-size-requires returns is-sponsor-count-requires returns-2 returns-3)
+    (tie.spec is-ring-size-requires returns cable-of-requires is-sponsor-count-requires returns-2 returns-3)

@@ -8,6 +8,9 @@ use Rattle.ring.proofs.cable_fits.Tie as tie
 is-ring-size-requires : tie.Need-is-ring-size-requires
 is-ring-size-requires c κs = search needs
 
+is-lag-requires : tie.Need-is-lag-requires
+is-lag-requires c κs = search needs
+
 is-sponsor-count-requires : tie.Need-is-sponsor-count-requires
 is-sponsor-count-requires c κs = search needs
 
@@ -15,7 +18,9 @@ is-job-count-requires : tie.Need-is-job-count-requires
 is-job-count-requires c κs = search needs
 
 returns : tie.Need-returns
-returns c = ap₂ _&&_ (c .before .before .is-ring-size .ensures) (ap₂ _&&_ (c .before .is-sponsor-count .ensures) (c .is-job-count .ensures))
+returns c =
+    ap₂ _&&_ (c .before .before .before .is-ring-size .ensures)
+    (ap₂ _&&_ (c .before .before .is-lag .ensures) (ap₂ _&&_ (c .before .is-sponsor-count .ensures) (c .is-job-count .ensures)))
 
 pub cable-fits-spec : {M : Type 1} → statement M
-cable-fits-spec = tie.close (tie.spec is-ring-size-requires is-sponsor-count-requires is-job-count-requires returns)
+cable-fits-spec = tie.close (tie.spec is-ring-size-requires is-lag-requires is-sponsor-count-requires is-job-count-requires returns)

@@ -6,8 +6,9 @@ use native.Mathlib.Omega.{arith}
 use lib.Dec.{leb}
 use borrow.Author.Needs.{needs}
 use borrow.Author.Tests.{le-leb, lt-leb}
+use Rattle.nodeset.proofs.Counts.{size-le}
 use Rattle.ring.specs.Ring.{sponsors, sponsored}
-use Rattle.ring.proofs.Members.{sponsored-before}
+use Rattle.ring.proofs.Members.{sponsored-before, sponsors-others}
 use Rattle.ring.proofs.sponsored_member.Statement.{statement}
 use Rattle.ring.proofs.sponsored_member.Tie as tie
 
@@ -26,15 +27,23 @@ returns-2 c =
     let past : leb (a .j) (sponsors (a .cable) (a .set)) ≡ false = lt-leb (a .j) (sponsors (a .cable) (a .set)) (omega (arith, c .if2 .taken, c .before .sponsors .ensures)) in
     simp (le-leb 1 (a .j) some, past)
 
+add-member-before : tie.Need-add-member-before
+add-member-before c =
+    let a = c .before .before .before .before .args in
+    let some : 1 ≤ a .j = omega (arith, c .before .before .before .if1 .left) in
+    let last : a .j ≤ sponsors (a .cable) (a .set) = omega (arith, c .before .if2 .left, c .before .before .sponsors .ensures) in
+    omega (arith, last, sponsors-others (a .cable) (a .set) (omega (arith, some, last)), size-le (a .cable .n) (a .set))
+
 member-before-requires : tie.Need-member-before-requires
 member-before-requires c κs = search needs
 
 returns-3 : tie.Need-returns-3
 returns-3 c =
-    let a = c .before .before .before .before .args in
+    let h = c .before in
+    let a = h .before .before .before .before .args in
     c .member-before .ensures
-    ∙ sym (sponsored-before (a .cable) (a .set) (a .x) (a .j) (omega (arith, c .before .before .before .if1 .left)) (omega (arith, c .before .if2 .left, c .before .before .sponsors .ensures)))
+    ∙ sym (sponsored-before (a .cable) (a .set) (a .x) (a .j) (omega (arith, h .before .before .before .if1 .left)) (omega (arith, h .before .if2 .left, h .before .before .sponsors .ensures)))
 
 pub sponsored-member-spec : {M : Type 1} → statement M
 sponsored-member-spec =
-    tie.close (tie.spec returns sponsors-requires returns-2 member-before-requires returns-3)
+    tie.close (tie.spec returns sponsors-requires returns-2 add-member-before member-before-requires returns-3)

@@ -10,30 +10,45 @@ is-ring-size-requires c κs = search needs
 returns : tie.Need-returns
 returns c = simp (failed (c .before .is-ring-size .ensures) (c .if1 .taken))
 
-is-sponsor-count-requires : tie.Need-is-sponsor-count-requires
-is-sponsor-count-requires c κs = search needs
+is-lag-requires : tie.Need-is-lag-requires
+is-lag-requires c κs = search needs
 
 returns-2 : tie.Need-returns-2
 returns-2 c =
-    simp (passed (c .before .before .before .is-ring-size .ensures) (c .before .before .if1 .left), failed (c .before .is-sponsor-count .ensures) (c .if2 .taken))
+    simp (passed (c .before .before .before .is-ring-size .ensures) (c .before .before .if1 .left), failed (c .before .is-lag .ensures) (c .if2 .taken))
 
-is-node-number-requires : tie.Need-is-node-number-requires
-is-node-number-requires c κs = search needs
+is-sponsor-count-requires : tie.Need-is-sponsor-count-requires
+is-sponsor-count-requires c κs = search needs
 
 returns-3 : tie.Need-returns-3
 returns-3 c =
     simp (
       passed (c .before .before .before .before .before .is-ring-size .ensures) (c .before .before .before .before .if1 .left),
-      passed (c .before .before .before .is-sponsor-count .ensures) (c .before .before .if2 .left),
-      failed (c .before .is-node-number .ensures) (c .if3 .taken),
+      passed (c .before .before .before .is-lag .ensures) (c .before .before .if2 .left),
+      failed (c .before .is-sponsor-count .ensures) (c .if3 .taken),
     )
+
+is-node-number-requires : tie.Need-is-node-number-requires
+is-node-number-requires c κs = search needs
 
 returns-4 : tie.Need-returns-4
 returns-4 c =
+    let first = c .before .before .before .before .before .before in
     simp (
-      passed (c .before .before .before .before .before .is-ring-size .ensures) (c .before .before .before .before .if1 .left),
-      passed (c .before .before .before .is-sponsor-count .ensures) (c .before .before .if2 .left),
-      passed (c .before .is-node-number .ensures) (c .if3 .left),
+      passed (first .before .is-ring-size .ensures) (first .if1 .left),
+      passed (c .before .before .before .before .before .is-lag .ensures) (c .before .before .before .before .if2 .left),
+      passed (c .before .before .before .is-sponsor-count .ensures) (c .before .before .if3 .left),
+      failed (c .before .is-node-number .ensures) (c .if4 .taken),
+    )
+
+returns-5 : tie.Need-returns-5
+returns-5 c =
+    let first = c .before .before .before .before .before .before in
+    simp (
+      passed (first .before .is-ring-size .ensures) (first .if1 .left),
+      passed (c .before .before .before .before .before .is-lag .ensures) (c .before .before .before .before .if2 .left),
+      passed (c .before .before .before .is-sponsor-count .ensures) (c .before .before .if3 .left),
+      passed (c .before .is-node-number .ensures) (c .if4 .left),
     )
 
 pub tests-of-spec : {M : Type 1} → statement M
@@ -42,8 +57,10 @@ tests-of-spec =
     (tie.spec
     is-ring-size-requires
     returns
-    is-sponsor-count-requires
+    is-lag-requires
     returns-2
-    is-node-number-requires
+    is-sponsor-count-requires
     returns-3
-    returns-4)
+    is-node-number-requires
+    returns-4
+    returns-5)

@@ -6,6 +6,7 @@ use super::tally::History;
 use comparison::child;
 use comparison::events::{several, KINDS};
 use comparison::messages::hex;
+use comparison::model::choices::Choices;
 use comparison::model::node::{Node, State};
 use comparison::record_bytes::{shown_counts, shown_record, Reader, RECORD};
 use comparison::report::Count;
@@ -95,7 +96,7 @@ fn note(count: &mut Count, command: &Command, told: &Told, answer: &[u8]) {
         note_pairs(count, &answer[HEAD..HEAD + 2 * told.pairs as usize]);
     }
     count.event(match (command, told.number) {
-        (Command::Call(Call::SetUp { .. }, _), 0) => "call: set-up",
+        (Command::Call(Call::SetUp(_), _), 0) => "call: set-up",
         (Command::Call(Call::Off(_), _), 0) => "call: off",
         (Command::Call(Call::Restart(_), _), 0) => "call: restart",
         (Command::Call(Call::Slot { .. }, _), 0) => "call: slot",
@@ -164,7 +165,7 @@ fn shown_command(command: &Command) -> String {
 
 fn shown_call(call: Call) -> String {
     match call {
-        Call::SetUp { n, k, m } => format!("set-up n = {n}, k = {k}, m = {m}"),
+        Call::SetUp(Choices { n, k, m, lag }) => format!("set-up n = {n}, k = {k}, m = {m}, lag {lag}"),
         Call::Off(x) => format!("off {x}"),
         Call::Restart(x) => format!("restart {x}"),
         Call::Slot { lost, missed, jobs } => {

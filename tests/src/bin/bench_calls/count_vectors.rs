@@ -5,6 +5,7 @@ use super::protocol::{Call, Command};
 use super::reports::{GIVEN, TALLIES};
 use super::script::Script;
 use comparison::events::{COUNTED, UNCOUNTED};
+use comparison::model::choices::Choices;
 use comparison::model::counts::{Counts, NONE};
 use comparison::model::ledger::Figures;
 use comparison::random::Random;
@@ -123,7 +124,7 @@ fn start(script: &mut Script, random: &mut Random, (n, k, m): (u32, u32, u32)) -
     script.push(Command::Size(n as u8));
     script.push(Command::Arrays(n as u8));
     script.lend(random, &vec![Figures::default(); n as usize]);
-    script.call(random, Call::SetUp { n, k, m });
+    script.call(random, Call::SetUp(Choices { n, k, m, lag: 0 }));
     Expected(vec![NONE; n as usize])
 }
 
@@ -155,14 +156,16 @@ fn refused(
     expected: &mut Expected,
 ) -> Result<(), String> {
     let (n, slots) = (expected.0.len() as u8, script.table()[0].slots);
-    let set_up = |m| Call::SetUp { n: u32::from(n), k: 2, m };
+    let set_up = |m, lag| Call::SetUp(Choices { n: u32::from(n), k: 2, m, lag });
     for (arrays, call, number) in [
         (n, ok(0b1000), 8),
         (n - 1, ok(0b1000), 4),
         (n + 1, ok(0), 4),
-        (n, set_up(9), 14),
-        (n - 1, set_up(3), 4),
-        (n + 1, set_up(3), 4),
+        (n, set_up(9, 0), 14),
+        (n, set_up(9, 2), 16),
+        (n - 1, set_up(3, 2), 16),
+        (n - 1, set_up(3, 0), 4),
+        (n + 1, set_up(3, 1), 4),
     ] {
         script.push(Command::Arrays(arrays));
         let got = script.call(random, call);
@@ -174,7 +177,7 @@ fn refused(
     let got = script.call(random, ok(0));
     count.check(got == 4, || format!("{got} by the model, not 4"))?;
     script.push(Command::Count { array: n - 1, row: 31, job: 7, count: slots });
-    let got = [script.call(random, ok(0)), script.call(random, set_up(3))];
+    let got = [script.call(random, ok(0)), script.call(random, set_up(3, 0))];
     count.check(got == [0, 0], || format!("{got:?} by the model"))?;
     Expected(vec![NONE; usize::from(n)]).see(count, script)
 }

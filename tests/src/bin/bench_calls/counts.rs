@@ -12,12 +12,13 @@ use comparison::adversary::Adversary;
 use comparison::events::{COUNTED, UNCOUNTED};
 use comparison::messages::{job_byte, spare_job_byte};
 use comparison::model::bench::{self, Document01};
+use comparison::model::choices::Choices;
 use comparison::model::counts::NONE;
 use comparison::model::ledger::Figures;
 use comparison::model::node::Node;
 use comparison::model::ring::LIMIT;
 use comparison::random::Random;
-use comparison::records::spoil;
+use comparison::records::{choices_of, lag, spoil};
 use comparison::report::Count;
 
 const SLOT: Call = Call::Slot { lost: false, missed: 0, jobs: 0 };
@@ -43,9 +44,13 @@ fn ask(script: &mut Script, random: &mut Random, n: u32) {
     }
 }
 
+fn without_jobs(node: &Node) -> Node {
+    Node { chosen: Choices { m: 0, ..node.chosen }, ..*node }
+}
+
 /// "membership is the same as if the section were absent": the table is that of the same calls without jobs.
 fn see_plain(count: &mut Count, table: &[Node], plain: &[Node]) -> Result<(), String> {
-    let same = table.iter().zip(plain).all(|(node, plain)| Node { m: 0, ..*node } == *plain);
+    let same = table.iter().zip(plain).all(|(node, plain)| without_jobs(node) == *plain);
     count.check(same, || format!("{} slots done: not the table without jobs", plain[0].slots))
 }
 
@@ -54,7 +59,7 @@ fn run(
     count: &mut Count,
     script: &mut Script,
     adversary: &mut Adversary,
-    (n, k, m): (u32, u32, u32),
+    chosen: Choices,
     calls: u32,
 ) -> Result<(), String> {
     let any_count = |random: &mut Random| Command::Count {
@@ -67,9 +72,10 @@ fn run(
     for _ in 0..8 {
         script.push(any_count(&mut adversary.random));
     }
-    set_up(script, &mut adversary.random, (n, k, m));
+    let Choices { n, m, .. } = chosen;
+    set_up(script, &mut adversary.random, chosen);
     script.ask_counts(n);
-    let mut plain = bench::set_up(n, k, 0, n as usize).expect("n and k are in range");
+    let mut plain = bench::set_up(Choices { m: 0, ..chosen }, n as usize).expect("the choices are in range");
     adversary.calm_down(n);
     for _ in 0..calls {
         between(script, &mut adversary.random);
@@ -90,8 +96,8 @@ pub fn every_n_and_m(count: &mut Count) -> Result<(), String> {
     let mut script = Script::new();
     for n in 3..=32 {
         for m in [n % 9, (n + 3) % 9, (n + 7) % 9] {
-            let k = adversary.random.within(2, u64::from(n) - 1) as u32;
-            run(count, &mut script, &mut adversary, (n, k, m), 6 * n + 20)?;
+            let chosen = Choices { m, ..choices_of(&mut adversary.random, n) };
+            run(count, &mut script, &mut adversary, chosen, 6 * n + 20)?;
         }
     }
     met(count, &script)
@@ -103,8 +109,8 @@ pub fn small_rings(count: &mut Count) -> Result<(), String> {
     let mut script = Script::new();
     for i in 0..120 {
         let n = 3 + i % 5;
-        let k = adversary.random.within(2, u64::from(n) - 1) as u32;
-        run(count, &mut script, &mut adversary, (n, k, i % 9), 20 * n)?;
+        let chosen = Choices { m: i % 9, ..choices_of(&mut adversary.random, n) };
+        run(count, &mut script, &mut adversary, chosen, 20 * n)?;
     }
     met(count, &script)
 }
@@ -123,8 +129,9 @@ pub fn sound(count: &mut Count) -> Result<(), String> {
     let mut random = Random::new(124);
     let mut script = Script::new();
     for _ in 0..1_200 {
-        let (n, k, m, slots) = tables::ring(&mut random);
-        let table = sound_table(&mut random, (n, k, m, slots));
+        let (chosen, slots) = tables::ring(&mut random);
+        let Choices { n, m, .. } = chosen;
+        let table = sound_table(&mut random, (chosen, slots));
         script.load(&mut random, &table);
         for _ in 0..random.below(6) {
             let array = random.below(u64::from(n)) as u8;
@@ -147,15 +154,15 @@ pub fn numbers(count: &mut Count) -> Result<(), String> {
     let mut random = Random::new(125);
     let mut script = Script::new();
     script.push(Command::Size(3));
-    answered(count, &mut random, &mut script, (Call::SetUp { n: 3, k: 2, m: 0 }, 4))?;
+    answered(count, &mut random, &mut script, (Call::SetUp(Choices::plain(3, 2)), 4))?;
     for n in 3..=32 {
         for arrays in (0..=35).chain([64, 255]) {
-            let (_, _, m, slots) = tables::ring(&mut random);
-            let table = sound_table(&mut random, (n, 2, m, slots));
+            let (chosen, slots) = tables::ring_of(&mut random, n);
+            let table = sound_table(&mut random, (chosen, slots));
             script.load(&mut random, &table);
             script.push(Command::Arrays(arrays));
             let expected = if u32::from(arrays) == n { 0 } else { 4 };
-            let jobs = job_byte(&mut random, m);
+            let jobs = job_byte(&mut random, chosen.m);
             let slot = Call::Slot { lost: false, missed: 0, jobs };
             answered(count, &mut random, &mut script, (slot, expected))?;
             // No other call but set-up tests it.
@@ -164,7 +171,7 @@ pub fn numbers(count: &mut Count) -> Result<(), String> {
             answered(count, &mut random, &mut script, (Call::Look { lost: false }, 0))?;
             let last = arrays.min(32);
             script.push(Command::Count { array: last, row: 31, job: 7, count: 1 });
-            answered(count, &mut random, &mut script, (Call::SetUp { n, k: 2, m }, expected))?;
+            answered(count, &mut random, &mut script, (Call::SetUp(chosen), expected))?;
             script.push(Command::Counts(last));
             script.push(Command::Counts(last.saturating_sub(1)));
         }
@@ -186,7 +193,7 @@ fn edge(
     let taken = if slots == LIMIT { 5 } else { 0 };
     script.load(random, table);
     script.push(Command::Count { array, row, job, count: number });
-    let jobs = job_byte(random, table[0].m);
+    let jobs = job_byte(random, table[0].chosen.m);
     let slot = Call::Slot { lost: false, missed: 0, jobs };
     answered(count, random, script, (slot, if fits { taken } else { 4 }))?;
     script.push(Command::Counts(array));
@@ -205,8 +212,8 @@ pub fn edges(count: &mut Count) -> Result<(), String> {
     let mut script = Script::new();
     for n in [3, 4, 17, 32_u8] {
         for slots in [0, 1, 300, LIMIT - 1, LIMIT] {
-            let (_, _, m, _) = tables::ring(&mut random);
-            let table = sound_table(&mut random, (u32::from(n), 2, m, slots));
+            let (chosen, _) = tables::ring_of(&mut random, u32::from(n));
+            let table = sound_table(&mut random, (chosen, slots));
             for array in [0, n / 2, n - 1, n] {
                 for number in [0, slots, slots + 1, slots + 2, 1 << 32, 1 << 56, u64::MAX] {
                     edge(count, &mut random, &mut script, (&table, array), number)?;
@@ -223,8 +230,8 @@ pub fn every_count(count: &mut Count) -> Result<(), String> {
     let mut random = Random::new(127);
     let mut script = Script::new();
     for n in [3, 8, 32_u8] {
-        let (_, _, m, slots) = tables::ring(&mut random);
-        let table = sound_table(&mut random, (u32::from(n), 2, m, slots));
+        let (chosen, slots) = tables::ring_of(&mut random, u32::from(n));
+        let table = sound_table(&mut random, (chosen, slots));
         script.load(&mut random, &table);
         for (array, place) in (0..n).flat_map(|array| (0..=255).map(move |place| (array, place))) {
             let (row, job) = (place / 8, place % 8);
@@ -275,8 +282,9 @@ pub fn order(count: &mut Count) -> Result<(), String> {
     for i in 0..128 * 12_u32 {
         let wrong = |cause: u32| i >> cause & 1 == 1;
         let (n, m) = (random.within(3, 31) as u32, random.below(8) as u32);
+        let chosen = Choices { m, ..choices_of(&mut random, n) };
         let slots = if wrong(4) { LIMIT } else { random.below(LIMIT) };
-        let mut table = sound_table(&mut random, (n, 2, m, slots));
+        let mut table = sound_table(&mut random, (chosen, slots));
         if wrong(0) {
             let row = random.below(u64::from(n)) as usize;
             spoil(&mut random, &mut table[row]);
@@ -308,24 +316,25 @@ pub fn order(count: &mut Count) -> Result<(), String> {
 pub fn set_ups(count: &mut Count) -> Result<(), String> {
     let mut random = Random::new(129);
     let mut script = Script::new();
-    for i in 0..32 * 30_u32 {
+    for i in 0..64 * 20_u32 {
         let wrong = |cause: u32| i >> cause & 1 == 1;
         let n = random.within(3, 31) as u8;
         let array = random.below(u64::from(n)) as u8;
         let place = (random.below(32) as u8, random.below(8) as u8);
         script.push(Command::Count { array, row: place.0, job: place.1, count: random.number() });
-        script.push(Command::Size(if wrong(3) { n + 1 } else { n }));
-        script.push(Command::Arrays(if wrong(4) { [n - 1, n + 1][random.below(2) as usize] } else { n }));
-        let call = Call::SetUp {
+        script.push(Command::Size(if wrong(4) { n + 1 } else { n }));
+        script.push(Command::Arrays(if wrong(5) { [n - 1, n + 1][random.below(2) as usize] } else { n }));
+        let call = Call::SetUp(Choices {
             n: if wrong(0) { 33 } else { u32::from(n) },
-            k: if wrong(1) { 1 } else { 2 },
-            m: if wrong(2) { 9 } else { random.below(9) as u32 },
-        };
-        let first = (0..5).find(|&cause| wrong(cause)).unwrap_or(5) as usize;
-        answered(count, &mut random, &mut script, (call, [1, 2, 14, 4, 4, 0][first]))?;
+            k: if wrong(2) { 1 } else { 2 },
+            m: if wrong(3) { 9 } else { random.below(9) as u32 },
+            lag: if wrong(1) { 2 } else { lag(&mut random, u32::from(n)) },
+        });
+        let first = (0..6).find(|&cause| wrong(cause)).unwrap_or(6) as usize;
+        answered(count, &mut random, &mut script, (call, [1, 16, 2, 14, 4, 4, 0][first]))?;
         script.push(Command::Counts(array));
         let cleared = script.arrays()[..usize::from(n)].iter().all(|counts| *counts == NONE);
-        count.check(first != 5 || cleared, || "set-up leaves a count by the model".to_string())?;
+        count.check(first != 6 || cleared, || "set-up leaves a count by the model".to_string())?;
     }
     compare(count, &script.commands)
 }

@@ -34,13 +34,13 @@ fn role(random: &mut Random, node: &Node, sender: u32) -> Role {
 
 /// The node whose slot comes after this one's.
 fn after(node: &Node) -> u32 {
-    node.own % node.n + 1
+    node.own % node.chosen.n + 1
 }
 
 /// Two nodes other than this one: that of the next slot, and the sender unless it is one of these.
 fn two_others(node: &Node, sender: u32) -> Set {
     let next = after(node);
-    let far = if sender != node.own && sender != next { sender } else { next % node.n + 1 };
+    let far = if sender != node.own && sender != next { sender } else { next % node.chosen.n + 1 };
     Set::EMPTY.with(next).with(far)
 }
 
@@ -50,13 +50,13 @@ fn record(random: &mut Random, node: &Node, sender: u32, role: Role) -> Node {
     let others = two_others(node, sender);
     let returns = Node { set: others, marks: others, ..blank };
     let knocks = Node { state: State::Knocking, returning: node.own, ..returns };
-    let window =
-        ListeningData { done: node.n - 1, heard: others, shortest: node.k, return_seen: false, last: others };
+    let (done, shortest) = (node.chosen.n - 1, node.chosen.k);
+    let window = ListeningData { done, heard: others, shortest, return_seen: false, last: others };
     match role {
         None => blank,
         // No other member is marked.
         Some(Kind::Left) => {
-            let set = random.some_of(Set::full(node.n)).with(node.own);
+            let set = random.some_of(Set::full(node.chosen.n)).with(node.own);
             let (marks, yes_heard) = (random.some_of(Set::EMPTY.with(node.own)), random.bit());
             Node { state: State::Member, set, marks, yes_heard, ..blank }
         }
@@ -88,10 +88,9 @@ pub fn pairs(count: &mut Count) -> Result<(), String> {
     let mut random = Random::new(118);
     let mut script = Script::new();
     for n in (3..=32).flat_map(|n| [n; 40]) {
-        let k = random.within(2, u64::from(n) - 1) as u32;
-        let (_, _, m, slots) = tables::ring(&mut random);
+        let (chosen, slots) = tables::ring_of(&mut random, n);
         let mut table: Vec<Node> =
-            (1..=n).map(|own| Node { slots, ..Node::set_up(n, k, m, own).expect("in range") }).collect();
+            (1..=n).map(|own| Node { slots, ..Node::set_up(chosen, own).expect("in range") }).collect();
         let sender = next_sender(&table);
         let roles: Vec<Role> = table.iter().map(|node| role(&mut random, node, sender)).collect();
         for (node, &role) in table.iter_mut().zip(&roles) {

@@ -35,8 +35,8 @@ pub fn lengths(count: &mut Count) -> Result<(), String> {
     answered(count, &mut random, &mut script, (SLOT, 13))?;
     for n in 3..=32 {
         for length in (0..=35).chain([64, 255]) {
-            let (_, _, m, slots) = tables::ring(&mut random);
-            let table = sound_table(&mut random, (n, 2, m, slots));
+            let (chosen, slots) = tables::ring_of(&mut random, n);
+            let table = sound_table(&mut random, (chosen, slots));
             script.load(&mut random, &table);
             script.push(Command::Lend(length));
             let expected = if u32::from(length) == n { 0 } else { 13 };
@@ -45,7 +45,7 @@ pub fn lengths(count: &mut Count) -> Result<(), String> {
             // No other call tests it.
             script.call(&mut random, Call::Restart(n));
             answered(count, &mut random, &mut script, (Call::Look { lost: false }, 0))?;
-            answered(count, &mut random, &mut script, (Call::SetUp { n, k: 2, m }, 0))?;
+            answered(count, &mut random, &mut script, (Call::SetUp(chosen), 0))?;
         }
     }
     compare(count, &script.commands)
@@ -99,8 +99,8 @@ pub fn edges(count: &mut Count) -> Result<(), String> {
     let mut script = Script::new();
     for n in [3, 4, 17, 32] {
         for slots in [0, 1, 300, LIMIT - 1, LIMIT] {
-            let (_, _, m, _) = tables::ring(&mut random);
-            let table = sound_table(&mut random, (n as u32, 2, m, slots));
+            let (chosen, _) = tables::ring_of(&mut random, n as u32);
+            let table = sound_table(&mut random, (chosen, slots));
             for place in [0, n / 2, n - 1, n] {
                 for which in [Which::Left, Which::Joined, Which::Last] {
                     for number in numbers(slots) {
@@ -118,8 +118,8 @@ pub fn every_entry(count: &mut Count) -> Result<(), String> {
     let mut random = Random::new(113);
     let mut script = Script::new();
     for n in 3..=32 {
-        let (_, _, m, slots) = tables::ring(&mut random);
-        let table = sound_table(&mut random, (n as u32, 2, m, slots));
+        let (chosen, slots) = tables::ring_of(&mut random, n as u32);
+        let table = sound_table(&mut random, (chosen, slots));
         for place in 0..ENTRIES {
             script.load(&mut random, &table);
             let past = slots + 2 + random.below(2);
@@ -150,10 +150,10 @@ pub fn offs(count: &mut Count) -> Result<(), String> {
     let mut random = Random::new(114);
     let mut script = Script::new();
     for state in STATES.repeat(60) {
-        let (n, k, m, slots) = tables::ring(&mut random);
-        let x = random.within(1, u64::from(n)) as u32;
-        let mut table = sound_table(&mut random, (n, k, m, slots));
-        table[x as usize - 1] = sound_of(&mut random, state, (n, k, m, x), slots);
+        let (chosen, slots) = tables::ring(&mut random);
+        let x = random.within(1, u64::from(chosen.n)) as u32;
+        let mut table = sound_table(&mut random, (chosen, slots));
+        table[x as usize - 1] = sound_of(&mut random, state, (chosen, x), slots);
         script.load(&mut random, &table);
         let mut expected = script.entries().to_vec();
         if state == State::Member {
@@ -175,10 +175,10 @@ pub fn off_past(count: &mut Count) -> Result<(), String> {
     let mut random = Random::new(117);
     let mut script = Script::new();
     for _ in 0..200 {
-        let (n, k, m, slots) = tables::ring(&mut random);
-        let x = random.within(1, u64::from(n)) as u32;
-        let mut table = sound_table(&mut random, (n, k, m, slots));
-        table[x as usize - 1] = sound_of(&mut random, State::Member, (n, k, m, x), slots);
+        let (chosen, slots) = tables::ring(&mut random);
+        let x = random.within(1, u64::from(chosen.n)) as u32;
+        let mut table = sound_table(&mut random, (chosen, slots));
+        table[x as usize - 1] = sound_of(&mut random, State::Member, (chosen, x), slots);
         script.load(&mut random, &table);
         let joined = random.below(slots + 2);
         script.push(Command::Enter(x as u8 - 1, Figures { left: slots + 1, joined, last: 0 }));
@@ -219,13 +219,13 @@ pub fn small(count: &mut Count) -> Result<(), String> {
     let mut random = Random::new(116);
     let mut script = Script::new();
     for _ in 0..1_200 {
-        let (n, k, m, _) = tables::ring(&mut random);
+        let (chosen, _) = tables::ring(&mut random);
         let slots = random.below(3);
-        let table = sound_table(&mut random, (n, k, m, slots));
+        let table = sound_table(&mut random, (chosen, slots));
         script.load_rows(&mut random, &table);
-        let ledger = figures::small(&mut random, n as usize);
+        let ledger = figures::small(&mut random, table.len());
         script.lend(&mut random, &ledger);
-        script.every_call(&mut random, n, k);
+        script.every_call(&mut random, chosen);
     }
     compare(count, &script.commands)?;
     count.needs(&OFFS)?;

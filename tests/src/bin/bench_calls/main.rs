@@ -35,7 +35,12 @@ const CASES: &[Case] = &[
         run: vectors::several_leave,
     },
     Case {
-        name: "vectors: lists of the examples of requests e and f, model and program",
+        name: "vectors: pairs and figures of runs with lag 1, by request j, model and program",
+        meets: &[0],
+        run: vectors::with_lag,
+    },
+    Case {
+        name: "vectors: lists of the examples of requests e and f, also with lag 1, model and program",
         meets: &[0],
         run: vectors::lists,
     },
@@ -45,23 +50,28 @@ const CASES: &[Case] = &[
         run: vectors::figures,
     },
     Case {
-        name: "set-up: any rows, every number of them, n, k and m in range and out of it",
-        meets: &[0, 1, 2, 4, 14],
+        name: "set-up: any rows, every number of them, n, k, m and lag in range and out of it",
+        meets: &[0, 1, 2, 4, 14, 16],
         run: refusals::set_up,
     },
     Case {
-        name: "runs: every n and k, with losses, misses, offs, restarts, looks and refused calls; tally",
-        meets: &[0, 2, 3, 4, 8, 9, 11, 13, 14],
+        name: "runs: every n, k and lag, with losses, misses, offs, restarts, looks and refused calls; tally",
+        meets: &[0, 2, 3, 4, 8, 9, 11, 13, 14, 16],
         run: runs::every_n_and_k,
     },
     Case {
         name: "runs: long ones of n from 3 to 9; tally",
-        meets: &[0, 2, 3, 4, 8, 9, 11, 13, 14],
-        run: runs::small_rings,
+        meets: &[0, 2, 3, 4, 8, 9, 11, 13, 14, 16],
+        run: runs::small_rings_without_lag,
+    },
+    Case {
+        name: "runs: long ones of n from 4 to 10 with lag 1; tally",
+        meets: &[0, 2, 3, 4, 8, 9, 11, 13, 14, 16],
+        run: runs::small_rings_with_lag,
     },
     Case {
         name: "runs: 6,000 calls in which the nodes go and come back all the time; tally",
-        meets: &[0, 2, 3, 4, 8, 9, 11, 13, 14],
+        meets: &[0, 2, 3, 4, 8, 9, 11, 13, 14, 16],
         run: runs::lasting,
     },
     Case { name: "tables: any sound records, every call", meets: &[0, 11], run: tables::sound },
@@ -71,7 +81,7 @@ const CASES: &[Case] = &[
         run: tables::unsound_record,
     },
     Case {
-        name: "tables: sound records that are no table: numbers, n, k, m, slot count, size",
+        name: "tables: sound records that are no table: numbers, n, k, m, lag, slot count, size",
         meets: &[0, 4],
         run: tables::no_tables,
     },
@@ -129,17 +139,17 @@ const CASES: &[Case] = &[
     },
     Case {
         name: "vectors: counts of reports by request h, after each call, model and program",
-        meets: &[0, 4, 8, 14],
+        meets: &[0, 4, 8, 14, 16],
         run: count_vectors::benches,
     },
     Case {
         name: "counts: runs of every n, every m, after each call; tally, and membership as without jobs",
-        meets: &[0, 2, 3, 4, 8, 9, 11, 13, 14],
+        meets: &[0, 2, 3, 4, 8, 9, 11, 13, 14, 16],
         run: counts::every_n_and_m,
     },
     Case {
         name: "counts: long runs of n from 3 to 7, after each call; tally, and membership as without jobs",
-        meets: &[0, 2, 3, 4, 8, 9, 11, 13, 14],
+        meets: &[0, 2, 3, 4, 8, 9, 11, 13, 14, 16],
         run: counts::small_rings,
     },
     Case { name: "counts: any that fit beside any sound table", meets: &[0], run: counts::sound },
@@ -165,7 +175,7 @@ const CASES: &[Case] = &[
     },
     Case {
         name: "counts: set-up clears them, every choice of causes of its refusal",
-        meets: &[0, 1, 2, 4, 14],
+        meets: &[0, 1, 2, 4, 14, 16],
         run: counts::set_ups,
     },
 ];

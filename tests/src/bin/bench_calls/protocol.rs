@@ -3,6 +3,7 @@
 //! first.
 
 use comparison::model::bench::{self, Beside, Fate, Message};
+use comparison::model::choices::Choices;
 use comparison::model::counts::{Counts, NONE};
 use comparison::model::ledger::Figures;
 use comparison::model::node::Node;
@@ -32,7 +33,7 @@ pub const HEAD: usize = 27;
 
 #[derive(Clone, Copy)]
 pub enum Call {
-    SetUp { n: u32, k: u32, m: u32 },
+    SetUp(Choices),
     Off(u32),
     Restart(u32),
     Slot { lost: bool, missed: u32, jobs: u8 },
@@ -114,9 +115,9 @@ pub fn entries_of(answer: &[u8]) -> impl Iterator<Item = Figures> + '_ {
 impl Call {
     fn push(self, out: &mut Vec<u8>, room: u8) {
         match self {
-            Call::SetUp { n, k, m } => {
+            Call::SetUp(Choices { n, k, m, lag }) => {
                 out.extend([b'U', room]);
-                [n, k, m].iter().for_each(|number| out.extend(number.to_le_bytes()));
+                [n, k, m, lag].iter().for_each(|number| out.extend(number.to_le_bytes()));
             }
             Call::Off(x) => {
                 out.extend([b'F', room]);
@@ -261,8 +262,8 @@ impl Held {
         let ledger = &mut self.entries[..self.lent];
         let counts = &mut self.arrays[..self.counted];
         match call {
-            Call::SetUp { n, k, m } => {
-                table.copy_from_slice(&bench::counted_set_up((n, k, m), self.size, counts)?);
+            Call::SetUp(chosen) => {
+                table.copy_from_slice(&bench::counted_set_up(chosen, self.size, counts)?);
             }
             Call::Off(x) => bench::off(table, ledger, x)?,
             Call::Restart(x) => bench::restart(table, x)?,

@@ -76,7 +76,7 @@ impl Reports {
     fn call(&mut self, call: Call, (size, counted): (usize, usize), answer: &[u8]) -> Result<(), String> {
         let told = Told::of(answer);
         match call {
-            Call::SetUp { .. } if told.number == 0 => {
+            Call::SetUp(_) if told.number == 0 => {
                 self.reports.clear();
                 self.sets = vec![Set::EMPTY; size];
             }

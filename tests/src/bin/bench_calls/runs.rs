@@ -9,6 +9,7 @@ use comparison::events::{KINDS, SEVERAL};
 use comparison::lasting::Lasting;
 use comparison::messages::spare_job_byte;
 use comparison::model::bench;
+use comparison::model::choices::Choices;
 use comparison::model::ledger::Figures;
 use comparison::model::node::Node;
 use comparison::random::Random;
@@ -42,7 +43,8 @@ pub fn call_of(call: bench::Call, jobs: u8) -> Call {
 }
 
 /// Sets a table of n rows up, whatever they and the counts hold; the ledger holds zeros.
-pub fn set_up(script: &mut Script, random: &mut Random, (n, k, m): (u32, u32, u32)) {
+pub fn set_up(script: &mut Script, random: &mut Random, chosen: Choices) {
+    let n = chosen.n;
     for row in 0..ROWS {
         let node = any_record(random);
         script.push(Command::Load(row as u8, node));
@@ -50,29 +52,31 @@ pub fn set_up(script: &mut Script, random: &mut Random, (n, k, m): (u32, u32, u3
     script.push(Command::Size(n as u8));
     script.push(Command::Arrays(n as u8));
     script.lend(random, &vec![Figures::default(); n as usize]);
-    script.call(random, Call::SetUp { n, k, m });
+    script.call(random, Call::SetUp(chosen));
 }
 
 /// A call that this table refuses, whatever buffer is lent; none if all nodes are out and one that is not was
 /// asked for.
 fn refused(random: &mut Random, table: &[Node]) -> Option<Call> {
-    let Node { n, k, m, .. } = table[0];
-    Some(match random.below(9) {
+    let chosen = table[0].chosen;
+    let Choices { n, k, m, lag } = chosen;
+    Some(match random.below(10) {
         0 => Call::Off(no_node(random, n)),
         1 => Call::Restart(no_node(random, n)),
         2 | 3 => Call::Restart(one_not_out(random, table)?),
         4 if n < 32 => Call::Slot { lost: random.bit(), missed: 1 << n, jobs: 0 },
         7 if m < 8 => Call::Slot { lost: random.bit(), missed: 0, jobs: spare_job_byte(random, m)? },
-        5 => Call::SetUp { n, k: if k < n - 1 { n } else { 1 }, m },
-        6 => Call::SetUp { n, k, m: 9 },
-        _ => Call::SetUp { n: if n < 32 { n + 1 } else { n - 1 }, k: 2, m },
+        5 => Call::SetUp(Choices { k: if k < n - 1 - lag { n - lag } else { 1 }, ..chosen }),
+        6 => Call::SetUp(Choices { m: 9, ..chosen }),
+        8 => Call::SetUp(Choices { lag: 2, ..chosen }),
+        _ => Call::SetUp(Choices { m, ..Choices::plain(if n < 32 { n + 1 } else { n - 1 }, 2) }),
     })
 }
 
 /// A slot and an off for which the ledger is an entry too short or too long; a slot for which there is an array of
 /// counts too few or too many.
 fn wrong_length(script: &mut Script, random: &mut Random) {
-    let n = script.table()[0].n as u8;
+    let n = script.table()[0].chosen.n as u8;
     let (lost, x, jobs) = (random.bit(), random.within(1, u64::from(n)) as u32, script.jobs(random));
     let other = if random.bit() { n - 1 } else { n + 1 };
     script.push(Command::Lend(other));
@@ -108,9 +112,9 @@ pub fn between(script: &mut Script, random: &mut Random) {
 }
 
 /// A run of so many calls, but for those in between.
-fn run(script: &mut Script, adversary: &mut Adversary, n: u32, k: u32, calls: u32) {
+fn run(script: &mut Script, adversary: &mut Adversary, (n, k, lag): (u32, u32, u32), calls: u32) {
     let m = job_count(&mut adversary.random);
-    set_up(script, &mut adversary.random, (n, k, m));
+    set_up(script, &mut adversary.random, Choices { n, k, m, lag });
     adversary.calm_down(n);
     for _ in 0..calls {
         between(script, &mut adversary.random);
@@ -136,32 +140,40 @@ pub fn every_n_and_k(count: &mut Count) -> Result<(), String> {
     let mut adversary = Adversary::new(81);
     let mut script = Script::new();
     for n in 3..=32 {
-        for k in 2..n {
-            run(&mut script, &mut adversary, n, k, 10 * n);
+        for (lag, k) in [0, 1].into_iter().flat_map(|lag| (2..n - lag).map(move |k| (lag, k))) {
+            run(&mut script, &mut adversary, (n, k, lag), 6 * n);
         }
     }
     compare_met(count, &script)
 }
 
-/// Runs of small rings: each is long enough to leave, return and leave again.
-pub fn small_rings(count: &mut Count) -> Result<(), String> {
-    let mut adversary = Adversary::new(82);
+/// Runs of seven small rings with this lag: each is long enough to leave, return and leave again.
+fn small_rings(count: &mut Count, seed: u64, lag: u32) -> Result<(), String> {
+    let mut adversary = Adversary::new(seed);
     let mut script = Script::new();
-    for i in 0..600 {
-        let n = 3 + i % 7;
-        let k = adversary.random.within(2, u64::from(n) - 1) as u32;
-        run(&mut script, &mut adversary, n, k, 20 * n);
+    for i in 0..350 {
+        let n = 3 + lag + i % 7;
+        let k = adversary.random.within(2, u64::from(n - 1 - lag)) as u32;
+        run(&mut script, &mut adversary, (n, k, lag), 20 * n);
     }
     compare_met(count, &script)
+}
+
+pub fn small_rings_without_lag(count: &mut Count) -> Result<(), String> {
+    small_rings(count, 82, 0)
+}
+
+pub fn small_rings_with_lag(count: &mut Count) -> Result<(), String> {
+    small_rings(count, 84, 1)
 }
 
 /// Runs in which the nodes go and come back all the time.
 pub fn lasting(count: &mut Count) -> Result<(), String> {
     let mut random = Random::new(83);
     let mut script = Script::new();
-    for (n, k) in [(3, 2), (5, 2), (9, 4), (32, 3)] {
+    for (n, k, lag) in [(3, 2, 0), (5, 2, 1), (9, 4, 0), (32, 3, 1)] {
         let m = job_count(&mut random);
-        set_up(&mut script, &mut random, (n, k, m));
+        set_up(&mut script, &mut random, Choices { n, k, m, lag });
         let mut lasting = Lasting::new(u64::from(n));
         for _ in 0..6_000 {
             between(&mut script, &mut random);

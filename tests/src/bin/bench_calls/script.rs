@@ -3,6 +3,7 @@
 use super::figures;
 use super::protocol::{buffer_of, Call, Command, Held, Told, ENTRIES, ROWS};
 use comparison::messages::job_byte;
+use comparison::model::choices::Choices;
 use comparison::model::counts::{Counts, NONE};
 use comparison::model::ledger::Figures;
 use comparison::model::node::{Node, State};
@@ -53,7 +54,10 @@ impl Script {
 
     /// A job byte that fits the table; none reported where there is no table.
     pub fn jobs(&self, random: &mut Random) -> u8 {
-        self.table().first().filter(|node| node.m <= 8).map_or(0, |node| job_byte(random, node.m))
+        self.table()
+            .first()
+            .filter(|node| node.chosen.m <= 8)
+            .map_or(0, |node| job_byte(random, node.chosen.m))
     }
 
     /// The buffer as the last command, a call, left it.
@@ -106,7 +110,7 @@ impl Script {
             let n = arrays.max(3);
             self.push(Command::Size(n as u8));
             self.push(Command::Arrays(n as u8));
-            self.push(Command::Call(Call::SetUp { n: n as u32, k: 2, m: 0 }, 0));
+            self.push(Command::Call(Call::SetUp(Choices::plain(n as u32, 2)), 0));
         }
     }
 
@@ -124,9 +128,9 @@ impl Script {
         }
     }
 
-    /// Every call, each on the table that the one before it left.
-    pub fn every_call(&mut self, random: &mut Random, n: u32, k: u32) {
-        let m = job_count(random);
+    /// Every call, each on the table that the one before it left; the last is a set-up of these choices with any m.
+    pub fn every_call(&mut self, random: &mut Random, chosen: Choices) {
+        let (n, m) = (chosen.n, job_count(random));
         let all = if n < 32 { (1 << n) - 1 } else { u32::MAX };
         let x = random.within(1, u64::from(n)) as u32;
         let missed = all & random.number() as u32;
@@ -139,7 +143,7 @@ impl Script {
             Call::Slot { lost: false, missed, jobs },
             Call::Off(x),
             Call::Restart(x),
-            Call::SetUp { n, k, m },
+            Call::SetUp(Choices { m, ..chosen }),
         ] {
             self.call(random, call);
         }

@@ -6,35 +6,40 @@ use super::protocol::{Call, Command};
 use super::script::{Script, ENOUGH};
 use comparison::events::{KINDS, SEVERAL};
 use comparison::model::bench::check_table;
+use comparison::model::choices::Choices;
 use comparison::model::node::{Node, State, CLAUSES};
 use comparison::model::refusal;
 use comparison::model::ring::{Set, LIMIT};
-use comparison::numbers::no_job_counts;
+use comparison::numbers::{no_job_counts, no_lags};
 use comparison::random::Random;
 use comparison::record_bytes::shown_record;
-use comparison::records::{job_count, size, sound_of, Break, BREAKS, STATES};
+use comparison::records::{choices_of, size, sound_of, Break, BREAKS, STATES};
 use comparison::report::Count;
 
-/// n, k, m and a slot count below the limit.
-pub fn ring(random: &mut Random) -> (u32, u32, u32, u64) {
+/// Choices and a slot count below the limit.
+pub fn ring(random: &mut Random) -> (Choices, u64) {
     let n = size(random);
-    let k = random.within(2, u64::from(n) - 1) as u32;
-    let m = job_count(random);
+    ring_of(random, n)
+}
+
+/// The same for n nodes.
+pub fn ring_of(random: &mut Random, n: u32) -> (Choices, u64) {
+    let chosen = choices_of(random, n);
     let slots = if random.bit() { random.below(3 * u64::from(n)) } else { random.below(LIMIT - 5) };
-    (n, k, m, slots)
+    (chosen, slots)
 }
 
 /// A table of sound records in any states; half of the tables have many members.
-pub fn sound_table(random: &mut Random, (n, k, m, slots): (u32, u32, u32, u64)) -> Vec<Node> {
+pub fn sound_table(random: &mut Random, (chosen, slots): (Choices, u64)) -> Vec<Node> {
     let members = random.bit();
     let state = |random: &mut Random| match random.below(2) {
         0 if members => State::Member,
         _ => STATES[random.below(8) as usize],
     };
-    (1..=n)
+    (1..=chosen.n)
         .map(|own| {
             let state = state(random);
-            sound_of(random, state, (n, k, m, own), slots)
+            sound_of(random, state, (chosen, own), slots)
         })
         .collect()
 }
@@ -48,7 +53,7 @@ pub fn sound(count: &mut Count) -> Result<(), String> {
         let table = sound_table(&mut random, ring);
         count.check(check_table(&table).is_ok(), || "the table is not as it must be".to_string())?;
         script.load(&mut random, &table);
-        script.every_call(&mut random, ring.0, ring.1);
+        script.every_call(&mut random, ring.0);
     }
     compare(count, &script.commands)?;
     count.needs(&KINDS)?;
@@ -75,16 +80,16 @@ fn no_table(
         let ledger = figures::small(random, rows.len());
         script.lend(random, &ledger);
     }
-    script.every_call(random, (rows.len() as u32).clamp(3, 32), 2);
+    script.every_call(random, Choices::plain((rows.len() as u32).clamp(3, 32), 2));
     Ok(())
 }
 
 /// A table with one record that is broken; none if the record does not allow it.
 fn broken_table(random: &mut Random, case: &Break, state: State) -> Option<Vec<Node>> {
-    let (n, k, m, slots) = ring(random);
-    let mut table = sound_table(random, (n, k, m, slots));
-    let own = random.within(1, u64::from(n)) as u32;
-    let mut node = sound_of(random, state, (n, k, m, own), slots);
+    let (chosen, slots) = ring(random);
+    let mut table = sound_table(random, (chosen, slots));
+    let own = random.within(1, u64::from(chosen.n)) as u32;
+    let mut node = sound_of(random, state, (chosen, own), slots);
     (case.make)(random, &mut node)?;
     table[own as usize - 1] = node;
     Some(table)
@@ -119,38 +124,63 @@ const WAYS: &[&str] = &[
     "no table: no record",
     "no table: other m",
     "no table: all records of an m out of range",
+    "no table: other lag",
+    "no table: all records of a lag out of range",
+    "no table: all records of a k that the lag does not allow",
 ];
 
-/// Rows that are no table in one way; none if this ring does not allow it. But for the last way each is sound by itself.
+/// Gives a record this k; the shortest run is k while nothing is heard.
+fn with_k(row: &mut Node, k: u32) {
+    row.chosen.k = k;
+    if row.state == State::Listening && row.listening.heard == Set::EMPTY {
+        row.listening.shortest = k;
+    }
+}
+
+/// Rows that are no table in one way; none if this ring does not allow it. But for the ways of all records each row is
+/// sound by itself.
 fn rows_in_way(random: &mut Random, way: usize) -> Option<Vec<Node>> {
-    let (n, k, m, slots) = ring(random);
-    let mut rows = sound_table(random, (n, k, m, slots));
+    let (chosen, slots) = ring(random);
+    let Choices { n, k, m, lag } = chosen;
+    let mut rows = sound_table(random, (chosen, slots));
     let (i, j) = (random.below(u64::from(n)) as usize, random.below(u64::from(n)) as usize);
     let own = i as u32 + 1;
     let state = rows[i].state;
     match way {
-        0 if own < n && k < n - 1 => rows[i] = sound_of(random, state, (n - 1, k, m, own), slots),
-        0 if n < 32 => rows[i] = sound_of(random, state, (n + 1, k, m, own), slots),
-        1 if n > 3 => rows[i] = sound_of(random, state, (n, if k > 2 { k - 1 } else { 3 }, m, own), slots),
-        2 => rows[i] = sound_of(random, state, (n, k, m, own), slots + 1),
+        0 if own < n && k < n - 1 - lag => {
+            rows[i] = sound_of(random, state, (Choices { n: n - 1, ..chosen }, own), slots);
+        }
+        0 if n < 32 => rows[i] = sound_of(random, state, (Choices { n: n + 1, ..chosen }, own), slots),
+        1 if n > 3 + lag => {
+            let k = if k > 2 { k - 1 } else { 3 };
+            rows[i] = sound_of(random, state, (Choices { k, ..chosen }, own), slots);
+        }
+        2 => rows[i] = sound_of(random, state, (chosen, own), slots + 1),
         3 if i != j => rows.swap(i, j),
         4 if i != j => rows[i] = rows[j],
         5 => drop(rows.pop()),
         6 => drop(rows.remove(0)),
         7 if n < 32 => rows.push(rows[n as usize - 1]),
-        8 if n < 32 => rows = sound_table(random, (n + 1, k, m, slots)).split_off(1),
+        8 if n < 32 => rows = sound_table(random, (Choices { n: n + 1, ..chosen }, slots)).split_off(1),
         9 => rows.clear(),
-        10 => rows[i].m = (m + random.within(1, 8) as u32) % 9,
+        10 => rows[i].chosen.m = (m + random.within(1, 8) as u32) % 9,
         11 => {
             let m = no_job_counts().nth(random.below(11) as usize).unwrap_or(9);
-            rows.iter_mut().for_each(|row| row.m = m);
+            rows.iter_mut().for_each(|row| row.chosen.m = m);
         }
+        // The row keeps its k.
+        12 if k < n - 1 => rows[i].chosen.lag = 1 - lag,
+        13 => {
+            let lag = no_lags().nth(random.below(12) as usize).unwrap_or(2);
+            rows.iter_mut().for_each(|row| row.chosen.lag = lag);
+        }
+        14 => rows.iter_mut().for_each(|row| with_k(row, n - lag)),
         _ => return None,
     }
     Some(rows)
 }
 
-/// Every record is sound, or all keep the same m that is none, and together they are no table.
+/// Every record is sound, or all keep the same choices out of range, and together they are no table.
 pub fn no_tables(count: &mut Count) -> Result<(), String> {
     let mut random = Random::new(93);
     let mut script = Script::new();
@@ -172,10 +202,10 @@ pub fn limit(count: &mut Count) -> Result<(), String> {
     let mut random = Random::new(94);
     let mut script = Script::new();
     for i in 0..1_500 {
-        let (n, k, m, _) = ring(&mut random);
-        let table = sound_table(&mut random, (n, k, m, LIMIT - i % 3));
+        let (chosen, _) = ring(&mut random);
+        let table = sound_table(&mut random, (chosen, LIMIT - i % 3));
         script.load(&mut random, &table);
-        let x = random.within(1, u64::from(n)) as u32;
+        let x = random.within(1, u64::from(chosen.n)) as u32;
         let jobs = script.jobs(&mut random);
         for call in [
             Call::Look { lost: random.bit() },
@@ -198,16 +228,16 @@ pub fn rooms(count: &mut Count) -> Result<(), String> {
     let mut random = Random::new(95);
     let mut script = Script::new();
     for room in (0..=255).flat_map(|room| [room; 4]) {
-        let (n, k, m, slots) = ring(&mut random);
-        let table = sound_table(&mut random, (n, k, m, slots));
+        let (chosen, slots) = ring(&mut random);
+        let table = sound_table(&mut random, (chosen, slots));
         script.load(&mut random, &table);
         let jobs = script.jobs(&mut random);
         for call in [
             Call::Slot { lost: false, missed: 0, jobs },
             Call::Look { lost: false },
-            Call::Off(n),
-            Call::Restart(n),
-            Call::SetUp { n, k, m },
+            Call::Off(chosen.n),
+            Call::Restart(chosen.n),
+            Call::SetUp(chosen),
         ] {
             script.push(Command::Call(call, room));
         }
@@ -217,8 +247,8 @@ pub fn rooms(count: &mut Count) -> Result<(), String> {
 
 /// A table of members none of whom has marked another: all leave in the next slot if it is lost.
 pub fn all_leave(n: u32) -> Vec<Node> {
-    let member = |own| Node { marks: Set::EMPTY.with(own), ..Node::set_up(n, 2, 0, own).expect("in range") };
-    (1..=n).map(member).collect()
+    let first = Node::set_up(Choices::plain(n, 2), 1).expect("in range");
+    (1..=n).map(|own| Node { own, marks: Set::EMPTY.with(own), ..first }).collect()
 }
 
 /// As many pairs as there can be: those of 32 nodes fill a buffer of 64 bytes.

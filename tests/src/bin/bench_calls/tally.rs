@@ -49,7 +49,7 @@ impl History {
                 self.moments.clear();
                 return Ok(());
             }
-            Command::Call(Call::SetUp { .. }, _) if Told::of(answer).number == 0 => {
+            Command::Call(Call::SetUp(_), _) if Told::of(answer).number == 0 => {
                 self.begin((size, lent), answer);
             }
             Command::Call(..) if self.moments.is_empty() => {}

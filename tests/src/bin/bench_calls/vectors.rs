@@ -1,10 +1,11 @@
-//! Runs whose pairs are typed from document 01 and requests c and f, whose figures are typed from requests a and f and
-//! whose lists are typed from requests e and f; neither side makes an expected answer.
+//! Runs whose pairs are typed from document 01 and requests c, f and j, whose figures are typed from requests a and f
+//! and whose lists are typed from requests e, f and j; neither side makes an expected answer.
 
 use super::compare::{compare, BOTH, LOWER, OFFS};
 use super::protocol::{buffer_of, Call, Command, Held, FILL};
 use super::script::Script;
 use comparison::events::{KINDS, SEVERAL};
+use comparison::model::choices::Choices;
 use comparison::model::ledger::Figures;
 use comparison::random::Random;
 use comparison::report::Count;
@@ -97,8 +98,12 @@ const FOLLOWS_AS_ONE_LEAVES: Run = &[
 ];
 
 /// The model against the pairs; the commands are for the program.
-fn follow(count: &mut Count, (n, k): (u8, u32), runs: &[Run]) -> Result<(Vec<Command>, Held), String> {
-    let set_up = Call::SetUp { n: u32::from(n), k, m: 0 };
+fn follow(
+    count: &mut Count,
+    (n, k, lag): (u8, u32, u32),
+    runs: &[Run],
+) -> Result<(Vec<Command>, Held), String> {
+    let set_up = Call::SetUp(Choices { n: u32::from(n), k, m: 0, lag });
     let mut commands = vec![Command::Size(n), Command::Lend(n), Command::Arrays(n), Command::Call(set_up, 0)];
     let mut held = Held::first();
     let mut answer = Vec::new();
@@ -119,7 +124,7 @@ fn follow(count: &mut Count, (n, k): (u8, u32), runs: &[Run]) -> Result<(Vec<Com
 
 pub fn pairs(count: &mut Count) -> Result<(), String> {
     for runs in [[RETURN, KNOCKS], [RETURN, DEAF]] {
-        let (commands, _) = follow(count, (4, 2), &runs)?;
+        let (commands, _) = follow(count, (4, 2, 0), &runs)?;
         compare(count, &commands)?;
     }
     count.needs(&KINDS)
@@ -134,7 +139,7 @@ pub fn groups(count: &mut Count) -> Result<(), String> {
         (5, &[FOLLOWS_AS_ONE_LEAVES]),
     ];
     for (n, runs) in runs {
-        let (commands, _) = follow(count, (n, 2), runs)?;
+        let (commands, _) = follow(count, (n, 2, 0), runs)?;
         compare(count, &commands)?;
     }
     count.needs(&[BOTH, LOWER[0], LOWER[2], LOWER[3], LOWER[4]])
@@ -158,23 +163,24 @@ const TWO_LEAVE_ONE_JOINS: Run =
 const TWO_OFF: Run =
     &[(Call::Off(1), &[]), (Call::Off(2), &[]), (OK, &[]), (OK, &[]), (OK, &[]), (OK, &[]), (OK, &[])];
 
-/// n and k, runs one after the other, and the figures of nodes 1 to n after them: left, joined, slot of the last leaving.
-type Several = ((u8, u32), &'static [Run], &'static [[u64; 3]]);
+/// n, k and the lag, runs one after the other, and the figures of nodes 1 to n after them: left, joined, slot of the last
+/// leaving.
+type Several = ((u8, u32, u32), &'static [Run], &'static [[u64; 3]]);
 
 const SEVERAL_LEAVE: &[Several] = &[
-    ((4, 3), &[TWO_LEAVE], &[[1, 0, 4], [1, 0, 4], [0, 0, 0], [0, 0, 0]]),
-    ((5, 4), &[THREE_LEAVE], &[[1, 0, 5], [1, 0, 5], [1, 0, 5], [0, 0, 0], [0, 0, 0]]),
+    ((4, 3, 0), &[TWO_LEAVE], &[[1, 0, 4], [1, 0, 4], [0, 0, 0], [0, 0, 0]]),
+    ((5, 4, 0), &[THREE_LEAVE], &[[1, 0, 5], [1, 0, 5], [1, 0, 5], [0, 0, 0], [0, 0, 0]]),
     (
-        (5, 3),
+        (5, 3, 0),
         &[ONE_BACK, NINE, TWO_LEAVE_ONE_JOINS],
         &[[1, 1, 4], [1, 0, 19], [0, 0, 0], [0, 0, 0], [1, 0, 19]],
     ),
-    ((4, 3), &[TWO_OFF], &[[1, 0, 0], [1, 0, 0], [0, 0, 0], [0, 0, 0]]),
+    ((4, 3, 0), &[TWO_OFF], &[[1, 0, 0], [1, 0, 0], [0, 0, 0], [0, 0, 0]]),
 ];
 
-/// Request f: several leave in one slot, in one of them before a node joins.
-pub fn several_leave(count: &mut Count) -> Result<(), String> {
-    for &(ring, runs, figures) in SEVERAL_LEAVE {
+/// Follows the runs, and sees the figures after them.
+fn figures_after(count: &mut Count, all: &[Several]) -> Result<(), String> {
+    for &(ring, runs, figures) in all {
         let (commands, held) = follow(count, ring, runs)?;
         let expected: Vec<Figures> =
             figures.iter().map(|&[left, joined, last]| Figures { left, joined, last }).collect();
@@ -182,34 +188,48 @@ pub fn several_leave(count: &mut Count) -> Result<(), String> {
         count.check(ledger == expected, || format!("{ledger:?}, not {expected:?}"))?;
         compare(count, &commands)?;
     }
+    Ok(())
+}
+
+/// Request f: several leave in one slot, in one of them before a node joins.
+pub fn several_leave(count: &mut Count) -> Result<(), String> {
+    figures_after(count, SEVERAL_LEAVE)?;
     count.needs(&[BOTH, LOWER[2]])?;
     count.needs(&SEVERAL)
 }
 
-/// n and k, the nodes that are off before slot 1, and the list after each slot.
-type Lists = ((u32, u32), &'static [u32], &'static [u32]);
+/// n, k and the lag, the nodes that are off before slot 1, and the list after each slot.
+type Lists = ((u32, u32, u32), &'static [u32], &'static [u32]);
 
 /// Request e's example: 2 leaves at slot 4, 3 at 5, 5 at 7 and 6 at 10; nodes 1 and 4 stay. And document 01's last
 /// example by request f: 1 and 2 leave at slot 4.
 #[rustfmt::skip]
 const LISTS: &[Lists] = &[
-    ((6, 2), &[2, 3, 5, 6], &[
+    ((6, 2, 0), &[2, 3, 5, 6], &[
         0x3f, 0x3f, 0x3f, 0x3d, 0x39, 0x39,
         0x29, 0x29, 0x29, 0x09, 0x09, 0x09,
         0x09, 0x09, 0x09, 0x09, 0x09, 0x09,
     ]),
-    ((4, 3), &[1, 2], &[0x0f, 0x0f, 0x0f, 0x0c, 0x0c, 0x0c, 0x0c, 0x0c]),
+    ((4, 3, 0), &[1, 2], &[0x0f, 0x0f, 0x0f, 0x0c, 0x0c, 0x0c, 0x0c, 0x0c]),
+    // The first with lag 1: 2 leaves at slot 5, 3 at 6, and 5 and 6 at 10, where node 4 decides 5 of four and 6 of three.
+    ((6, 2, 1), &[2, 3, 5, 6], &[
+        0x3f, 0x3f, 0x3f, 0x3f, 0x3d, 0x39,
+        0x39, 0x39, 0x39, 0x09, 0x09, 0x09,
+        0x09, 0x09, 0x09, 0x09, 0x09, 0x09,
+    ]),
+    // With lag 1 node 4 decides 1 of four, 2 of three, and of two nobody.
+    ((4, 2, 1), &[1, 2], &[0x0f, 0x0f, 0x0f, 0x0c, 0x0c, 0x0c, 0x0c, 0x0c]),
 ];
 
 /// No node's state changes in a slot, and the lists agree.
 pub fn lists(count: &mut Count) -> Result<(), String> {
     let mut random = Random::new(100);
-    for &((n, k), off, lists) in LISTS {
+    for &((n, k, lag), off, lists) in LISTS {
         let mut script = Script::new();
         script.push(Command::Size(n as u8));
         script.push(Command::Arrays(n as u8));
         script.lend(&mut random, &vec![Figures::default(); n as usize]);
-        script.call(&mut random, Call::SetUp { n, k, m: 0 });
+        script.call(&mut random, Call::SetUp(Choices { n, k, m: 0, lag }));
         for &x in off {
             script.call(&mut random, Call::Off(x));
         }
@@ -222,6 +242,63 @@ pub fn lists(count: &mut Count) -> Result<(), String> {
         compare(count, &script.commands)?;
     }
     Ok(())
+}
+
+/// n = 5, k = 2, lag 1, and the message of slot 2 is lost: node 2 leaves in slot 5, where node 5 speaks, the third member
+/// after it. Restarted, it follows after two windows of five slots.
+const LAG_RETURN: Run = &[
+    (OK, &[]),
+    (LOST, &[]),
+    (OK, &[]),
+    (OK, &[]),
+    (OK, &[(2, 1)]),
+    (Call::Restart(2), &[]),
+    (OK, &[]),
+    (OK, &[]),
+    (OK, &[]),
+    (OK, &[]),
+    (OK, &[]),
+    (OK, &[]),
+    (OK, &[]),
+    (OK, &[]),
+    (OK, &[]),
+    (OK, &[(2, 2)]),
+];
+
+/// Its knock of slot 17 is lost, so node 1 has no return bit in slot 21. The knock of slot 22 is heard.
+const LAG_KNOCKS: Run = &[
+    (OK, &[]),
+    (LOST, &[(2, 3)]),
+    (OK, &[]),
+    (OK, &[]),
+    (OK, &[]),
+    (OK, &[(2, 5)]),
+    (OK, &[(2, 3)]),
+    (OK, &[]),
+    (OK, &[]),
+    (OK, &[]),
+    (OK, &[(2, 4)]),
+];
+
+/// It hears nothing more. In slot 20 node 5 decides 1 of four and 3 of three, whose marks are off, and of {4,5} nobody;
+/// but no mark is left.
+const LAG_DEAF: Run = &[(MISS, &[]), (OK, &[(2, 3)]), (MISS, &[]), (MISS, &[]), (MISS, &[(2, 6)])];
+
+/// n = 5, k = 3, lag 1: the messages of 1 and 2 are lost. In slot 5 node 5 decides 1 of five and 2 of four.
+const LAG_TWO_LEAVE: Run = &[(LOST, &[]), (LOST, &[]), (OK, &[]), (OK, &[]), (OK, &[(1, 1), (2, 1)])];
+
+/// Runs with lag 1 and the figures of nodes 1 to 5 after them.
+const WITH_LAG: &[Several] = &[
+    ((5, 2, 1), &[LAG_RETURN, LAG_KNOCKS], &[[0, 0, 0], [1, 1, 5], [0, 0, 0], [0, 0, 0], [0, 0, 0]]),
+    ((5, 2, 1), &[LAG_RETURN, LAG_DEAF], &[[0, 0, 0], [1, 0, 5], [0, 0, 0], [0, 0, 0], [0, 0, 0]]),
+    ((5, 3, 1), &[LAG_TWO_LEAVE], &[[1, 0, 5], [1, 0, 5], [0, 0, 0], [0, 0, 0], [0, 0, 0]]),
+];
+
+/// Pairs of all six kinds, and several that leave in one slot.
+pub fn with_lag(count: &mut Count) -> Result<(), String> {
+    figures_after(count, WITH_LAG)?;
+    count.needs(&KINDS)?;
+    count.needs(&SEVERAL[..1])
 }
 
 /// A call that is made so many times, and node 2's figures after each: left, joined, slot of the last leaving.
@@ -285,7 +362,7 @@ fn keep(count: &mut Count, script: &mut Script, runs: &[Kept]) -> Result<(), Str
     script.push(Command::Size(4));
     script.push(Command::Arrays(4));
     script.lend(&mut random, &[Figures::default(); 4]);
-    script.call(&mut random, Call::SetUp { n: 4, k: 2, m: 0 });
+    script.call(&mut random, Call::SetUp(Choices::plain(4, 2)));
     for &(call, times, [left, joined, last]) in runs.iter().flat_map(|run| run.iter()) {
         let mut expected = [Figures::default(); 4];
         expected[1] = Figures { left, joined, last };

@@ -1,6 +1,7 @@
 //! The refusals of the bench's calls and the pairs of a slot, typed from document 01 and requests a and h.
 
 use comparison::model::bench::{self, Beside, Call, Document01, Fate, Kind, Message};
+use comparison::model::choices::Choices;
 use comparison::model::counts::{self, Counts};
 use comparison::model::ledger::Figures;
 use comparison::model::node::{Node, State};
@@ -8,27 +9,33 @@ use comparison::model::ring::{Set, LIMIT};
 use comparison::report::Count;
 
 fn table(n: u32, k: u32) -> Vec<Node> {
-    bench::set_up(n, k, 0, n as usize).expect("n and k are in range")
+    bench::set_up(Choices::plain(n, k), n as usize).expect("n and k are in range")
 }
 
-/// Set-up: 1, 2, 14, then 4 for a table that has not one record per node.
+/// Set-up: 1, 16, 2, 14, then 4 for a table that has not one record per node.
 pub fn set_up(count: &mut Count) -> Result<(), String> {
     #[rustfmt::skip]
     let sizes = [
-        (2, 9, 9, 2, 1), (33, 0, 0, 33, 1), (4, 1, 9, 4, 2), (4, 4, 0, 9, 2), (4, 2, 9, 4, 14), (4, 2, 9, 3, 14),
-        (4, 2, 0, 3, 4), (4, 2, 8, 5, 4), (4, 2, 0, 0, 4), (3, 2, 0, 3, 0), (4, 3, 1, 4, 0), (32, 31, 8, 32, 0),
+        (2, 9, 9, 0, 2, 1), (33, 0, 0, 0, 33, 1), (33, 2, 0, 2, 33, 1), (2, 0, 9, u32::MAX, 0, 1),
+        (4, 2, 0, 2, 4, 16), (32, 2, 0, 2, 32, 16), (32, 2, 0, 256, 32, 16), (32, 2, 0, u32::MAX, 32, 16),
+        (4, 1, 0, 2, 4, 16), (4, 4, 9, 2, 9, 16), (4, 2, 9, 2, 4, 16), (4, 2, 0, 2, 3, 16),
+        (4, 1, 9, 0, 4, 2), (4, 4, 0, 0, 9, 2), (4, 3, 0, 1, 4, 2), (3, 2, 0, 1, 3, 2), (32, 31, 9, 1, 0, 2),
+        (4, 2, 9, 0, 4, 14), (4, 2, 9, 1, 3, 14),
+        (4, 2, 0, 0, 3, 4), (4, 2, 8, 1, 5, 4), (4, 2, 0, 0, 0, 4),
+        (3, 2, 0, 0, 3, 0), (4, 3, 1, 0, 4, 0), (32, 31, 8, 0, 32, 0), (4, 2, 1, 1, 4, 0), (32, 30, 8, 1, 32, 0),
     ];
-    for (n, k, m, length, expected) in sizes {
+    for (n, k, m, lag, length, expected) in sizes {
         count.expected(expected);
-        let got = bench::set_up(n, k, m, length).map(|nodes| nodes.len());
+        let chosen = Choices { n, k, m, lag };
+        let got = bench::set_up(chosen, length).map(|nodes| nodes.len());
         let same = got == if expected == 0 { Ok(n as usize) } else { Err(expected) };
-        count.check(same, || format!("set-up {n} {k} {m}, table of {length}: {got:?}, not {expected}"))?;
+        count.check(same, || format!("set-up {chosen:?}, table of {length}: {got:?}, not {expected}"))?;
     }
     Ok(())
 }
 
-/// Tables that are not "one per node in number order, all with the same n, k and slot count", nor with one m, or hold
-/// a record that is not sound.
+/// Tables that are not "one per node in number order, all with the same n, k and slot count", nor with one m and one lag,
+/// or hold a record that is not sound.
 fn bad_tables() -> Vec<Vec<Node>> {
     let changed = |change: fn(&mut Vec<Node>)| {
         let mut nodes = table(4, 2);
@@ -42,13 +49,18 @@ fn bad_tables() -> Vec<Vec<Node>> {
         changed(|nodes| nodes.swap(0, 3)),
         changed(|nodes| nodes[2] = nodes[1]),
         changed(|nodes| nodes[3].slots = 1),
-        changed(|nodes| nodes[1].k = 3),
+        changed(|nodes| nodes[1].chosen.k = 3),
         changed(|nodes| nodes[0] = table(5, 2)[0]),
         changed(|nodes| nodes[3].marks = Set(0x10)),
         changed(|nodes| nodes[0].state = State::Following),
         changed(|nodes| nodes[1] = Node { yes_heard: true, ..nodes[1].off().expect("a sound record") }),
-        changed(|nodes| nodes[3].m = 1),
-        changed(|nodes| nodes.iter_mut().for_each(|node| node.m = 9)),
+        changed(|nodes| nodes[3].chosen.m = 1),
+        changed(|nodes| nodes.iter_mut().for_each(|node| node.chosen.m = 9)),
+        changed(|nodes| nodes[2].chosen.lag = 1),
+        changed(|nodes| nodes[0].chosen.lag = 1),
+        changed(|nodes| nodes.iter_mut().for_each(|node| node.chosen.lag = 2)),
+        changed(|nodes| nodes.iter_mut().for_each(|node| node.chosen.lag = u32::MAX)),
+        changed(|nodes| nodes.iter_mut().for_each(|node| (node.chosen.k, node.chosen.lag) = (3, 1))),
     ]
 }
 
@@ -148,7 +160,8 @@ fn with_count(array: usize, sender: usize, job: usize, number: u64) -> Vec<Count
 /// Request h: "A report count above the slot count, or not one array of counts per node in .. bench slot, gives 4";
 /// then 3, 13, 5, 8 for a job past m, 9.
 pub fn counts(count: &mut Count) -> Result<(), String> {
-    let mut nodes = bench::set_up(4, 2, 3, 4).expect("n, k and m are in range");
+    let mut nodes =
+        bench::set_up(Choices { m: 3, ..Choices::plain(4, 2) }, 4).expect("the choices are in range");
     nodes.iter_mut().for_each(|node| node.slots = 7);
     let fitting = with_count(0, 1, 1, 7);
     let ledger = [Figures::default(); 4];
@@ -179,7 +192,8 @@ pub fn cleared(count: &mut Count) -> Result<(), String> {
         count.expected(expected);
         let mut counts = vec![[[7; 8]; 32]; arrays];
         let before = counts.clone();
-        let got = bench::counted_set_up((4, 2, m), 4, &mut counts).map(|nodes| nodes.len());
+        let got = bench::counted_set_up(Choices { m, ..Choices::plain(4, 2) }, 4, &mut counts)
+            .map(|nodes| nodes.len());
         let same = if expected == 0 { got == Ok(4) } else { got == Err(expected) };
         let kept = counts == if expected == 0 { vec![counts::NONE; arrays] } else { before };
         count.check(same && kept, || format!("m = {m}, {arrays} arrays: {got:?}, not {expected}"))?;

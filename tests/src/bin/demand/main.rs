@@ -15,7 +15,7 @@ use comparison::report::{self, Case};
 use std::process::ExitCode;
 
 const CASES: &[Case] = &[
-    Case { name: "bench: set-up, its refusals", meets: &[0, 1, 2, 4, 14], run: calls::set_up },
+    Case { name: "bench: set-up, its refusals", meets: &[0, 1, 2, 4, 14, 16], run: calls::set_up },
     Case {
         name: "bench: refusals in order, table and ledger as they were",
         meets: &[3, 4, 5, 9, 11, 13],
@@ -35,15 +35,44 @@ const CASES: &[Case] = &[
     },
     Case { name: "premises: plans that keep them", meets: &[], run: premises::kept },
     Case {
+        name: "premises: with one member fewer on the list a claim fails",
+        meets: &[],
+        run: premises::one_member_fewer,
+    },
+    Case {
+        name: "request j: decided one member early, a claim fails",
+        meets: &[],
+        run: premises::decides_early,
+    },
+    Case {
         name: "the rules: no claim fails in runs that keep the premises",
         meets: &[],
-        run: runs::true_rules,
+        run: runs::true_rules_without_lag,
     },
-    Case { name: "changed rules: a claim fails for each, in such runs", meets: &[], run: runs::mutants },
+    Case {
+        name: "the rules with lag 1: no claim fails in such runs",
+        meets: &[],
+        run: runs::true_rules_with_lag,
+    },
+    Case {
+        name: "changed rules: a claim fails for each, in such runs",
+        meets: &[],
+        run: runs::mutants_without_lag,
+    },
+    Case {
+        name: "changed rules with lag 1: a claim fails for each, in such runs",
+        meets: &[],
+        run: runs::mutants_with_lag,
+    },
     Case {
         name: "request f: nothing differs in runs that keep k + 1 also between departure and joining",
         meets: &[],
-        run: differs::generated,
+        run: differs::generated_without_lag,
+    },
+    Case {
+        name: "request f with lag 1: nothing differs in runs that keep k + 2 so",
+        meets: &[],
+        run: differs::generated_with_lag,
     },
     Case {
         name: "request f: with k in between the tables differ, all other premises kept",
@@ -56,13 +85,36 @@ const CASES: &[Case] = &[
         meets: &[],
         run: many::typed,
     },
-    Case { name: "request g: every table of n from 3 to 7, every k", meets: &[], run: many::few_nodes },
+    Case {
+        name: "request g: every table of n from 3 to 7, every k",
+        meets: &[],
+        run: many::few_nodes_without_lag,
+    },
+    Case {
+        name: "request g with lag 1: every table of n from 4 to 7, every k",
+        meets: &[],
+        run: many::few_nodes_with_lag,
+    },
     Case {
         name: "request g: runs of every n and k in which nodes fall silent",
         meets: &[],
-        run: many::any_number,
+        run: many::any_number_without_lag,
     },
-    Case { name: "request g: other rules, a claim fails for each", meets: &[], run: many::others },
+    Case {
+        name: "request g with lag 1: runs of every n and k in which nodes fall silent",
+        meets: &[],
+        run: many::any_number_with_lag,
+    },
+    Case {
+        name: "request g: other rules, a claim fails for each",
+        meets: &[],
+        run: many::others_without_lag,
+    },
+    Case {
+        name: "request g with lag 1: other rules, a claim fails for each",
+        meets: &[],
+        run: many::others_with_lag,
+    },
 ];
 
 fn main() -> ExitCode {

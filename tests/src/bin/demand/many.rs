@@ -5,6 +5,7 @@ use super::typed::{calls, Plan};
 use super::without::Other;
 use comparison::events::{several, SEVERAL};
 use comparison::model::bench::{self, Call, Document01, Fate, Rules, Slot};
+use comparison::model::choices::Choices;
 use comparison::model::many_dead::{Broken, Claim, ManyDead};
 use comparison::model::node::{Cause, Node, State};
 use comparison::model::ring::Set;
@@ -21,9 +22,9 @@ struct Moment {
 }
 
 impl Moment {
-    fn first(n: u32, k: u32) -> Moment {
-        let nodes = bench::set_up(n, k, 0, n as usize).expect("n and k are in range");
-        Moment { nodes, judge: ManyDead::new(n) }
+    fn first(chosen: Choices) -> Moment {
+        let nodes = bench::set_up(chosen, chosen.n as usize).expect("the choices are in range");
+        Moment { nodes, judge: ManyDead::new(chosen.n) }
     }
 
     /// The moment after a call, or what is then broken.
@@ -39,8 +40,8 @@ const FINE: Call = Call::Slot { lost: false, missed: Set::EMPTY };
 
 /// The line that breaks something, counted from 1, and what; none if the plan ends before.
 fn follow(plan: Plan, rules: &impl Rules) -> Option<(u32, Broken)> {
-    let (n, k, calls) = calls(plan);
-    let mut moment = Moment::first(n, k);
+    let (chosen, calls) = calls(plan);
+    let mut moment = Moment::first(chosen);
     for (line, call) in (2..).zip(calls) {
         match moment.after(rules, call) {
             Ok(next) => moment = next,
@@ -59,6 +60,14 @@ const SPONSORS_DEAD: Plan = &[(1, "4 2"), (1, "ok"), (1, "off 2"), (1, "ok"), (1
 /// The examples of request e and of document 01.
 const FEEDER_CUT: Plan = &[(1, "6 2"), (1, "off 2"), (1, "off 3"), (1, "off 5"), (1, "off 6"), (18, "ok")];
 const TWO_OFF: Plan = &[(1, "4 3"), (1, "off 1"), (1, "off 2"), (8, "ok")];
+
+/// Lag 1, four nodes, k = 2. In slot 4 node 4 sponsors 2 and 1 and decides 1; of {2,3,4} it sponsors and decides 2; of
+/// {3,4} nobody.
+const TWO_OFF_WITH_LAG: Plan = &[(1, "4 2 1"), (1, "off 1"), (1, "off 2"), (8, "ok")];
+
+/// Lag 1, five nodes, k = 2: node 1's sponsors are 3 and 4, which decides it. They die after it has sent.
+const SPONSORS_DEAD_WITH_LAG: Plan =
+    &[(1, "5 2 1"), (2, "ok"), (1, "off 3"), (1, "ok"), (1, "off 4"), (6, "ok")];
 
 /// plans/power-cut.plan: 5, 6, 1 and 2 of six die one after the other.
 const POWER_CUT: Plan = &[
@@ -92,6 +101,13 @@ const FAILING: &[Failing] = &[
     (POWER_CUT, Other::WithoutE, (11, Claim::Leaves)),
     // 2 fell silent in slot 8 and is listed as slot 13 ends.
     (POWER_CUT, Other::WithoutF, (18, Claim::Late)),
+    // 2 fell silent in slot 2 and is listed as slot 5 ends.
+    (TWO_OFF_WITH_LAG, Other::WithoutF, (8, Claim::Late)),
+    (TWO_OFF_WITH_LAG, Other::KsKept, (8, Claim::Late)),
+    (TWO_OFF_WITH_LAG, Other::KsWithoutLag, (8, Claim::Late)),
+    // Node 1 leaves in slot 4.
+    (SPONSORS_DEAD_WITH_LAG, Other::WithoutE, (7, Claim::Leaves)),
+    (SPONSORS_DEAD_WITH_LAG, Other::SilenceIsNo, (7, Claim::Leaves)),
 ];
 
 /// Nothing is broken by the rules; by the others the claim is, in that line.
@@ -133,7 +149,7 @@ const PREMISES: &[(Plan, u32)] = &[
 /// a plan.
 pub fn judge(count: &mut Count) -> Result<(), String> {
     for (i, &(change, expected)) in CHANGES.iter().enumerate() {
-        let mut moment = Moment::first(4, 2);
+        let mut moment = Moment::first(Choices::plain(4, 2));
         for x in [1, 2] {
             moment = moment.after(&Document01, Call::Off(x)).map_err(|why| format!("{why:?}"))?;
         }
@@ -153,8 +169,9 @@ pub fn judge(count: &mut Count) -> Result<(), String> {
 }
 
 /// Every table that a run can lead to, the slot count taken modulo n; before each slot any nodes are switched off.
-fn every_table(count: &mut Count, n: u32, k: u32) -> Result<(), String> {
-    let mut open = vec![Moment::first(n, k)];
+fn every_table(count: &mut Count, chosen: Choices) -> Result<(), String> {
+    let n = chosen.n;
+    let mut open = vec![Moment::first(chosen)];
     let mut met: HashSet<Moment> = open.iter().cloned().collect();
     while let Some(moment) = open.pop() {
         for call in (1..=n).map(Call::Off).chain([FINE]) {
@@ -163,7 +180,7 @@ fn every_table(count: &mut Count, n: u32, k: u32) -> Result<(), String> {
             if broken == Some(Broken::Premise) {
                 continue;
             }
-            count.check(broken.is_none(), || format!("n = {n}, k = {k}: {broken:?}"))?;
+            count.check(broken.is_none(), || format!("{chosen:?}: {broken:?}"))?;
             let Ok(mut next) = next else { continue };
             next.nodes.iter_mut().for_each(|node| node.slots %= u64::from(n));
             note(count, &moment.nodes, &next.nodes);
@@ -183,7 +200,7 @@ fn note(count: &mut Count, before: &[Node], after: &[Node]) {
         .zip(after)
         .filter_map(|(node, next)| several(node, next))
         .for_each(|name| count.event(name));
-    if list.count() <= after[0].k {
+    if list.count() <= after[0].chosen.k {
         count.event("list: k members or fewer");
     }
     if list.count() == 2 {
@@ -193,10 +210,15 @@ fn note(count: &mut Count, before: &[Node], after: &[Node]) {
 
 const MET: [&str; 2] = ["list: k members or fewer", "list: two members"];
 
-pub fn few_nodes(count: &mut Count) -> Result<(), String> {
-    for n in 3..=7 {
-        for k in 2..n {
-            every_table(count, n, k)?;
+/// Every k with this lag.
+fn rings(n: u32, lag: u32) -> impl Iterator<Item = Choices> {
+    (2..n - lag).map(move |k| Choices { n, k, m: 0, lag })
+}
+
+fn few_nodes(count: &mut Count, lag: u32) -> Result<(), String> {
+    for n in 3 + lag..=7 {
+        for chosen in rings(n, lag) {
+            every_table(count, chosen)?;
         }
     }
     count.needs(&SEVERAL)?;
@@ -204,10 +226,10 @@ pub fn few_nodes(count: &mut Count) -> Result<(), String> {
 }
 
 /// One run of up to 6 n calls; the claim that fails, if one does.
-fn run(count: &mut Count, rules: &impl Rules, (n, k): (u32, u32), seed: u64) -> Option<Broken> {
-    let mut cut = PowerCut::new(seed, n);
-    let mut moment = Moment::first(n, k);
-    for _ in 0..6 * n {
+fn run(count: &mut Count, rules: &impl Rules, chosen: Choices, seed: u64) -> Option<Broken> {
+    let mut cut = PowerCut::new(seed, chosen.n);
+    let mut moment = Moment::first(chosen);
+    for _ in 0..6 * chosen.n {
         let call = cut.next(&moment.nodes);
         match moment.after(rules, call) {
             Ok(next) => {
@@ -220,14 +242,22 @@ fn run(count: &mut Count, rules: &impl Rules, (n, k): (u32, u32), seed: u64) -> 
     None
 }
 
-/// 20 runs for each n and k.
-pub fn any_number(count: &mut Count) -> Result<(), String> {
-    let mut random = Random::new(74);
-    for n in 3..=32 {
-        for k in 2..n {
-            for _ in 0..20 {
-                let broken = run(count, &Document01, (n, k), random.number());
-                count.check(broken.is_none(), || format!("n = {n}, k = {k}: {broken:?}"))?;
+pub fn few_nodes_without_lag(count: &mut Count) -> Result<(), String> {
+    few_nodes(count, 0)
+}
+
+pub fn few_nodes_with_lag(count: &mut Count) -> Result<(), String> {
+    few_nodes(count, 1)
+}
+
+/// 12 runs for each n and k with this lag.
+fn any_number(count: &mut Count, seed: u64, lag: u32) -> Result<(), String> {
+    let mut random = Random::new(seed);
+    for n in 3 + lag..=32 {
+        for chosen in rings(n, lag) {
+            for _ in 0..12 {
+                let broken = run(count, &Document01, chosen, random.number());
+                count.check(broken.is_none(), || format!("{chosen:?}: {broken:?}"))?;
             }
         }
     }
@@ -235,23 +265,31 @@ pub fn any_number(count: &mut Count) -> Result<(), String> {
     count.needs(&MET)
 }
 
-/// The other rules, with the names that the report shows.
-const OTHERS: [(Other, &str); 5] = [
+pub fn any_number_without_lag(count: &mut Count) -> Result<(), String> {
+    any_number(count, 74, 0)
+}
+
+pub fn any_number_with_lag(count: &mut Count) -> Result<(), String> {
+    any_number(count, 78, 1)
+}
+
+/// The other rules, with the names that the report shows. The last one is another only with lag 1.
+const OTHERS: [(Other, &str); 6] = [
     (Other::WithoutE, "claim fails: without request e"),
     (Other::SilenceIsNo, "claim fails: an unheard sponsor counts as a no"),
     (Other::WithoutF, "claim fails: without request f"),
     (Other::KsKept, "claim fails: ks of the set as the slot begins"),
     (Other::BitsAgain, "claim fails: bits read again on the shortened set"),
+    (Other::KsWithoutLag, "claim fails: ks not reduced by the lag"),
 ];
 
-/// Notes in how many runs a claim fails; each is of another ring.
-pub fn others(count: &mut Count) -> Result<(), String> {
-    for (other, name) in OTHERS {
+/// Notes in how many runs with this lag a claim fails; each is of another ring.
+fn others(count: &mut Count, lag: u32, others: &[(Other, &'static str)]) -> Result<(), String> {
+    for &(other, name) in others {
         let mut random = Random::new(75);
-        let rings = (3..=12).flat_map(|n| (2..n).map(move |k| (n, k)));
-        for ring in rings {
-            let broken = run(&mut Count::default(), &other, ring, random.number());
-            count.check(broken != Some(Broken::Premise), || format!("{ring:?}: a premise is broken"))?;
+        for chosen in (3 + lag..=12).flat_map(|n| rings(n, lag)) {
+            let broken = run(&mut Count::default(), &other, chosen, random.number());
+            count.check(broken != Some(Broken::Premise), || format!("{chosen:?}: a premise is broken"))?;
             if broken.is_some() {
                 count.event(name);
             }
@@ -259,4 +297,12 @@ pub fn others(count: &mut Count) -> Result<(), String> {
         count.needs(&[name])?;
     }
     Ok(())
+}
+
+pub fn others_without_lag(count: &mut Count) -> Result<(), String> {
+    others(count, 0, &OTHERS[..5])
+}
+
+pub fn others_with_lag(count: &mut Count) -> Result<(), String> {
+    others(count, 1, &OTHERS)
 }

@@ -2,7 +2,8 @@
 //! since the demand holds with them; the vectors of single nodes rule them out. A no that erases an earlier yes is
 //! one. With request f one clean window, or two with unequal nodes, are others: a node that follows then lacks only
 //! members that were lost at the window's end, and where its shorter set decides another, the repeat takes the
-//! members to that set too.
+//! members to that set too. With lag 1 bits that begin with the nearest member are one more, if only the decision waits,
+//! and so is a listening rule that asks for shorter runs.
 
 use super::steps::{self, next_sender, Steps};
 use comparison::model::bench::Rules;
@@ -103,8 +104,9 @@ fn yes_stays(node: &Node, heard: Option<Said>) -> Node {
 
 /// The nodes before x by number: as many as a member sponsors, members or not.
 fn by_number(node: &Node, x: u32) -> impl Iterator<Item = u32> {
-    let sponsored = ring::ks(node.k, node.set.count()) as usize;
-    ring::members_before(node.n, Set::full(node.n), x).take(sponsored).map(|met| met.member)
+    let (sponsored, lag) = (ring::ks(node.chosen, node.set.count()), node.chosen.lag);
+    let nodes = ring::members_before(node.chosen, Set::full(node.chosen.n), x);
+    nodes.skip(lag as usize).take(sponsored as usize).map(|met| met.member)
 }
 
 fn acks_by_number(node: &Node) -> u32 {
@@ -114,7 +116,7 @@ fn acks_by_number(node: &Node) -> u32 {
 /// The same acknowledgements in the places that the rules give them; 0 for whom none is sent.
 fn acks_by_member(node: &Node, sender: u32, acks: u32) -> u32 {
     let said_yes = |x| by_number(node, sender).position(|y| y == x).is_some_and(|bit| acks >> bit & 1 == 1);
-    let sponsored = ring::sponsored(node.n, node.k, node.set, sender);
+    let sponsored = ring::sponsored(node.chosen, node.set, sender);
     sponsored.enumerate().fold(0, |acks, (bit, met)| acks | u32::from(said_yes(met.member)) << bit)
 }
 
@@ -130,7 +132,7 @@ impl Mutant {
     /// What is heard in the next slot, or not, counts as a yes for this member's own message.
     fn takes_for_yes(self, node: &Node, heard: Option<Said>) -> bool {
         let sender = next_sender(node);
-        let sponsors = |x| ring::sponsored(node.n, node.k, node.set, sender).any(|met| met.member == x);
+        let sponsors = |x| ring::sponsored(node.chosen, node.set, sender).any(|met| met.member == x);
         node.set.has(sender)
             && match heard {
                 None => self == SilenceIsYes && sponsors(node.own),
@@ -179,8 +181,7 @@ fn depart_by_number(node: &mut Node, sender: u32) -> Result<(), Leaving> {
 /// The sponsored members one after the other, the furthest first, as long as `goes_on` says so of one that is marked
 /// or not; those whose mark is off leave.
 fn depart_sponsored(node: &mut Node, sender: u32, goes_on: fn(bool) -> bool) -> Result<(), Leaving> {
-    let sponsored: Vec<u32> =
-        ring::sponsored(node.n, node.k, node.set, sender).map(|met| met.member).collect();
+    let sponsored: Vec<u32> = ring::sponsored(node.chosen, node.set, sender).map(|met| met.member).collect();
     for &x in sponsored.iter().rev() {
         let marked = node.marks.has(x);
         if !marked {

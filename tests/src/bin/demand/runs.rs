@@ -1,37 +1,45 @@
 //! Runs that keep the premises, by the rules and by the mutants.
 
 use super::mutants;
+use super::without::Other;
 use comparison::careful::Run;
 use comparison::model::bench::{Call, Document01, Kind, Rules, Slot};
-use comparison::model::demand::{Broken, Claim};
+use comparison::model::choices::Choices;
+use comparison::model::demand::{Broken, Claim, Demand};
 use comparison::random::Random;
 use comparison::report::Count;
 use std::collections::BTreeSet;
 
-/// Runs by the rules, and by each mutant.
-const RUNS: u64 = 40_000;
-const MUTANT_RUNS: u64 = 15_000;
+/// Runs with each lag by the rules, and by each mutant.
+const RUNS: u64 = 20_000;
+const MUTANT_RUNS: u64 = 7_500;
 
-/// n and k of a run. Most rings are small, since more happens in them.
-pub fn ring(random: &mut Random) -> (u32, u32) {
+/// The choices of a run with this lag. Most rings are small, since more happens in them.
+pub fn ring(random: &mut Random, lag: u32) -> Choices {
     let largest = match random.below(20) {
         0 => 32,
         1 => 16,
         _ => 8,
     };
-    let n = random.within(4, largest) as u32;
-    let most = if random.below(4) == 0 { n - 1 } else { n - 2 };
+    let n = (random.within(4, largest) as u32 + lag).min(32);
+    let most = n - lag - if random.below(4) == 0 { 1 } else { 2 };
     let k = if random.bit() { most.min(3) } else { random.within(2, u64::from(most)) as u32 };
-    (n, k)
+    Choices { n, k, m: 0, lag }
 }
 
-/// One run of up to 25 n calls: n, k and the claim that fails, if one does.
-fn run(count: &mut Count, random: &mut Random, rules: &impl Rules) -> Option<(u32, u32, Claim)> {
-    let (n, k) = ring(random);
+/// One run of up to 25 n calls: the choices and the claim that fails, if one does.
+fn run(
+    count: &mut Count,
+    random: &mut Random,
+    lag: u32,
+    rules: &impl Rules,
+    demand: fn(Choices) -> Demand,
+) -> Option<(Choices, Claim)> {
+    let chosen = ring(random, lag);
     let seldom = random.within(2, 8);
-    let mut run = Run::new(rules, n, k, random.number(), seldom);
+    let mut run = Run::new(rules, chosen, random.number(), seldom).judged(demand(chosen));
     let mut met = BTreeSet::new();
-    let ends = (0..25 * n).find_map(|_| match run.advance() {
+    let ends = (0..25 * chosen.n).find_map(|_| match run.advance() {
         Ok((call, slot)) => {
             note(count, &mut met, call, slot);
             None
@@ -42,7 +50,7 @@ fn run(count: &mut Count, random: &mut Random, rules: &impl Rules) -> Option<(u3
     match ends {
         None => count.event("runs: to their end"),
         Some(Broken::Premise(_)) => count.event("runs: to where a premise must break"),
-        Some(Broken::Claim(claim)) => return Some((n, k, claim)),
+        Some(Broken::Claim(claim)) => return Some((chosen, claim)),
     }
     None
 }
@@ -89,27 +97,56 @@ const NEEDED: &[&str] = &[
     "runs: to their end",
 ];
 
-pub fn true_rules(count: &mut Count) -> Result<(), String> {
-    let mut random = Random::new(71);
+fn true_rules(count: &mut Count, seed: u64, lag: u32) -> Result<(), String> {
+    let mut random = Random::new(seed);
     for i in 1..=RUNS {
-        let failed = run(count, &mut random, &Document01);
-        count.check(failed.is_none(), || format!("run {i}: n, k and the claim that fails: {failed:?}"))?;
+        let failed = run(count, &mut random, lag, &Document01, Demand::new);
+        count.check(failed.is_none(), || format!("run {i}: the claim that fails: {failed:?}"))?;
     }
     count.needs(NEEDED)
 }
 
-/// Notes in how many runs a claim fails.
-pub fn mutants(count: &mut Count) -> Result<(), String> {
-    for (mutant, name) in mutants::ALL {
-        let mut random = Random::new(72);
-        let mut found = false;
-        for _ in 0..MUTANT_RUNS {
-            if run(&mut Count::default(), &mut random, &mutant).is_some() {
-                count.event(name);
-                found = true;
-            }
-        }
-        count.check(found, || format!("no claim fails for {name}"))?;
-    }
-    Ok(())
+pub fn true_rules_without_lag(count: &mut Count) -> Result<(), String> {
+    true_rules(count, 71, 0)
 }
+
+pub fn true_rules_with_lag(count: &mut Count) -> Result<(), String> {
+    true_rules(count, 76, 1)
+}
+
+/// Notes in how many runs with this lag a claim fails.
+fn fails(
+    count: &mut Count,
+    lag: u32,
+    (rules, name): (&impl Rules, &'static str),
+    demand: fn(Choices) -> Demand,
+) -> Result<(), String> {
+    let mut random = Random::new(72);
+    let mut found = false;
+    for _ in 0..MUTANT_RUNS {
+        if run(&mut Count::default(), &mut random, lag, rules, demand).is_some() {
+            count.event(name);
+            found = true;
+        }
+    }
+    count.check(found, || format!("lag {lag}: no claim fails for {name}"))
+}
+
+/// With lag 0, the changes that concern the lag left out.
+pub fn mutants_without_lag(count: &mut Count) -> Result<(), String> {
+    for (mutant, name) in mutants::ALL {
+        fails(count, 0, (&mutant, name), Demand::new)?;
+    }
+    fails(count, 0, (&Document01, ONE_FEWER), Demand::one_member_fewer)
+}
+
+pub fn mutants_with_lag(count: &mut Count) -> Result<(), String> {
+    for (mutant, name) in mutants::ALL {
+        fails(count, 1, (&mutant, name), Demand::new)?;
+    }
+    fails(count, 1, (&Other::DecidesEarly, "claim fails: decided one member early"), Demand::new)?;
+    fails(count, 1, (&Document01, ONE_FEWER), Demand::one_member_fewer)
+}
+
+/// No change of the rules, but of a premise.
+const ONE_FEWER: &str = "claim fails: a list of one member fewer";

@@ -2,11 +2,10 @@
 
 use comparison::model::message::Said;
 use comparison::model::node::{Leaving, Node, State};
-use comparison::model::ring;
 
 /// The sender of the next slot.
 pub fn next_sender(node: &Node) -> u32 {
-    ring::sender(node.n, node.slots + 1)
+    node.next_sender()
 }
 
 /// The steps that may differ; those that are not given are the model's.

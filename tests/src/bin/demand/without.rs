@@ -1,4 +1,4 @@
-//! The rules without one of requests e and f, or with another reading of it.
+//! The rules without one of requests e and f, or with another reading of it or of request j.
 
 use super::steps::{self, Steps};
 use comparison::model::bench::Rules;
@@ -18,6 +18,10 @@ pub enum Other {
     KsKept,
     /// The message's bits are read again on each shortened set.
     BitsAgain,
+    /// With lag 1 the ks-th member before the sender is decided, not the (ks + lag)-th.
+    DecidesEarly,
+    /// The decided member stands (ks + lag) back with ks the smaller of k and c - 1: often nobody does.
+    KsWithoutLag,
 }
 
 use Other::*;
@@ -36,6 +40,15 @@ impl Steps for Other {
             WithoutF => node.departing(sender).map_or(Ok(()), |member| node.depart(member)),
             KsKept => ks_kept(node, sender),
             BitsAgain => bits_again(node, sender, heard),
+            DecidesEarly => depart_at(node, sender, |node| ring::ks(node.chosen, node.set.count())),
+            KsWithoutLag => depart_at(node, sender, |node| {
+                let ks = node.chosen.k.min(node.set.count() - 1);
+                if ks == 0 {
+                    0
+                } else {
+                    ks + node.chosen.lag
+                }
+            }),
             _ => node.step_3(sender),
         }
     }
@@ -64,7 +77,7 @@ fn own_mark_off(node: &mut Node, sender: u32, heard: Option<Said>) -> Result<(),
 }
 
 fn silence_is_no(node: &mut Node, sender: u32, heard: Option<Said>) -> Result<(), Leaving> {
-    let sponsors = ring::sponsored(node.n, node.k, node.set, sender).any(|met| met.member == node.own);
+    let sponsors = ring::sponsored(node.chosen, node.set, sender).any(|met| met.member == node.own);
     if heard.is_none() && sponsors && !node.yes_heard {
         node.marks = node.marks.without(node.own);
     }
@@ -73,8 +86,17 @@ fn silence_is_no(node: &mut Node, sender: u32, heard: Option<Said>) -> Result<()
 
 /// Where fewer are left, nobody stands so far back.
 fn ks_kept(node: &mut Node, sender: u32) -> Result<(), Leaving> {
-    let Some(nearer) = ring::ks(node.k, node.set.count()).checked_sub(1) else { return Ok(()) };
-    let decided = |node: &Node| ring::members_before(node.n, node.set, sender).nth(nearer as usize);
+    let ks = ring::ks(node.chosen, node.set.count());
+    let place = if ks == 0 { 0 } else { ks + node.chosen.lag };
+    depart_at(node, sender, |_| place)
+}
+
+/// The repeat of request f, with the member so many back decided; 0 for nobody.
+fn depart_at(node: &mut Node, sender: u32, place: impl Fn(&Node) -> u32) -> Result<(), Leaving> {
+    let decided = |node: &Node| {
+        let nearer = place(node).checked_sub(1)?;
+        ring::members_before(node.chosen, node.set, sender).nth(nearer as usize)
+    };
     while let Some(met) = decided(node).filter(|met| !node.marks.has(met.member)) {
         node.depart(met.member)?;
     }

@@ -3,6 +3,7 @@
 
 use super::compare::compare;
 use super::protocol::{Command, Script};
+use comparison::model::choices::Choices;
 use comparison::model::node::{Cause, Node, State};
 use comparison::model::ring::LIMIT;
 use comparison::random::Random;
@@ -45,10 +46,12 @@ fn refused_calls(count: &mut Count, script: &mut Script, bytes: [u8; RECORD]) {
         (CALLS[2], Command::Off, node.off().is_err()),
         (CALLS[3], Command::Restart, node.restart().is_err()),
         (CALLS[1], Command::Send { room: 0, jobs: 0 }, true),
-        (CALLS[4], Command::SetUp { n: 33, k: 2, m: 0, own: 1 }, true),
-        (CALLS[4], Command::SetUp { n: 4, k: 4, m: 0, own: 1 }, true),
-        (CALLS[4], Command::SetUp { n: 4, k: 2, m: 9, own: 1 }, true),
-        (CALLS[4], Command::SetUp { n: 4, k: 2, m: 8, own: 5 }, true),
+        (CALLS[4], Command::SetUp(Choices { n: 33, k: 2, m: 0, lag: 0 }, 1), true),
+        (CALLS[4], Command::SetUp(Choices { n: 4, k: 2, m: 0, lag: 2 }, 1), true),
+        (CALLS[4], Command::SetUp(Choices { n: 4, k: 4, m: 0, lag: 0 }, 1), true),
+        (CALLS[4], Command::SetUp(Choices { n: 4, k: 3, m: 0, lag: 1 }, 1), true),
+        (CALLS[4], Command::SetUp(Choices { n: 4, k: 2, m: 9, lag: 1 }, 1), true),
+        (CALLS[4], Command::SetUp(Choices { n: 4, k: 2, m: 8, lag: 1 }, 5), true),
     ];
     script.load_bytes(bytes);
     for (name, call, refused) in calls {
@@ -72,7 +75,7 @@ pub fn left_by_refusals(count: &mut Count) -> Result<(), String> {
             let mut node = sound(&mut random, state);
             match i % 3 {
                 0 => node.slots = LIMIT,
-                1 => node.listening.done = node.n,
+                1 => node.listening.done = node.chosen.n,
                 _ => {}
             }
             refused_calls(count, &mut script, rewritten(&mut random, &node));

@@ -4,9 +4,10 @@
 use super::protocol::{Command, Script};
 use super::{events, heard};
 use comparison::messages::{job_byte, spare_job_byte};
+use comparison::model::choices::Choices;
 use comparison::model::message;
 use comparison::model::node::{Node, State};
-use comparison::model::ring::{self, Set};
+use comparison::model::ring::Set;
 use comparison::random::Random;
 use comparison::report::Count;
 
@@ -20,9 +21,7 @@ pub struct Fate {
 }
 
 pub struct Cable {
-    pub n: u32,
-    pub k: u32,
-    m: u32,
+    pub chosen: Choices,
     pub nodes: Vec<Node>,
     scripts: Vec<Script>,
     /// Each node's counts are asked for after each of its calls, not only at the end.
@@ -30,24 +29,24 @@ pub struct Cable {
 }
 
 impl Cable {
-    pub fn new(n: u32, k: u32, m: u32) -> Cable {
-        let scripts = (0..n).map(|_| Script::default()).collect();
-        let mut cable = Cable { n, k, m, nodes: Vec::new(), scripts, watched: false };
+    pub fn new(chosen: Choices) -> Cable {
+        let scripts = (0..chosen.n).map(|_| Script::default()).collect();
+        let mut cable = Cable { chosen, nodes: Vec::new(), scripts, watched: false };
         cable.set_up();
         cable
     }
 
-    pub fn watched(n: u32, k: u32, m: u32) -> Cable {
-        Cable { watched: true, ..Cable::new(n, k, m) }
+    pub fn watched(chosen: Choices) -> Cable {
+        Cable { watched: true, ..Cable::new(chosen) }
     }
 
     /// All nodes start anew.
     pub fn set_up(&mut self) {
-        let (n, k, m) = (self.n, self.k, self.m);
-        let node = |own| Node::set_up(n, k, m, own).expect("n, k and m are in range");
-        self.nodes = (1..=n).map(node).collect();
-        for own in 1..=n {
-            self.tell(own, &Command::SetUp { n, k, m, own });
+        let chosen = self.chosen;
+        let node = |own| Node::set_up(chosen, own).expect("the choices are in range");
+        self.nodes = (1..=chosen.n).map(node).collect();
+        for own in 1..=chosen.n {
+            self.tell(own, &Command::SetUp(chosen, own));
         }
     }
 
@@ -65,7 +64,7 @@ impl Cable {
 
     /// The sender of the next slot.
     pub fn sender(&self) -> u32 {
-        ring::sender(self.n, self.nodes[0].slots + 1)
+        self.nodes[0].next_sender()
     }
 
     /// The nodes in a state.
@@ -95,19 +94,19 @@ impl Cable {
     /// Calls that do not send: sometimes the buffer is too short, sometimes another node is asked, sometimes a job
     /// past m is given.
     fn ask(&mut self, random: &mut Random, sender: u32) {
-        let length = message::length(self.k) as u64;
+        let length = message::length(self.chosen.k) as u64;
         if random.below(8) == 0 {
-            let (room, jobs) = (random.below(length) as u8, job_byte(random, self.m));
+            let (room, jobs) = (random.below(length) as u8, job_byte(random, self.chosen.m));
             self.tell(sender, &Command::Send { room, jobs });
         }
         if random.below(4) == 0 {
-            let other = random.within(1, u64::from(self.n)) as u32;
-            let (room, jobs) = (random.below(12) as u8, job_byte(random, self.m));
+            let other = random.within(1, u64::from(self.chosen.n)) as u32;
+            let (room, jobs) = (random.below(12) as u8, job_byte(random, self.chosen.m));
             self.tell(other, &Command::Send { room, jobs });
         }
         if random.below(8) == 0 {
             let room = random.within(length, length + 3) as u8;
-            let spare = spare_job_byte(random, self.m);
+            let spare = spare_job_byte(random, self.chosen.m);
             spare.into_iter().for_each(|jobs| self.tell(sender, &Command::Send { room, jobs }));
         }
     }
@@ -116,9 +115,9 @@ impl Cable {
     fn sent(&mut self, count: &mut Count, random: &mut Random) -> Vec<u8> {
         let sender = self.sender();
         self.ask(random, sender);
-        let length = message::length(self.k);
+        let length = message::length(self.chosen.k);
         let room = length + random.below(4) as usize;
-        let jobs = job_byte(random, self.m);
+        let jobs = job_byte(random, self.chosen.m);
         events::sends(count, self.node(sender), jobs);
         self.tell(sender, &Command::Send { room: room as u8, jobs });
         let mut out = vec![0; length];
@@ -131,7 +130,7 @@ impl Cable {
     pub fn slot(&mut self, count: &mut Count, random: &mut Random, fate: Fate) {
         let sender = self.sender();
         let sent = self.sent(count, random);
-        for x in 1..=self.n {
+        for x in 1..=self.chosen.n {
             let silent = fate.lost || fate.missed_by.has(x) || x == sender;
             let mut bytes = if silent { Vec::new() } else { sent.clone() };
             if fate.tampered && random.below(4) == 0 {

@@ -4,6 +4,7 @@ use super::protocol::{next_command, run_by_model, Command, Held, Script};
 use super::tally::History;
 use comparison::child;
 use comparison::messages::hex;
+use comparison::model::choices::Choices;
 use comparison::record_bytes::{record_bytes, shown_counts, shown_record, Reader, RECORD};
 use comparison::report::Count;
 use std::io::Read;
@@ -59,7 +60,9 @@ fn shown_difference(command: &Command, got: &[u8], expected: &[u8]) -> String {
 
 fn shown_command(command: &Command) -> String {
     match *command {
-        Command::SetUp { n, k, m, own } => format!("set-up n = {n}, k = {k}, m = {m}, own {own}"),
+        Command::SetUp(Choices { n, k, m, lag }, own) => {
+            format!("set-up n = {n}, k = {k}, m = {m}, lag {lag}, own {own}")
+        }
         Command::Slot(heard) => format!("slot, heard [{}]", hex(heard)),
         Command::Send { room, jobs } => format!("send jobs {jobs:02X} into {room} bytes"),
         Command::Off => "off".to_string(),

@@ -245,7 +245,7 @@ const RUNS: &[Run] = &[
 pub fn single_nodes(count: &mut Count) -> Result<(), String> {
     let mut script = Script::default();
     for run in RUNS {
-        follow(count, &mut script, 3, run)?;
+        follow(count, &mut script, (3, 0), run)?;
     }
     compare(count, &script)
 }

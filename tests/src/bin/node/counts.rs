@@ -9,12 +9,13 @@ use super::protocol::{Command, Script};
 use super::runs;
 use super::tally::TALLIES;
 use comparison::events::{COUNTED, UNCOUNTED};
+use comparison::model::choices::Choices;
 use comparison::model::counts::NONE;
 use comparison::model::node::{Node, State};
 use comparison::model::ring::LIMIT;
 use comparison::random::Random;
 use comparison::record_bytes::record_bytes;
-use comparison::records::{sound, spoil, STATES};
+use comparison::records::{choices_of, sound, spoil, STATES};
 use comparison::report::Count;
 
 /// Every n and m; the bytes of one run in two are tampered with.
@@ -23,9 +24,9 @@ pub fn cables(count: &mut Count) -> Result<(), String> {
     let mut script = Script::default();
     for n in 3..=32_u32 {
         for (m, tampered) in [(n % 9, 0), ((n + 4) % 9, 8)] {
-            let k = random.within(2, u64::from(n) - 1) as u32;
+            let chosen = Choices { m, ..choices_of(&mut random, n) };
             let kind = runs::Kind { slots: 1_200 / n + 4 * n, calm: 3 * n, tampered };
-            runs::watched(count, &mut random, (n, k, m), &kind).into_script(&mut script);
+            runs::watched(count, &mut random, chosen, &kind).into_script(&mut script);
         }
     }
     // A following or knocking node seldom leaves as it hears a report: that is met by records.
@@ -45,7 +46,7 @@ fn edge(
     node: &Node,
     (row, job, number): (u8, u8, u64),
 ) -> Result<(), String> {
-    let bytes = heard::readable(random, (node.k, node.m));
+    let bytes = heard::readable(random, (node.chosen.k, node.chosen.m));
     let mut counts = NONE;
     counts[usize::from(row)][usize::from(job)] = number;
     let got = node.counted_slot(&mut counts, &bytes).err().unwrap_or(0);
@@ -135,7 +136,7 @@ fn any_count(random: &mut Random, script: &mut Script, slots: u64) {
 
 /// Each call, and the counts after it.
 fn every_call(random: &mut Random, script: &mut Script, node: &Node) {
-    let bytes = heard::readable(random, (node.k.clamp(2, 31), node.m.min(8)));
+    let bytes = heard::readable(random, (node.chosen.k.clamp(2, 31), node.chosen.m.min(8)));
     for call in [
         Command::Slot(&bytes),
         Command::Send { room: 12, jobs: 0 },
@@ -144,8 +145,9 @@ fn every_call(random: &mut Random, script: &mut Script, node: &Node) {
         Command::Off,
         Command::Restart,
         Command::Slot(&bytes),
-        Command::SetUp { n: 4, k: 2, m: 9, own: 1 },
-        Command::SetUp { n: 4, k: 2, m: 8, own: 1 },
+        Command::SetUp(Choices { n: 4, k: 2, m: 8, lag: 2 }, 1),
+        Command::SetUp(Choices { n: 4, k: 2, m: 9, lag: 1 }, 1),
+        Command::SetUp(Choices { n: 4, k: 2, m: 8, lag: 1 }, 1),
     ] {
         script.push(&call);
         script.push(&Command::Counts);
@@ -164,7 +166,7 @@ pub fn records(count: &mut Count) -> Result<(), String> {
                 any_count(&mut random, &mut script, node.slots);
             }
             for _ in 0..random.within(1, 2) {
-                let bytes = heard::anything(&mut random, (node.k, node.m));
+                let bytes = heard::anything(&mut random, (node.chosen.k, node.chosen.m));
                 script.push(&Command::Slot(&bytes));
                 script.push(&Command::Counts);
                 let next = node.slot(&bytes).expect("a sound record below the limit");

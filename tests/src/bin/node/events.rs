@@ -35,12 +35,10 @@ pub const OF_CABLES: &[&str] = &[
     "following: sees a node join",
     "following: drops a member",
     "following: to listening, return bit",
-    "following: to listening, too few members",
     "knocking: joins",
     "knocking: joins by the joining slot's return bit alone",
     "knocking: hears another knock",
     "knocking: to following",
-    "knocking: to listening, too few members",
     "off: of a member",
     "off: of a listening node",
     "off: of a following node",
@@ -59,6 +57,18 @@ pub const OF_CABLES: &[&str] = &[
     "repeat: following to listening",
     "repeat: knocking to listening",
     "member: decided at a later look, neither yes nor no heard",
+];
+
+/// What they must meet without lag. With lag 1 two members are left where there were two: nobody is decided.
+pub const OF_CABLES_WITHOUT_LAG: &[&str] =
+    &["following: to listening, too few members", "knocking: to listening, too few members"];
+
+/// And with lag 1. Without lag a following or knocking node that has lost its last mark on a cable has too few members
+/// by then, since the repeat takes all but the sender.
+pub const OF_CABLES_WITH_LAG: &[&str] = &[
+    "following: to listening, no mark",
+    "knocking: to listening, no mark",
+    "lag 1: two members, one not marked",
 ];
 
 /// What sending with jobs must meet.
@@ -86,7 +96,7 @@ pub fn sends(count: &mut Count, node: &Node, jobs: u8) {
 pub const OWN_REPORT: &str = "report: not counted, handed over in the own slot";
 
 fn reported(count: &mut Count, before: &Node, after: &Node, bytes: &[u8]) {
-    let said = message::read(before.k, before.m, bytes).ok();
+    let said = message::read(before.chosen.k, before.chosen.m, bytes).ok();
     if said.is_some_and(|said| said.jobs != 0) {
         let own = before.next_sender() == before.own;
         count.event(if own { OWN_REPORT } else { report(before, after) });
@@ -96,7 +106,7 @@ fn reported(count: &mut Count, before: &Node, after: &Node, bytes: &[u8]) {
 /// A message for another number of jobs.
 fn other_m(count: &mut Count, node: &Node, bytes: &[u8]) {
     let Some(&m) = bytes.len().checked_sub(2).and_then(|place| bytes.get(place)) else { return };
-    if u32::from(m) == node.m || message::read(node.k, u32::from(m), bytes).is_err() {
+    if u32::from(m) == node.chosen.m || message::read(node.chosen.k, u32::from(m), bytes).is_err() {
         return;
     }
     match node.state {
@@ -154,10 +164,12 @@ fn leaving(mut node: Node, sender: u32, heard: Option<Said>) -> Vec<u32> {
 }
 
 pub fn slot(count: &mut Count, before: &Node, after: &Node, bytes: &[u8]) {
-    let sender = ring::sender(before.n, after.slots);
-    let heard = if sender == before.own { None } else { message::read(before.k, before.m, bytes).ok() };
+    let sender = before.next_sender();
+    let heard =
+        if sender == before.own { None } else { message::read(before.chosen.k, before.chosen.m, bytes).ok() };
     let slot = Slot { before, after, sender, heard, left: leaving(*before, sender, heard) };
     slot.repeat(count);
+    slot.of_lag(count);
     if sender != before.own {
         other_m(count, before, bytes);
     }
@@ -177,8 +189,8 @@ impl Slot<'_> {
         if self.left.len() < 2 {
             return;
         }
-        let Node { k, own, set, .. } = *self.before;
-        let fewer = ring::ks(k, set.count() - 1) < ring::ks(k, set.count());
+        let Node { chosen, own, set, .. } = *self.before;
+        let fewer = ring::ks(chosen, set.count() - 1) < ring::ks(chosen, set.count());
         count.event(if fewer { "repeat: fewer are sponsored" } else { "repeat: as many are sponsored" });
         several(self.before, self.after).into_iter().for_each(|name| count.event(name));
         if self.left.last() == Some(&own) {
@@ -196,6 +208,15 @@ impl Slot<'_> {
             (State::Knocking, State::Knocking) => count.event("repeat: knocking"),
             (State::Knocking, State::Listening) => count.event("repeat: knocking to listening"),
             _ => {}
+        }
+    }
+
+    /// Lag 1: the sender is one of two members, and the other one's mark is off. It would be decided without lag.
+    fn of_lag(&self, count: &mut Count) {
+        let Node { chosen, set, marks, .. } = *self.before;
+        let other = set.without(self.sender);
+        if chosen.lag == 1 && set.count() == 2 && other.count() == 1 && !other.within(marks) {
+            count.event("lag 1: two members, one not marked");
         }
     }
 
@@ -237,9 +258,9 @@ impl Slot<'_> {
 
     /// What a heard message says to this member's own.
     fn answer(&self, count: &mut Count) {
-        let Node { n, k, own, set, marks, yes_heard, .. } = *self.before;
+        let Node { chosen, own, set, marks, yes_heard, .. } = *self.before;
         let (Some(Said { acks, .. }), true) = (self.heard, set.has(self.sender)) else { return };
-        let Some(bit) = ring::sponsored(n, k, set, self.sender).position(|met| met.member == own) else {
+        let Some(bit) = ring::sponsored(chosen, set, self.sender).position(|met| met.member == own) else {
             return;
         };
         count.event(match (acks >> bit & 1 == 1, yes_heard, marks.has(own)) {
@@ -259,8 +280,8 @@ impl Slot<'_> {
 
     /// The sender decides this member, which stays only because its mark is on from its own slot.
     fn decides_unanswered(&self) -> bool {
-        let Node { n, k, own, set, .. } = *self.before;
-        let decided = ring::decided(n, k, self.shortened(), self.sender);
+        let Node { chosen, own, set, .. } = *self.before;
+        let decided = ring::decided(chosen, self.shortened(), self.sender);
         set.has(self.sender) && decided.is_some_and(|met| met.member == own) && !self.after.yes_heard
     }
 

@@ -68,9 +68,9 @@ pub fn anything(random: &mut Random, (k, m): (u32, u32)) -> Vec<u8> {
 /// A message on its way to `node`, changed: every bit past ks set, return bit turned, other
 /// acknowledgements or jobs, damaged, or another thing altogether. Nothing may become a message too.
 pub fn changed(random: &mut Random, node: &Node, bytes: &[u8]) -> Vec<u8> {
-    let (k, m) = (node.k, node.m);
+    let (k, m) = (node.chosen.k, node.chosen.m);
     let Ok(said) = message::read(k, m, bytes) else { return anything(random, (k, m)) };
-    let past = all_yes(k) & !0 << ring::ks(k, node.set.count());
+    let past = all_yes(k) & !0 << ring::ks(node.chosen, node.set.count());
     let other = match random.below(7) {
         0 => Said { acks: said.acks | past, ..said },
         1 => Said { return_bit: !said.return_bit, ..said },

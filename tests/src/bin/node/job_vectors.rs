@@ -127,7 +127,7 @@ const RUNS: &[(u32, Run)] = &[
 pub fn single_nodes(count: &mut Count) -> Result<(), String> {
     let mut script = Script::default();
     for (m, run) in RUNS {
-        follow(count, &mut script, *m, run)?;
+        follow(count, &mut script, (*m, 0), run)?;
     }
     compare(count, &script)
 }

@@ -9,6 +9,7 @@ mod counts;
 mod events;
 mod heard;
 mod job_vectors;
+mod lag_vectors;
 mod plans;
 mod protocol;
 mod records;
@@ -36,13 +37,18 @@ const CASES: &[Case] = &[
         run: count_vectors::single_nodes,
     },
     Case {
+        name: "vectors: runs of single nodes with lag 1 by request j, model and program",
+        meets: &[0, 4],
+        run: lag_vectors::single_nodes,
+    },
+    Case {
         name: "vectors: plans of whole cables, without jobs and with some, model and program",
         meets: &[0, 8, 10],
         run: plans::whole_cables,
     },
     Case {
-        name: "set-up: n, k and own number from 0 to 40 and large ones, m in range and out of it",
-        meets: &[0, 1, 2, 3, 4, 14],
+        name: "set-up: n, k and own number from 0 to 40 and large ones, m and lag in range and out of it",
+        meets: &[0, 1, 2, 3, 4, 14, 16],
         run: calls::set_up,
     },
     Case {
@@ -51,24 +57,44 @@ const CASES: &[Case] = &[
         run: calls::job_counts,
     },
     Case {
-        name: "cables: every n and k, with losses, misses, offs and restarts; counts at the end",
+        name: "set-up: lags that are one and that are not, k around the largest of each lag",
+        meets: &[0, 1, 2, 3, 14, 16],
+        run: calls::lags,
+    },
+    Case {
+        name: "cables: every n, k and lag, with losses, misses, offs and restarts; counts at the end",
         meets: &[0, 8, 9, 10, 11],
         run: runs::every_n_and_k,
     },
     Case {
         name: "cables: long runs, troubles aimed at sponsors, knocks and returning nodes now and then",
         meets: &[0, 8, 9, 10, 11],
-        run: runs::calm,
+        run: runs::calm_without_lag,
     },
     Case {
         name: "cables: long runs, such troubles most of the time",
         meets: &[0, 8, 9, 10, 11],
-        run: runs::rough,
+        run: runs::rough_without_lag,
     },
     Case {
         name: "cables: long runs, bytes damaged or changed on their way, and handed over in the own slot",
         meets: &[0, 8, 9, 10, 11],
-        run: runs::tampered,
+        run: runs::tampered_without_lag,
+    },
+    Case {
+        name: "cables: with lag 1, troubles now and then",
+        meets: &[0, 8, 9, 10, 11],
+        run: runs::calm_with_lag,
+    },
+    Case {
+        name: "cables: with lag 1, troubles most of the time",
+        meets: &[0, 8, 9, 10, 11],
+        run: runs::rough_with_lag,
+    },
+    Case {
+        name: "cables: with lag 1, bytes damaged or changed",
+        meets: &[0, 8, 9, 10, 11],
+        run: runs::tampered_with_lag,
     },
     Case {
         name: "records: any sound record in every state, slots with any bytes",
@@ -87,7 +113,7 @@ const CASES: &[Case] = &[
     },
     Case {
         name: "records: of bytes that no call writes, each of which a refused call leaves",
-        meets: &[0, 1, 2, 3, 4, 5, 9, 10, 11, 14],
+        meets: &[0, 1, 2, 3, 4, 5, 9, 10, 11, 14, 16],
         run: bytes::left_by_refusals,
     },
     Case {
@@ -102,7 +128,7 @@ const CASES: &[Case] = &[
     },
     Case {
         name: "counts: several causes of refusal at once, after each call",
-        meets: &[0, 4, 5, 10, 11, 14],
+        meets: &[0, 4, 5, 10, 11, 14, 16],
         run: counts::order,
     },
     Case {

@@ -1,6 +1,7 @@
 //! What the program `node_runs` takes and gives: commands on one current record and the counts beside it, all numbers
 //! lowest byte first.
 
+use comparison::model::choices::Choices;
 use comparison::model::counts::{Counts, NONE};
 use comparison::model::node::Node;
 use comparison::record_bytes::{push_counts, record_bytes, Reader, RECORD};
@@ -39,20 +40,16 @@ impl Held {
     }
 
     /// "only set-up clears them"
-    fn set_up(&mut self, (n, k, m, own): (u32, u32, u32, u32)) -> Result<Node, u32> {
-        let node = Node::set_up(n, k, m, own)?;
+    fn set_up(&mut self, chosen: Choices, own: u32) -> Result<Node, u32> {
+        let node = Node::set_up(chosen, own)?;
         self.counts = NONE;
         Ok(node)
     }
 }
 
 pub enum Command<'a> {
-    SetUp {
-        n: u32,
-        k: u32,
-        m: u32,
-        own: u32,
-    },
+    /// The choices and the own number.
+    SetUp(Choices, u32),
     Slot(&'a [u8]),
     Send {
         room: u8,
@@ -91,7 +88,7 @@ impl Script {
 
     pub fn load_bytes(&mut self, bytes: [u8; RECORD]) {
         if self.counted {
-            self.push(&Command::SetUp { n: 3, k: 2, m: 0, own: 1 });
+            self.push(&Command::SetUp(Choices::plain(3, 2), 1));
         }
         self.push(&Command::Load(bytes));
     }
@@ -99,7 +96,7 @@ impl Script {
     /// Follows whether a count may be above 0: a job that is reported stands in the last byte heard.
     fn note(&mut self, command: &Command) {
         match *command {
-            Command::SetUp { n, k, m, own } if Node::set_up(n, k, m, own).is_ok() => self.counted = false,
+            Command::SetUp(chosen, own) if Node::set_up(chosen, own).is_ok() => self.counted = false,
             Command::Slot(heard) => self.counted |= heard.last().is_some_and(|&jobs| jobs != 0),
             Command::Count { count, .. } => self.counted |= count != 0,
             _ => {}
@@ -110,9 +107,9 @@ impl Script {
         self.note(command);
         let out = &mut self.bytes;
         match *command {
-            Command::SetUp { n, k, m, own } => {
+            Command::SetUp(Choices { n, k, m, lag }, own) => {
                 out.push(b'U');
-                for number in [n, k, m, own] {
+                for number in [n, k, m, lag, own] {
                     out.extend(number.to_le_bytes());
                 }
             }
@@ -149,7 +146,10 @@ pub fn next_command<'a>(script: &mut Reader<'a>) -> Option<Command<'a>> {
         return None;
     }
     Some(match script.u8() {
-        b'U' => Command::SetUp { n: script.u32(), k: script.u32(), m: script.u32(), own: script.u32() },
+        b'U' => {
+            let chosen = Choices { n: script.u32(), k: script.u32(), m: script.u32(), lag: script.u32() };
+            Command::SetUp(chosen, script.u32())
+        }
         b'S' => {
             let length = script.u8();
             Command::Slot(script.take(usize::from(length)))
@@ -157,7 +157,7 @@ pub fn next_command<'a>(script: &mut Reader<'a>) -> Option<Command<'a>> {
         b'T' => Command::Send { room: script.u8(), jobs: script.u8() },
         b'F' => Command::Off,
         b'R' => Command::Restart,
-        b'L' => Command::Load(script.take(RECORD).try_into().expect("56 bytes")),
+        b'L' => Command::Load(script.take(RECORD).try_into().expect("60 bytes")),
         b'C' => Command::Count { row: script.u8(), job: script.u8(), count: script.u64() },
         b'K' => Command::Counts,
         other => panic!("{other:#04X} is no command"),
@@ -190,7 +190,7 @@ pub fn run_by_model(held: &mut Held, command: &Command, out: &mut Vec<u8>) -> Op
             out.extend_from_slice(lent);
             return Some(number);
         }
-        Command::SetUp { n, k, m, own } => held.set_up((n, k, m, own)),
+        Command::SetUp(chosen, own) => held.set_up(chosen, own),
         Command::Slot(heard) => held.node.counted_slot(&mut held.counts, heard),
         Command::Off => held.node.off(),
         Command::Restart => held.node.restart(),

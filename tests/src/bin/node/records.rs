@@ -5,17 +5,13 @@ use super::protocol::{Command, Script};
 use super::{events, heard};
 use comparison::messages::job_byte;
 use comparison::model::node::{Node, State, CLAUSES};
-use comparison::model::ring;
 use comparison::random::Random;
 use comparison::record_bytes::shown_record;
 use comparison::records::{broken, disturb, sound, BREAKS, STATES};
 use comparison::report::Count;
 
-/// What slots on any sound record must meet, beyond what cables meet. A following or knocking node that has lost its
-/// last mark on a cable has too few members by then, since the repeat takes all but the sender.
+/// What slots on any sound record must meet, beyond what cables meet.
 const BEYOND_CABLES: &[&str] = &[
-    "following: to listening, no mark",
-    "knocking: to listening, no mark",
     "knocking: silent in the own slot",
     "repeat: as many are sponsored",
     "repeat: following",
@@ -28,7 +24,7 @@ const BEYOND_CABLES: &[&str] = &[
 fn slots_on(count: &mut Count, random: &mut Random, script: &mut Script, mut node: Node) {
     script.load(&node);
     for _ in 0..random.within(1, 3) {
-        let bytes = heard::anything(random, (node.k, node.m));
+        let bytes = heard::anything(random, (node.chosen.k, node.chosen.m));
         script.push(&Command::Slot(&bytes));
         if let Ok(next) = node.slot(&bytes) {
             events::slot(count, &node, &next, &bytes);
@@ -39,7 +35,7 @@ fn slots_on(count: &mut Count, random: &mut Random, script: &mut Script, mut nod
         0 => script.push(&Command::Off),
         1 => script.push(&Command::Restart),
         2 => {
-            let (room, jobs) = (random.below(12) as u8, job_byte(random, node.m));
+            let (room, jobs) = (random.below(12) as u8, job_byte(random, node.chosen.m));
             script.push(&Command::Send { room, jobs });
         }
         _ => {}
@@ -59,15 +55,17 @@ pub fn sound_in_every_state(count: &mut Count) -> Result<(), String> {
     }
     let of_slots =
         events::OF_CABLES.iter().filter(|name| !name.starts_with("off") && !name.starts_with("restart"));
+    count.needs(events::OF_CABLES_WITHOUT_LAG)?;
+    count.needs(events::OF_CABLES_WITH_LAG)?;
     count.needs(&of_slots.chain(BEYOND_CABLES).chain(events::OF_OTHER_M).copied().collect::<Vec<_>>())?;
     compare(count, &script)
 }
 
 /// Every call on the record, each time loaded anew, with bytes and rooms right and wrong.
 pub fn every_call(random: &mut Random, script: &mut Script, node: &Node) {
-    let bytes = heard::readable(random, (node.k.clamp(2, 31), node.m.min(8)));
+    let bytes = heard::readable(random, (node.chosen.k.clamp(2, 31), node.chosen.m.min(8)));
     let room = random.below(12) as u8;
-    let jobs = if random.below(4) == 0 { random.byte() } else { job_byte(random, node.m.min(8)) };
+    let jobs = if random.below(4) == 0 { random.byte() } else { job_byte(random, node.chosen.m.min(8)) };
     for call in [
         Command::Slot(&bytes),
         Command::Slot(&[]),
@@ -146,5 +144,5 @@ pub fn wild(count: &mut Count) -> Result<(), String> {
 
 /// The sender of the next slot is this node.
 pub fn own_slot_next(node: &Node) -> bool {
-    ring::sender(node.n, node.slots + 1) == node.own
+    node.next_sender() == node.own
 }

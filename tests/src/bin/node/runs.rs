@@ -5,8 +5,9 @@ use super::cable::{Cable, Fate};
 use super::compare::compare;
 use super::events;
 use super::protocol::Script;
+use comparison::model::choices::Choices;
 use comparison::model::node::State;
-use comparison::model::ring::{members_before, Set};
+use comparison::model::ring::{self, Set};
 use comparison::random::Random;
 use comparison::records::job_count;
 use comparison::report::Count;
@@ -52,7 +53,7 @@ impl Trouble {
     }
 
     fn fate(self, random: &mut Random, cable: &Cable) -> Fate {
-        let all = Set::full(cable.n);
+        let all = Set::full(cable.chosen.n);
         let sender = cable.sender();
         let lost = |lost| Fate { lost, ..Fate::default() };
         let missed_by = |missed_by| Fate { missed_by, ..Fate::default() };
@@ -100,14 +101,14 @@ impl Trouble {
             random.one_of(pair).into_iter().for_each(|x| cable.off(count, x));
         }
         if random.below(48) == 0 {
-            random.one_of(Set::full(cable.n)).into_iter().for_each(|x| cable.off(count, x));
+            random.one_of(Set::full(cable.chosen.n)).into_iter().for_each(|x| cable.off(count, x));
         }
         let out = cable.those(|node| matches!(node.state, State::Out(_)));
         if random.below(12) == 0 {
             random.one_of(out).into_iter().for_each(|x| cable.on(count, x));
         }
         if random.below(48) == 0 {
-            random.one_of(Set::full(cable.n)).into_iter().for_each(|x| cable.on(count, x));
+            random.one_of(Set::full(cable.chosen.n)).into_iter().for_each(|x| cable.on(count, x));
         }
     }
 }
@@ -116,8 +117,7 @@ impl Trouble {
 fn sponsors(cable: &Cable, sender: u32) -> Set {
     let list =
         cable.nodes.iter().find(|node| node.state == State::Member).map_or(Set::EMPTY, |node| node.set);
-    let sponsor =
-        |&x: &u32| members_before(cable.n, list, x).take(cable.k as usize).any(|met| met.member == sender);
+    let sponsor = |&x: &u32| ring::sponsored(cable.chosen, list, x).any(|met| met.member == sender);
     list.nodes().filter(sponsor).fold(Set::EMPTY, Set::with)
 }
 
@@ -130,19 +130,19 @@ pub struct Kind {
 }
 
 /// Runs a cable with any number of jobs.
-fn run(count: &mut Count, random: &mut Random, n: u32, k: u32, kind: &Kind) -> Cable {
+fn run(count: &mut Count, random: &mut Random, (n, k, lag): (u32, u32, u32), kind: &Kind) -> Cable {
     let m = job_count(random);
-    run_on(count, random, Cable::new(n, k, m), kind)
+    run_on(count, random, Cable::new(Choices { n, k, m, lag }), kind)
 }
 
-/// Runs a cable of n, k and m whose counts are asked for after each call.
-pub fn watched(count: &mut Count, random: &mut Random, (n, k, m): (u32, u32, u32), kind: &Kind) -> Cable {
-    run_on(count, random, Cable::watched(n, k, m), kind)
+/// Runs a cable whose counts are asked for after each call.
+pub fn watched(count: &mut Count, random: &mut Random, chosen: Choices, kind: &Kind) -> Cable {
+    run_on(count, random, Cable::watched(chosen), kind)
 }
 
 /// It starts anew some time after its last member has left.
 fn run_on(count: &mut Count, random: &mut Random, mut cable: Cable, kind: &Kind) -> Cable {
-    let n = cable.n;
+    let n = cable.chosen.n;
     let mut trouble = Trouble::Nothing;
     let mut without_member = 0;
     for _ in 0..kind.slots {
@@ -167,40 +167,65 @@ pub fn every_n_and_k(count: &mut Count) -> Result<(), String> {
     let mut random = Random::new(11);
     let mut script = Script::default();
     for n in 3..=32 {
-        for k in 2..n {
-            let kind = Kind { slots: 10 * n, calm: 4 * n, tampered: 0 };
-            run(count, &mut random, n, k, &kind).into_script(&mut script);
+        for (lag, k) in [0, 1].into_iter().flat_map(|lag| (2..n - lag).map(move |k| (lag, k))) {
+            let kind = Kind { slots: 6 * n, calm: 3 * n, tampered: 0 };
+            run(count, &mut random, (n, k, lag), &kind).into_script(&mut script);
         }
     }
     compare(count, &script)
 }
 
-/// Long runs over the sizes given, with any k. All that can happen must happen.
-fn long_runs(count: &mut Count, seed: u64, sizes: &[u32], kind: impl Fn(u32) -> Kind) -> Result<(), String> {
+/// Long runs with this lag over the sizes that have it, with any k. All that can happen must happen.
+fn long_runs(count: &mut Count, seed: u64, lag: u32, kind: impl Fn(u32) -> Kind) -> Result<(), String> {
     let mut random = Random::new(seed);
     let mut script = Script::default();
-    for &n in sizes {
-        for _ in 0..6 {
-            let k = random.within(2, u64::from(n) - 1) as u32;
-            run(count, &mut random, n, k, &kind(n)).into_script(&mut script);
+    for &n in SIZES.iter().filter(|&&n| n > 2 + lag) {
+        for _ in 0..4 {
+            let k = random.within(2, u64::from(n - 1 - lag)) as u32;
+            run(count, &mut random, (n, k, lag), &kind(n)).into_script(&mut script);
         }
     }
     count.needs(events::OF_CABLES)?;
+    count.needs(if lag == 0 { events::OF_CABLES_WITHOUT_LAG } else { events::OF_CABLES_WITH_LAG })?;
     count.needs(events::OF_REPORTS)?;
     compare(count, &script)
 }
 
 const SIZES: &[u32] = &[3, 4, 5, 6, 7, 8, 9, 10, 13, 17, 24, 25, 32];
 
-pub fn calm(count: &mut Count) -> Result<(), String> {
-    long_runs(count, 12, SIZES, |n| Kind { slots: 12_000 / n, calm: 4 * n, tampered: 0 })
+fn calm(count: &mut Count, seed: u64, lag: u32) -> Result<(), String> {
+    long_runs(count, seed, lag, |n| Kind { slots: 12_000 / n, calm: 4 * n, tampered: 0 })
 }
 
-pub fn rough(count: &mut Count) -> Result<(), String> {
-    long_runs(count, 13, SIZES, |n| Kind { slots: 12_000 / n, calm: n / 2 + 1, tampered: 0 })
+fn rough(count: &mut Count, seed: u64, lag: u32) -> Result<(), String> {
+    long_runs(count, seed, lag, |n| Kind { slots: 12_000 / n, calm: n / 2 + 1, tampered: 0 })
 }
 
-pub fn tampered(count: &mut Count) -> Result<(), String> {
-    long_runs(count, 14, SIZES, |n| Kind { slots: 12_000 / n, calm: 4 * n, tampered: 8 })?;
+fn tampered(count: &mut Count, seed: u64, lag: u32) -> Result<(), String> {
+    long_runs(count, seed, lag, |n| Kind { slots: 12_000 / n, calm: 4 * n, tampered: 8 })?;
     count.needs(events::OF_OTHER_M)
+}
+
+pub fn calm_without_lag(count: &mut Count) -> Result<(), String> {
+    calm(count, 12, 0)
+}
+
+pub fn calm_with_lag(count: &mut Count) -> Result<(), String> {
+    calm(count, 15, 1)
+}
+
+pub fn rough_without_lag(count: &mut Count) -> Result<(), String> {
+    rough(count, 13, 0)
+}
+
+pub fn rough_with_lag(count: &mut Count) -> Result<(), String> {
+    rough(count, 16, 1)
+}
+
+pub fn tampered_without_lag(count: &mut Count) -> Result<(), String> {
+    tampered(count, 14, 0)
+}
+
+pub fn tampered_with_lag(count: &mut Count) -> Result<(), String> {
+    tampered(count, 17, 1)
 }

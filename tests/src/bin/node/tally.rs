@@ -5,7 +5,6 @@ use super::protocol::Command;
 use comparison::model::counts::{Counts, NONE};
 use comparison::model::message;
 use comparison::model::node::Node;
-use comparison::model::ring;
 use comparison::record_bytes::{shown_counts, Reader};
 use comparison::report::Count;
 
@@ -54,8 +53,8 @@ impl History {
     /// A slot was run, and these bytes were heard.
     fn hear(&mut self, heard: &[u8]) {
         let Some(before) = self.record else { return };
-        let sender = ring::sender(before.n, before.slots + 1);
-        let readable = message::read(before.k, before.m, heard).is_ok();
+        let sender = before.next_sender();
+        let readable = message::read(before.chosen.k, before.chosen.m, heard).is_ok();
         if let (true, Some(&jobs)) = (readable && sender != before.own, heard.last()) {
             if jobs != 0 && before.set.nodes().any(|x| x == sender) {
                 self.reports.push(Report { sender, jobs });

@@ -1,9 +1,10 @@
 //! Runs of single nodes with literal answers, typed from document 01 and requests e and f; neither side makes an
-//! expected answer. The examples of whole cables are followed on each of their nodes. The cables have no jobs.
+//! expected answer. The examples of whole cables are followed on each of their nodes. The cables have no jobs and no lag.
 
 use super::compare::compare;
 use super::protocol::{Command, Script};
 use comparison::messages::hex;
+use comparison::model::choices::Choices;
 use comparison::model::counts::{Counts, NONE};
 use comparison::model::node::{Cause, ListeningData, Node, State};
 use comparison::model::ring::Set;
@@ -13,7 +14,7 @@ use comparison::report::Count;
 pub type Nodes = &'static [u32];
 pub type Bytes = &'static [u8];
 
-/// A record but for n, k, own number and slot count, which are told by the run.
+/// A record but for the choices, own number and slot count, which are told by the run.
 #[derive(Clone, Copy)]
 pub enum Is {
     /// Set, marks, returning; no yes heard for the own message since the own slot.
@@ -620,7 +621,7 @@ fn nodes(nodes: Nodes) -> Set {
     nodes.iter().fold(Set::EMPTY, |set, &x| set.with(x))
 }
 
-fn record((n, k, own): (u32, u32, u32), m: u32, slots: u64, is: Is) -> Node {
+fn record(chosen: Choices, own: u32, slots: u64, is: Is) -> Node {
     let (mut set, mut marks, mut returning, mut return_heard) = (&[][..], &[][..], 0, false);
     let mut listening = ListeningData::default();
     let state = match is {
@@ -639,7 +640,7 @@ fn record((n, k, own): (u32, u32, u32), m: u32, slots: u64, is: Is) -> Node {
         Out(_) => {}
     }
     let (set, marks, yes_heard) = (nodes(set), nodes(marks), matches!(is, Confirmed(..)));
-    Node { n, k, own, slots, state, set, marks, returning, return_heard, listening, yes_heard, m }
+    Node { chosen, own, slots, state, set, marks, returning, return_heard, listening, yes_heard }
 }
 
 /// The record must be this one.
@@ -690,15 +691,14 @@ fn sending(step: &Step) -> Option<(u8, Result<Bytes, u32>)> {
 }
 
 /// The record before the first step.
-fn start(script: &mut Script, m: u32, run: &Run) -> Result<Node, String> {
+fn start(script: &mut Script, (chosen, own): (Choices, u32), run: &Run) -> Result<Node, String> {
     if let Some((slots, is)) = run.from {
-        let node = record(run.ring, m, slots, is);
+        let node = record(chosen, own, slots, is);
         script.load(&node);
         return Ok(node);
     }
-    let (n, k, own) = run.ring;
-    script.push(&Command::SetUp { n, k, m, own });
-    Node::set_up(n, k, m, own).map_err(|number| format!("{}: refusal {number}", run.what))
+    script.push(&Command::SetUp(chosen, own));
+    Node::set_up(chosen, own).map_err(|number| format!("{}: refusal {number}", run.what))
 }
 
 /// The counts must be these.
@@ -743,9 +743,11 @@ fn stays(
     Ok(true)
 }
 
-/// The model against the document, step by step, on a cable of m jobs; the script is for the program.
-pub fn follow(count: &mut Count, script: &mut Script, m: u32, run: &Run) -> Result<(), String> {
-    let mut node = start(script, m, run)?;
+/// The model against the document, step by step, on a cable of this m and lag; the script is for the program.
+pub fn follow(count: &mut Count, script: &mut Script, (m, lag): (u32, u32), run: &Run) -> Result<(), String> {
+    let (n, k, own) = run.ring;
+    let chosen = Choices { n, k, m, lag };
+    let mut node = start(script, (chosen, own), run)?;
     let mut counts = NONE;
     let mut slots = node.slots;
     for (i, step) in run.steps.iter().enumerate() {
@@ -763,8 +765,7 @@ pub fn follow(count: &mut Count, script: &mut Script, m: u32, run: &Run) -> Resu
             }
             SetUp(is) => {
                 (slots, counts) = (0, NONE);
-                let (n, k, own) = run.ring;
-                (Command::SetUp { n, k, m, own }, Node::set_up(n, k, m, own), Ok(is))
+                (Command::SetUp(chosen, own), Node::set_up(chosen, own), Ok(is))
             }
             Off => (Command::Off, node.off(), Ok(Out(Cause::SwitchedOff))),
             OffRefused(number) => (Command::Off, node.off(), Err(number)),
@@ -774,7 +775,7 @@ pub fn follow(count: &mut Count, script: &mut Script, m: u32, run: &Run) -> Resu
             _ => continue,
         };
         script.push(&command);
-        let expected = expected.map(|is| record(run.ring, m, slots, is));
+        let expected = expected.map(|is| record(chosen, own, slots, is));
         see(count, &what, got, expected)?;
         node = expected.unwrap_or(node);
     }
@@ -784,7 +785,7 @@ pub fn follow(count: &mut Count, script: &mut Script, m: u32, run: &Run) -> Resu
 pub fn single_nodes(count: &mut Count) -> Result<(), String> {
     let mut script = Script::default();
     for run in RUNS {
-        follow(count, &mut script, 0, run)?;
+        follow(count, &mut script, (0, 0), run)?;
     }
     compare(count, &script)
 }

@@ -4,7 +4,7 @@ use super::compare::compare;
 use super::protocol::{Command, BUFFER, PART, PIECE, ROWS};
 use comparison::model::bench;
 use comparison::random::Random;
-use comparison::records::{disturb, job_count};
+use comparison::records::{choices_of, disturb};
 use comparison::report::Count;
 
 fn numbers(random: &mut Random, n: u32) -> Command {
@@ -48,16 +48,15 @@ fn piece(random: &mut Random) -> Vec<u8> {
     piece
 }
 
-/// Tables of every n, most of them with a record that was disturbed or is missing. A table of another m than 0 is one,
-/// too, and no line reports a job.
+/// Tables of every n, most of them with a record that was disturbed or is missing. A table of another m or lag than
+/// 0 is one, too, and no line reports a job.
 pub fn plans(count: &mut Count) -> Result<(), String> {
     let mut random = Random::new(79);
     let mut commands = Vec::new();
     for i in 0..3_000 {
         let n = 3 + i % 30;
-        let k = random.within(2, u64::from(n) - 1) as u32;
-        let m = job_count(&mut random);
-        let table = bench::set_up(n, k, m, n as usize).expect("n, k and m are in range");
+        let chosen = choices_of(&mut random, n);
+        let table = bench::set_up(chosen, n as usize).expect("the choices are in range");
         commands.push(Command::New);
         for (row, node) in (0..).zip(&table) {
             commands.push(Command::Load(row, *node));

@@ -39,7 +39,7 @@ pub fn any_k(random: &mut Random, n: u32) -> u32 {
 
 /// Two plans in five end with a line that is refused, and lines after it.
 fn end(random: &mut Random, plan: &mut Plan) {
-    let n = plan.nodes[0].n;
+    let n = plan.nodes[0].chosen.n;
     let line = match random.below(20) {
         0 => format!("off {}", wrong_node(random, n)),
         1 => format!("on {}", wrong_node(random, n)),

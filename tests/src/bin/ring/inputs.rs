@@ -1,6 +1,12 @@
-//! The sets that are tried.
+//! The sets and rings that are tried.
 
+use comparison::model::choices::Choices;
 use comparison::random::Random;
+
+/// A ring of n nodes, where k and the lag do not matter.
+pub fn ring_of(n: u32) -> Choices {
+    Choices::plain(n, 2)
+}
 
 /// All 512 sets of the nodes 1 to 9.
 pub fn small_sets() -> impl Iterator<Item = u32> {

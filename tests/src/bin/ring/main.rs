@@ -17,8 +17,8 @@ const CASES: &[Case] = &[
         run: vectors::senders,
     },
     Case {
-        name: "vectors: members sponsored and decided, slots back, by document 01 and request b, model and library",
-        meets: &[0, 1, 2, 3],
+        name: "vectors: members sponsored and decided, slots back, by document 01 and requests b and j, model and library",
+        meets: &[0, 1, 2, 3, 16],
         run: vectors::walks,
     },
     Case {
@@ -29,7 +29,7 @@ const CASES: &[Case] = &[
     Case { name: "sets: each of these and a chosen one, with any n", meets: &[], run: sets::two_sets },
     Case { name: "sets: random ones", meets: &[], run: sets::random },
     Case {
-        name: "ranges and ks: numbers 0 to 40 and large ones, each with each",
+        name: "ranges and ks: numbers 0 to 40 and large ones, each with each, lags that are one and that are not",
         meets: &[],
         run: slots::ranges,
     },
@@ -39,21 +39,21 @@ const CASES: &[Case] = &[
         run: slots::senders,
     },
     Case {
-        name: "walks: n from 0 to 8, all sets of 1 to 9; nodes, k and j from 0 to n + 1",
-        meets: &[0, 1, 2, 3],
+        name: "walks: n from 0 to 8, all sets of 1 to 9; nodes, k and j from 0 to n + 1, both lags and none",
+        meets: &[0, 1, 2, 3, 16],
         run: walks::small_rings,
     },
     Case {
-        name: "walks: n from 31 to 33, chosen sets; nodes, k and j from 0 to n + 1",
-        meets: &[0, 1, 2, 3],
+        name: "walks: n from 31 to 33, chosen sets; nodes, k and j from 0 to n + 1, both lags and none",
+        meets: &[0, 1, 2, 3, 16],
         run: walks::large_rings,
     },
     Case {
-        name: "walks: n from 3 to 32, random sets; nodes, k and j from 0 to n + 1",
-        meets: &[0, 2, 3],
+        name: "walks: n from 3 to 32, random sets; nodes, k and j from 0 to n + 1, both lags and none",
+        meets: &[0, 2, 3, 16],
         run: walks::all_rings,
     },
-    Case { name: "walks: random calls, some with large numbers", meets: &[0, 1, 2, 3], run: walks::random },
+    Case { name: "walks: random calls, some with large numbers", meets: &[0, 1, 2, 3, 16], run: walks::random },
 ];
 
 fn main() -> ExitCode {

@@ -1,9 +1,11 @@
 //! The sender of a slot, and the functions on numbers alone.
 
+use super::inputs::ring_of;
 use comparison::library;
+use comparison::model::choices::Choices;
 use comparison::model::refusal;
 use comparison::model::ring::{self, LIMIT};
-use comparison::numbers::small_and_large;
+use comparison::numbers::{no_lags, small_and_large};
 use comparison::random::Random;
 use comparison::report::Count;
 
@@ -18,7 +20,7 @@ fn sender(count: &mut Count, n: u32, done: u64, x: u32) -> Result<(), String> {
     })?;
     match (expected, done.checked_add(1)) {
         (Ok(x), Some(slot)) => {
-            let by_model = ring::sender(n, slot);
+            let by_model = ring::sender(ring_of(n), slot);
             count.check(by_model == x, || {
                 format!("sender n = {n}, slot {slot}: model {by_model}, expected {x}")
             })
@@ -64,17 +66,23 @@ pub fn senders(count: &mut Count) -> Result<(), String> {
     Ok(())
 }
 
-/// Two numbers: as n and a node, as n and k, as k and a count of members.
-fn pair(count: &mut Count, a: u32, b: u32) -> Result<(), String> {
-    let truths = [
-        ("is_node_number", library::ring_is_node_number(a, b), ring::is_node(a, b)),
-        ("is_sponsor_count", library::ring_is_sponsor_count(a, b), ring::is_sponsor_count(a, b)),
-    ];
-    for (name, got, expected) in truths {
-        count.check(got == expected, || format!("{name} {a}, {b}: library {got}, model {expected}"))?;
-    }
-    let (got, expected) = (library::ring_ks(3, a, b), ring::ks(a, b));
-    count.check(got == expected, || format!("ks k = {a}, {b} members: library {got}, model {expected}"))
+/// Two numbers and a lag: as n and k, as k and a count of members.
+fn pair(count: &mut Count, a: u32, b: u32, lag: u32) -> Result<(), String> {
+    let (got, expected) = (library::ring_is_sponsor_count(a, b, lag), ring::is_sponsor_count(a, b, lag));
+    count.event(if expected { "sponsor count: yes" } else { "sponsor count: no" });
+    count.check(got == expected, || {
+        format!("is_sponsor_count {a}, {b}, lag {lag}: library {got}, model {expected}")
+    })?;
+    let expected = ring::ks(Choices { n: 3, k: a, m: 0, lag }, b);
+    let got = library::ring_ks(3, a, lag, b);
+    count.check(got == expected, || {
+        format!("ks k = {a}, lag {lag}, {b} members: library {got}, model {expected}")
+    })
+}
+
+/// Both lags, and numbers that are none: "the smaller of k and c - 1" less the lag, 0 where that would be negative.
+fn lags() -> impl Iterator<Item = u32> {
+    [0, 1].into_iter().chain(no_lags())
 }
 
 pub fn ranges(count: &mut Count) -> Result<(), String> {
@@ -82,8 +90,14 @@ pub fn ranges(count: &mut Count) -> Result<(), String> {
         let (got, expected) = (library::ring_is_ring_size(a), ring::is_size(a));
         count.check(got == expected, || format!("is_ring_size {a}: library {got}, model {expected}"))?;
         for b in small_and_large() {
-            pair(count, a, b)?;
+            let (got, expected) = (library::ring_is_node_number(a, b), ring::is_node(a, b));
+            count.check(got == expected, || {
+                format!("is_node_number {a}, {b}: library {got}, model {expected}")
+            })?;
+            for lag in lags() {
+                pair(count, a, b, lag)?;
+            }
         }
     }
-    Ok(())
+    count.needs(&["sponsor count: yes", "sponsor count: no"])
 }

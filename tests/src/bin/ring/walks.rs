@@ -1,8 +1,9 @@
 //! The walk back: the members before a node, sponsored and decided, and how many slots back each speaks.
 
 use super::answers::{found, Expected};
-use super::inputs::{chosen_sets, small_sets};
+use super::inputs::{chosen_sets, ring_of, small_sets};
 use comparison::library::{self, Found};
+use comparison::model::choices::Choices;
 use comparison::model::ring::{self, Met, Set};
 use comparison::model::roll::Roll;
 use comparison::numbers::small_and_large;
@@ -23,7 +24,7 @@ impl Walk {
     /// speak from there on, it the first.
     fn meets(self, met: Met) -> bool {
         let slot = u64::from(self.n + self.x);
-        let speaker = |back: u32| ring::sender(self.n, slot - u64::from(back));
+        let speaker = |back: u32| ring::sender(ring_of(self.n), slot - u64::from(back));
         let set = Roll::of(self.set);
         (1..self.n).contains(&met.back)
             && speaker(met.back) == met.member
@@ -70,47 +71,60 @@ fn jth(mut members: impl Iterator<Item = Met>, j: u32) -> Option<Met> {
 }
 
 fn before(count: &mut Count, n: u32, set: u32, x: u32, j: u32) -> Result<(), String> {
-    let expected = ring::check(n, None, x).map(|()| jth(ring::members_before(n, Set(set), x), j));
+    let checked = ring::check_size(n).and_then(|()| ring::check_node(n, x));
+    let expected = checked.map(|()| jth(ring::members_before(ring_of(n), Set(set), x), j));
     same(count, Walk { n, set, x, j }, expected, library::before(n, set, x, j), || {
         format!("before n = {n}, set = {set:#X}, node {x}, j = {j}")
     })
 }
 
 /// Numbers above n in the set are no members.
-fn sponsored(count: &mut Count, n: u32, k: u32, set: u32, x: u32, j: u32) -> Result<(), String> {
+fn sponsored(count: &mut Count, chosen: Choices, set: u32, x: u32, j: u32) -> Result<(), String> {
+    let Choices { n, k, lag, .. } = chosen;
     let members = Set(set).up_to(n);
-    let expected = ring::check(n, Some(k), x).map(|()| jth(ring::sponsored(n, k, members, x), j));
-    same(count, Walk { n, set, x, j }, expected, library::sponsored(n, k, set, x, j), || {
-        format!("sponsored n = {n}, k = {k}, set = {set:#X}, node {x}, j = {j}")
+    let expected = checked(chosen, x).map(|()| jth(ring::sponsored(chosen, members, x), j));
+    let walk = Walk { n, set, x, j: j.saturating_add(lag) };
+    same(count, walk, expected, library::sponsored(chosen, set, x, j), || {
+        format!("sponsored n = {n}, k = {k}, lag {lag}, set = {set:#X}, node {x}, j = {j}")
     })
 }
 
-/// The ks-th member before it.
-fn decided(count: &mut Count, n: u32, k: u32, set: u32, x: u32) -> Result<(), String> {
+/// The (ks + lag)-th member before it.
+fn decided(count: &mut Count, chosen: Choices, set: u32, x: u32) -> Result<(), String> {
+    let Choices { n, k, lag, .. } = chosen;
     let members = Set(set).up_to(n);
-    let expected = ring::check(n, Some(k), x).map(|()| ring::decided(n, k, members, x));
-    let j = ring::ks(k, Roll::of(set).up_to(n).count());
-    same(count, Walk { n, set, x, j }, expected, library::decided(n, k, set, x), || {
-        format!("decided n = {n}, k = {k}, set = {set:#X}, node {x}")
+    let expected = checked(chosen, x).map(|()| ring::decided(chosen, members, x));
+    let j = ring::ks(chosen, Roll::of(set).up_to(n).count()).saturating_add(lag);
+    same(count, Walk { n, set, x, j }, expected, library::decided(chosen, set, x), || {
+        format!("decided n = {n}, k = {k}, lag {lag}, set = {set:#X}, node {x}")
     })
 }
 
-/// One node, with each k and j to n + 1.
+/// 1, 16, 2, 3, in this order.
+fn checked(chosen: Choices, x: u32) -> Result<(), u32> {
+    chosen.check_ring().and_then(|()| ring::check_node(chosen.n, x))
+}
+
+/// One node, with each lag, two that are none, and each k and j to n + 1.
 fn node(count: &mut Count, n: u32, set: u32, x: u32) -> Result<(), String> {
     for j in 0..=n + 1 {
         before(count, n, set, x, j)?;
     }
     for k in 0..=n + 1 {
-        decided(count, n, k, set, x)?;
-        for j in 0..=n + 1 {
-            sponsored(count, n, k, set, x, j)?;
+        for lag in [0, 1, 2, u32::MAX] {
+            let chosen = Choices { n, k, m: 0, lag };
+            decided(count, chosen, set, x)?;
+            // A lag that is none is refused whatever j.
+            for j in 0..=if lag > 1 { 1 } else { n + 1 } {
+                sponsored(count, chosen, set, x, j)?;
+            }
         }
     }
     Ok(())
 }
 
 /// One set, with each node to n + 1.
-fn ring_of(count: &mut Count, n: u32, set: u32) -> Result<(), String> {
+fn every_node(count: &mut Count, n: u32, set: u32) -> Result<(), String> {
     for x in 0..=n + 1 {
         node(count, n, set, x)?;
     }
@@ -126,7 +140,7 @@ fn all_found(count: &Count) -> Result<(), String> {
 pub fn small_rings(count: &mut Count) -> Result<(), String> {
     for n in 0..=8 {
         for set in small_sets() {
-            ring_of(count, n, set)?;
+            every_node(count, n, set)?;
         }
     }
     all_found(count)
@@ -135,7 +149,7 @@ pub fn small_rings(count: &mut Count) -> Result<(), String> {
 pub fn large_rings(count: &mut Count) -> Result<(), String> {
     for n in 31..=33 {
         for set in chosen_sets() {
-            ring_of(count, n, set)?;
+            every_node(count, n, set)?;
         }
     }
     all_found(count)
@@ -149,7 +163,7 @@ pub fn all_rings(count: &mut Count) -> Result<(), String> {
             let any = Set(random.number() as u32);
             let half = random.some_of(any.up_to(n));
             for set in [any, any.up_to(n), half] {
-                ring_of(count, n, set.0)?;
+                every_node(count, n, set.0)?;
             }
         }
     }
@@ -171,13 +185,16 @@ pub fn random(count: &mut Count) -> Result<(), String> {
     for _ in 0..1_000_000 {
         let n = number(&mut random, 32, &numbers);
         let k = number(&mut random, n, &numbers);
+        let lag =
+            if random.below(8) == 0 { number(&mut random, n, &numbers) } else { random.below(2) as u32 };
+        let chosen = Choices { n, k, m: 0, lag };
         let x = number(&mut random, n, &numbers);
         let j = number(&mut random, n, &numbers);
         let any = random.number() as u32;
         let set = if random.bit() { any } else { any & random.number() as u32 };
         before(count, n, set, x, j)?;
-        sponsored(count, n, k, set, x, j)?;
-        decided(count, n, k, set, x)?;
+        sponsored(count, chosen, set, x, j)?;
+        decided(count, chosen, set, x)?;
     }
     all_found(count)
 }

@@ -1,0 +1,28 @@
+-- Without lag demand 3 is the one of document 01 (specs/Plain). Assumes nothing.
+use Prim.Native.Nat.{ℕ, _+_, _-_}
+use mathlib.Core.Path.{refl, ap}
+use mathlib.Core.Bool.{cond, _&&_}
+use native.Mathlib.Nat.{add-zero}
+use lib.Dec.{eqb, leb}
+use borrow.Author.Tests.{le-leb}
+use Rattle.nodeset.proofs.Tests.{all}
+use Rattle.ring.specs.declared.Found.the-variants.{Nobody}
+use Rattle.ring.specs.Ring.{sender, memberBefore, sponsors, sponsored}
+use Rattle.ring.proofs.Ranges.{fits-by}
+use Rattle.bench.specs.Table.{slotsOf, speaker}
+use Rattle.bench.specs.Runs.{isSlot, listOf, tableAfter}
+use Rattle.agreement.specs.Demand.{memberAfter, KeepsListOn, isDeciding, EverySequence}
+use Rattle.agreement.specs.Plain.{plain, Plain, Demand3Plain}
+use Rattle.agreement.proofs.Demanded.{demand3}
+
+pub demand3-plain : Demand3Plain
+unfolding sponsored KeepsListOn isDeciding EverySequence
+demand3-plain n k m = record {
+  ks-is = λ c. refl;
+  sponsored-is = λ set x j. ap (λ (i : ℕ). cond (leb 1 j && leb j (sponsors (plain n k m) set)) (memberBefore n set x i) Nobody) (add-zero j);
+  keeps-is = λ run c cs. refl;
+  deciding-is = λ start s c cs.
+      ap (λ (j : ℕ). isSlot c (tableAfter start cs) && (leb s (slotsOf (tableAfter start cs)) && eqb (memberAfter n (listOf (tableAfter start cs)) (sender n s) j) (speaker (tableAfter start cs)))) (add-zero k);
+  demand = λ ring low high jobs.
+      demand3 (plain n k m) (fits-by (plain n k m) (record { ring = ring; lag = refl; sponsors = all (le-leb 2 k low) (le-leb k (n - 1) high); jobs = jobs }));
+}
