@@ -15,6 +15,8 @@ mod c {
             ptr: *mut u8,
             len: usize,
         ) -> u64;
+        pub unsafe fn message_read_two(k: u32, ptr: *const u8, len: usize) -> u64;
+        pub unsafe fn message_write_two(k: u32, acks: u32, ret: bool, ptr: *mut u8, len: usize) -> u64;
         pub unsafe fn message_to_three(
             k: u32,
             ptr: *const u8,
@@ -76,6 +78,10 @@ fn value(answer: u64) -> Result<u64, u64> {
 pub fn read(k: u32, m: u32, bytes: &[u8]) -> Result<Said, u64> {
     // SAFETY: the pointer and the length are those of one slice, which is only read.
     let answer = unsafe { c::message_read(k, m, bytes.as_ptr(), bytes.len()) };
+    said(answer)
+}
+
+fn said(answer: u64) -> Result<Said, u64> {
     below(41, answer).map(|v| Said { acks: v as u32, return_bit: v >> 32 & 1 == 1, jobs: (v >> 33) as u8 })
 }
 
@@ -84,6 +90,20 @@ pub fn write(k: u32, m: u32, said: Said, out: &mut [u8]) -> Result<u64, u64> {
     let Said { acks, return_bit, jobs } = said;
     // SAFETY: the pointer and the length are those of one slice, lent for the call alone.
     let answer = unsafe { c::message_write(k, m, acks, return_bit, jobs, out.as_mut_ptr(), out.len()) };
+    value(answer)
+}
+
+/// What a message in two sections says, with no job, or the number of the refusal.
+pub fn read_two(k: u32, bytes: &[u8]) -> Result<Said, u64> {
+    // SAFETY: as for `read`.
+    let answer = unsafe { c::message_read_two(k, bytes.as_ptr(), bytes.len()) };
+    said(answer)
+}
+
+/// A message in two sections: the number of bytes written, or the number of the refusal.
+pub fn write_two(k: u32, acks: u32, return_bit: bool, out: &mut [u8]) -> Result<u64, u64> {
+    // SAFETY: as for `write`.
+    let answer = unsafe { c::message_write_two(k, acks, return_bit, out.as_mut_ptr(), out.len()) };
     value(answer)
 }
 

@@ -1,6 +1,6 @@
 -- Nothing differs from the rule before (specs/Repeated): up to each slot the two runs have the same tables, so that the invariant holds of them; with k + 1 members and the lag
 -- on the list as the slot begins and as it ends, nobody leaves in it but the member that is decided first. Assumes nothing.
-use Prim.Native.Nat.{ℕ, suc, _+_, _-_, _≤_, _<_}
+use Prim.Native.Nat.{ℕ, suc, _+_, _≤_, _<_}
 use mathlib.Core.Path.{_≡_, refl, sym, ap, _∙_, subst}
 use mathlib.Core.Logic.{inl, inr}
 use mathlib.Core.Bool.{Bool, true, cond, _&&_}

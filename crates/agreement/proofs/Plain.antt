@@ -1,5 +1,5 @@
 -- Without lag demand 3 is the one of document 01 (specs/Plain). Assumes nothing.
-use Prim.Native.Nat.{ℕ, _+_, _-_}
+use Prim.Native.Nat.{ℕ, _-_}
 use mathlib.Core.Path.{refl, ap}
 use mathlib.Core.Bool.{cond, _&&_}
 use native.Mathlib.Nat.{add-zero}
@@ -12,7 +12,7 @@ use Rattle.ring.proofs.Ranges.{fits-by}
 use Rattle.bench.specs.Table.{slotsOf, speaker}
 use Rattle.bench.specs.Runs.{isSlot, listOf, tableAfter}
 use Rattle.agreement.specs.Demand.{memberAfter, KeepsListOn, isDeciding, EverySequence}
-use Rattle.agreement.specs.Plain.{plain, Plain, Demand3Plain}
+use Rattle.agreement.specs.Plain.{plain, Demand3Plain}
 use Rattle.agreement.proofs.Demanded.{demand3}
 
 pub demand3-plain : Demand3Plain

@@ -1,4 +1,4 @@
--- Request j: "The agreement is to be shown once for both lags." Of a cable without lag it is the demand of document 01, whose words each definition then has that request j changed.
+-- Request j: "The agreement is to be shown once for both lags." Of a cable without lag it is the demand of document 01, whose words each definition of it then has that request j changed.
 use Prim.Native.Nat.{ℕ, _+_, _-_, _≤_, min}
 use mathlib.Core.Path.{_≡_}
 use mathlib.Core.Bool.{true, cond, _&&_}

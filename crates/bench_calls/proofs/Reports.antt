@@ -1,6 +1,6 @@
 -- What `carry_out` notes (bench_walks' specs/Orders), put in order, is what bench's specs/Pairs asks of a slot: the pairs of the nodes that left, then all others, and the bytes after them as
 -- they were; and no other call tells pairs. Assumes nothing.
-use Prim.Native.Nat.{ℕ, zero, suc, _+_, _-_, _*_, _<_, _≤_, min}
+use Prim.Native.Nat.{ℕ, zero, suc, _+_, _*_, _<_, _≤_, min}
 use mathlib.Core.Path.{_≡_, refl, sym, ap, ap₂, subst, _∙_}
 use mathlib.Core.Bool.{Bool, true, false, cond, not, _&&_}
 use mathlib.Core.List.{List, [], _∷_, _++_, append-assoc, append-nil}

@@ -1,7 +1,7 @@
 -- The walk of a function that folds another over the first records of a lent `&[Node]`: `look_over` and `look_through`. Their MIR is `folding`, but for the functions that begin what is gathered and that take a
 -- record in, of which only the contracts are known. The slice is looked into once, before the loop, and shut once, after it. What is gathered from the first i records is the fold over them (`Partly.antt`). Assumes `Given`.
 use mathlib.Core.Path.{_≡_, refl, ap, _∙_}
-use Prim.Native.Nat.{ℕ, _<_, _^_, _+_, _-_, min}
+use Prim.Native.Nat.{ℕ, _<_, _^_, _+_, min}
 use native.Mathlib.Omega.{arith}
 use mathlib.Core.List.{[], _∷_, List}
 use lib.ListN.{length, getD, take}

@@ -31,7 +31,7 @@ write-short k m a b j out =
     short-if (ltb a (2 ^ k) && jobsWithin m j) 8 out _ (λ _.
     short-if (leb (lengthOf k) (length out)) 9 out _ (λ _. omega (arith, in-range k r .1)))))
 
-write-two-short : (k a : ℕ) (b : Bool) (out : List ℕ) → Short (writeTwoOf k a b out .0)
+pub write-two-short : (k a : ℕ) (b : Bool) (out : List ℕ) → Short (writeTwoOf k a b out .0)
 unfolding writeTwoOf
 write-two-short k a b out =
     short-if (inRange k) 2 out _ (λ r.

@@ -4,6 +4,7 @@ use message::Reading;
 use message::Written;
 ghost use mathlib.Core.Path.{_≡_};
 ghost use Rattle.message.specs.Message.{readOf, writeOf};
+ghost use Rattle.message.specs.TwoSections.{readTwoOf, writeTwoOf};
 ghost use Rattle.converter.specs.Converter.{toThreeOf, toTwoOf};
 ghost use Rattle.message_c.specs.Numbers.{Short, outcomeNumber, readingNumber, receivedNumber, writtenNumber};
 
@@ -61,6 +62,30 @@ pub extern "C" fn message_write(
     ensures { λ r. ⌜ (r, now (out .exit)) ≡ outcomeNumber (writeOf k m acknowledgements «return_bit» jobs (now (out .entry))) ⌝ }
 {
     let written = message::write(k, m, acknowledgements, return_bit, jobs, out);
+    written_number(written)
+}
+
+// Reads a message of two sections for k. The answer is as that of `message_read`, with no job.
+#[no_mangle]
+pub extern "C" fn message_read_two(k: u32, bytes: &[u8]) -> u64
+    ensures { λ r. ⌜ r ≡ receivedNumber (readTwoOf k (now (bytes .entry))) ⌝ }
+{
+    let received = message::read_two(k, bytes);
+    let reading = received.reading;
+    reading_number(reading, received.jobs)
+}
+
+// Writes a message of two sections for k to the start of out. The answer is as that of `message_write`.
+#[no_mangle]
+pub extern "C" fn message_write_two(
+    k: u32,
+    acknowledgements: u32,
+    return_bit: bool,
+    out: &mut [u8],
+) -> u64
+    ensures { λ r. ⌜ (r, now (out .exit)) ≡ outcomeNumber (writeTwoOf k acknowledgements «return_bit» (now (out .entry))) ⌝ }
+{
+    let written = message::write_two(k, acknowledgements, return_bit, out);
     written_number(written)
 }
 

@@ -12,7 +12,7 @@ use Rattle.node_record.specs.States.{isMember, isFollowing}
 abbrev pub sends : Node → Bool
 sends v = isMember (v .state) || (isFollowing (v .state) && eqb (v .returning) 0)
 
--- "bits taken from the marks before the slot", "bit 1 concerns the nearest member before the sender": the first j of them, as a set of numbers.
+-- "bits taken from the marks before the slot", "bit 1 concerns the nearest member before the sender", with lag 1 "the second member back" (document 02, j): the first j of them, as a set of numbers.
 unfoldable pub markBits : ℕ → Node → ℕ
 markBits zero v = 0
 markBits (suc j) v = withIf (has (v .present) (memberIn (sponsoredIn (v .own) (suc j) v))) (markBits j v) (suc j)

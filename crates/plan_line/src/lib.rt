@@ -4,7 +4,7 @@ use refusal::Refusal;
 ghost use mathlib.Core.Path.{_≡_};
 ghost use mathlib.Core.Bool.{true, false, _&&_};
 ghost use Prim.Native.Nat.{_+_, min};
-ghost use lib.ListN.{length, drop};
+ghost use lib.ListN.{drop};
 ghost use lib.Dec.{leb};
 ghost use Rattle.plan_line.specs.Words.{allDigits, begins, gap, isNumber, leadingZero, leastAfter, same, valueOf};
 ghost use Rattle.plan_line.specs.Plan.{inRing, missedWith, missedLine, missingOf, namedOf, numbersOf, offLine, onLine, openingOf, lineOf, ringOf, wordOf};

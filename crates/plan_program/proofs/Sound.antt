@@ -1,6 +1,6 @@
 -- What a line does to the table: line one sets a sound one up, each later line makes its call on it and leaves it sound. So `feed` refuses by 4 no plan that it
 -- made. Assumes nothing.
-use Prim.Native.Nat.{ℕ, _+_, _-_, _≤_}
+use Prim.Native.Nat.{ℕ, _+_, _≤_}
 use mathlib.Core.Path.{_≡_, refl, sym, ap, _∙_}
 use mathlib.Core.Bool.{Bool, true, false, cond, false≢true}
 use mathlib.Core.List.{List, [], _∷_, _++_, append-nil}

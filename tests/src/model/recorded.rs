@@ -75,6 +75,20 @@ fn put(result: &[u8], out: &mut [u8]) -> Result<usize, u32> {
     Ok(result.len())
 }
 
+/// A message in two sections, "spare bits are 0": the number of bytes written, or the number of the refusal.
+pub fn write(k: u32, acks: u32, return_bit: bool, out: &mut [u8]) -> Result<usize, u32> {
+    message::check_k(k)?;
+    if acks >> k != 0 {
+        return Err(refusal::SPARE);
+    }
+    let mut bytes = vec![k as u8];
+    for first in (0..k).step_by(8) {
+        bytes.push((acks >> first) as u8);
+    }
+    bytes.extend([1, u8::from(return_bit)]);
+    put(&bytes, out)
+}
+
 /// "brings a message to the three-section form with no jobs": "00 00 added". The number of bytes written, or the number
 /// of the refusal.
 pub fn to_three(k: u32, bytes: &[u8], out: &mut [u8]) -> Result<usize, u32> {

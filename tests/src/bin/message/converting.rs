@@ -6,7 +6,7 @@ use comparison::model::{message, recorded};
 use comparison::random::Random;
 use comparison::report::Count;
 
-/// One of the two calls.
+/// A call that takes bytes and gives bytes.
 pub struct Call {
     name: &'static str,
     model: fn(u32, &[u8], &mut [u8]) -> Result<usize, u32>,
@@ -36,6 +36,20 @@ pub const TO_TWO: Call = Call {
     added: &[0, 0],
     answers: &[2, 6, 7, 8, 15, 9, 0],
 };
+
+/// The writer of two sections, as a call that takes the acknowledgements' four bytes and the return bit's.
+pub const WRITE_TWO: Call = Call {
+    name: "write two",
+    model: |k, bytes, out| recorded::write(k, acks(bytes), bytes[4] == 1, out),
+    library: |k, bytes, out| library::write_two(k, acks(bytes), bytes[4] == 1, out),
+    lengths: [|_| 5, recorded::length],
+    added: &[],
+    answers: &[2, 8, 9, 0],
+};
+
+fn acks(bytes: &[u8]) -> u32 {
+    u32::from_le_bytes([bytes[0], bytes[1], bytes[2], bytes[3]])
+}
 
 impl Call {
     pub fn takes(&self, k: u32) -> usize {

@@ -8,6 +8,7 @@ mod converter_vectors;
 mod converting;
 mod reader;
 mod round_trips;
+mod two_sections;
 mod vectors;
 mod writer;
 
@@ -95,6 +96,21 @@ const CASES: &[Case] = &[
         name: "round trips: what the library reads it writes back, byte for byte",
         meets: &[0],
         run: round_trips::read_then_written,
+    },
+    Case {
+        name: "two sections read: every k from 0 to 40 and large ones, each byte changed to every value",
+        meets: &[0, 2, 6, 7, 8],
+        run: two_sections::read_near,
+    },
+    Case {
+        name: "two sections read: random messages, damaged and of another k",
+        meets: &[0, 2, 6, 7, 8],
+        run: two_sections::read_random,
+    },
+    Case {
+        name: "two sections written: every k from 0 to 40 and large ones, every number of lent bytes",
+        meets: &[0, 2, 8, 9],
+        run: two_sections::written,
     },
     Case {
         name: "vectors: recorded messages of document 01 brought to three sections, model and library",
