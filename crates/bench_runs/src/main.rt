@@ -37,6 +37,7 @@ use ring::Cable;
 use run_io::block;
 use run_io::block::Block;
 use run_io::input;
+use run_io::input::Head;
 use run_io::input::Unread;
 use run_io::output;
 
@@ -49,13 +50,6 @@ struct Held {
     entries: usize,
     arrays: usize,
     held: usize,
-}
-
-// A command: its letter and the byte after it.
-struct Head {
-    letter: u8,
-    byte: u8,
-    left: Unread,
 }
 
 fn is_command(letter: u8) -> bool {
@@ -80,20 +74,10 @@ fn body(letter: u8) -> u8 {
     }
 }
 
-// A whole command; its further bytes go into the start of `block`. At the end of the input the letter is
-// read as 0.
+// A whole command; its further bytes go into the start of `block`.
 fn read(input: &mut [u8; 4096], left: Unread, block: &mut Block) -> Head {
-    let first = input::next(input, left);
-    let letter = first.byte;
-    let left = first.left;
-    let second = input::next(input, left);
-    let left = second.left;
-    let left = input::fill(input, left, block, body(letter));
-    Head {
-        letter: letter,
-        byte: second.byte,
-        left: left,
-    }
+    let head = input::read_head(input, left);
+    input::fill_after(input, head, block, body(head.letter))
 }
 
 fn cable_of(block: &Block) -> Cable {

@@ -12,11 +12,9 @@
 //
 // `room` (four bytes) is the length of the lent buffer, 20,480 at the most, each byte of it 0xA5. A call
 // is answered by a byte, 0 or the refusal's number; by the count of bytes (four); by the whole buffer; by
-// over (a byte), lines and n of the plan; by its 32 rows; by the part's length (a byte, 122 where it is
-// more than 121) and the 121 bytes that it holds.
+// over (a byte), lines and n of the plan; by its 32 rows; by the part's length (eight bytes) and its 121
+// bytes.
 // Any other letter ends the run.
-mod answers;
-
 use bench::Outcome;
 use node_bytes::bytes;
 use node_bytes::rows;
@@ -27,6 +25,7 @@ use plan_text::Written;
 use run_io::block;
 use run_io::block::Block;
 use run_io::input;
+use run_io::input::Head;
 use run_io::input::Unread;
 use run_io::output;
 
@@ -37,23 +36,11 @@ struct Held {
     held: usize,
 }
 
-// A command: its letter and the byte after it.
-struct Head {
-    letter: u8,
-    byte: u8,
-    left: Unread,
-}
-
 fn is_command(letter: u8) -> bool {
     match letter {
         b'N' | b'P' | b'L' | b'T' | b'F' | b'E' | b'A' => true,
         _ => false,
     }
-}
-
-// So many bytes after the room; no block holds more than 250.
-fn with_room(length: u8) -> u8 {
-    if length < 250 { length + 4 } else { 254 }
 }
 
 // How many bytes follow the letter and the byte after it.
@@ -62,27 +49,16 @@ fn body(letter: u8, byte: u8) -> u8 {
         b'P' => 12,
         b'L' => bytes::RECORD,
         b'T' => 121,
-        b'F' | b'A' => with_room(byte),
+        b'F' | b'A' => text_bytes::piece_end(byte),
         b'E' => 4,
         _ => 0,
     }
 }
 
-// A whole command; its further bytes go into the start of `block`. At the end of the input the letter is
-// read as 0.
+// A whole command; its further bytes go into the start of `block`.
 fn read(input: &mut [u8; 4096], left: Unread, block: &mut Block) -> Head {
-    let first = input::next(input, left);
-    let letter = first.byte;
-    let left = first.left;
-    let second = input::next(input, left);
-    let byte = second.byte;
-    let left = second.left;
-    let left = input::fill(input, left, block, body(letter, byte));
-    Head {
-        letter: letter,
-        byte: byte,
-        left: left,
-    }
+    let head = input::read_head(input, left);
+    input::fill_after(input, head, block, body(head.letter, head.byte))
 }
 
 fn with_row(plan: Plan, row: usize, node: Node) -> Plan {
@@ -110,15 +86,9 @@ fn with_numbers(plan: Plan, over: u8, block: &Block) -> Plan {
 }
 
 fn part_of(length: u8, block: &Block) -> Part {
-    let mut text = [0u8; 121];
-    let mut i = 0;
-    while i < 121 {
-        text[i] = block[i];
-        i += 1;
-    }
     Part {
         length: length as usize,
-        text: text,
+        text: text_bytes::text_at(block, 0),
     }
 }
 
@@ -234,6 +204,18 @@ fn run_room(
     }
 }
 
+fn put_plan(output: &mut [u8; 4096], held: usize, plan: Plan) -> usize {
+    let mut answer = [0u8; 255];
+    if plan.over {
+        answer[0] = 1;
+    }
+    block::set_long_word(&mut answer, 1, plan.lines);
+    block::set_word(&mut answer, 9, plan.n);
+    let held = output::put_block(output, held, &answer, 13);
+    let rows = plan.rows;
+    rows::put_rows(output, held, rows)
+}
+
 // Carries a call out and answers.
 fn call(output: &mut [u8; 4096], state: Held, head: Head, block: &Block) -> Held {
     let mut out = [0xA5u8; 20480];
@@ -252,10 +234,12 @@ fn call(output: &mut [u8; 4096], state: Held, head: Head, block: &Block) -> Held
     let written = ran.written;
     let plan = ran.plan;
     let part = ran.part;
-    let held = answers::put_written(output, state.held, written);
-    let held = answers::put_bytes(output, held, &out, room);
-    let held = answers::put_plan(output, held, plan);
-    let held = answers::put_part(output, held, part);
+    let held = text_bytes::put_written(output, state.held, written);
+    let held = output::put_bytes(output, held, &out, room);
+    let held = put_plan(output, held, plan);
+    let length = part.length;
+    let text = part.text;
+    let held = text_bytes::put_text(output, held, length, text);
     Held {
         plan: plan,
         part: part,

@@ -62,3 +62,34 @@ pub fn fill(buffer: &mut [u8; 4096], left: Unread, block: &mut Block, length: u8
     }
     left
 }
+
+// The letter that a command begins with, the byte after it, and what is then unread.
+pub struct Head {
+    pub letter: u8,
+    pub byte: u8,
+    pub left: Unread,
+}
+
+// At the end of the input the letter is read as 0.
+pub fn read_head(buffer: &mut [u8; 4096], left: Unread) -> Head {
+    let first = next(buffer, left);
+    let left = first.left;
+    let second = next(buffer, left);
+    let left = second.left;
+    Head {
+        letter: first.byte,
+        byte: second.byte,
+        left: left,
+    }
+}
+
+// The `length` bytes after a command's head go into the start of `block`.
+pub fn fill_after(buffer: &mut [u8; 4096], head: Head, block: &mut Block, length: u8) -> Head {
+    let left = head.left;
+    let left = fill(buffer, left, block, length);
+    Head {
+        letter: head.letter,
+        byte: head.byte,
+        left: left,
+    }
+}

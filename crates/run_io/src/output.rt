@@ -34,3 +34,14 @@ pub fn put_block(buffer: &mut [u8; 4096], held: usize, block: &Block, length: u8
     }
     held
 }
+
+// The first `length` bytes, or all if there are fewer.
+pub fn put_bytes(buffer: &mut [u8; 4096], held: usize, bytes: &[u8], length: usize) -> usize {
+    let mut held = held;
+    let mut i = 0;
+    while i < length && i < bytes.len() {
+        held = put(buffer, held, bytes[i]);
+        i += 1;
+    }
+    held
+}

@@ -11,6 +11,7 @@ pub mod node;
 pub mod pieces;
 pub mod program;
 pub mod recorded;
+pub mod recorded_pieces;
 pub mod recorded_text;
 pub mod refusal;
 pub mod ring;

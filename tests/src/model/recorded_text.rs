@@ -47,17 +47,21 @@ fn converted(form: Form, text: &[u8]) -> Result<Vec<u8>, u32> {
     Ok(line(k, &out[..length]))
 }
 
-/// All that the program prints for this input: "`line L refusal N`, lines counted from 1" for a line that is refused. A
-/// refusal ends nothing.
+/// Prints a line, with its line feed, that has this number: "`line L refusal N`" if it is refused.
+pub fn print(form: Form, number: u64, line: &[u8], out: &mut Vec<u8>) {
+    match whole(line).and_then(|line| converted(form, line)) {
+        Ok(text) => out.extend(text),
+        Err(cause) => {
+            writeln!(out, "line {number} refusal {cause}").expect("a vector takes every byte");
+        }
+    }
+}
+
+/// All that the program prints for this input, "lines counted from 1". A refusal ends nothing.
 pub fn run(form: Form, input: &[u8]) -> Vec<u8> {
     let mut out = Vec::new();
     for (number, line) in (1_u64..).zip(input.split_inclusive(|&byte| byte == b'\n')) {
-        match whole(line).and_then(|line| converted(form, line)) {
-            Ok(text) => out.extend(text),
-            Err(cause) => {
-                writeln!(out, "line {number} refusal {cause}").expect("a vector takes every byte");
-            }
-        }
+        print(form, number, line, &mut out);
     }
     out
 }

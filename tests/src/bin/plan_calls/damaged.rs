@@ -1,7 +1,8 @@
 //! Plans and parts as no call leaves them: rows that are no table, any numbers, any bytes.
 
 use super::compare::compare;
-use super::protocol::{Command, BUFFER, PART, PIECE, ROWS};
+use super::protocol::{Command, PART, ROWS};
+use comparison::lent::{Call, BUFFER, PIECE};
 use comparison::model::bench;
 use comparison::random::Random;
 use comparison::records::{choices_of, disturb};
@@ -70,9 +71,10 @@ pub fn plans(count: &mut Count) -> Result<(), String> {
         commands.push(numbers(&mut random, n));
         commands.push(part(&mut random));
         for _ in 0..3 {
-            commands.push(Command::Feed(piece(&mut random), if random.below(8) == 0 { 79 } else { BUFFER }));
+            let room = if random.below(8) == 0 { 79 } else { BUFFER };
+            commands.push(Command::Call(Call::Feed(piece(&mut random), room)));
         }
-        commands.push(Command::Finish(if random.below(8) == 0 { 79 } else { 80 }));
+        commands.push(Command::Call(Call::Finish(if random.below(8) == 0 { 79 } else { 80 })));
     }
     compare(count, &commands)
 }

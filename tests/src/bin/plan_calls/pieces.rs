@@ -1,51 +1,11 @@
 //! Texts cut into pieces of every size, and buffers of every length about those that are needed.
 
-use super::compare::{compare, CALLS};
-use super::protocol::{Command, BUFFER, PIECE};
+use super::compare::compare;
+use super::protocol::Command;
 use super::texts::text;
 use comparison::adversary::Adversary;
-use comparison::model::pieces::LINE;
-use comparison::random::Random;
+use comparison::lent::{cut, cut_at, enough, short, Call, CALLS, PIECE};
 use comparison::report::Count;
-
-/// A room that is enough for so many bytes, often just so.
-fn enough(random: &mut Random, bytes: usize) -> usize {
-    let least = LINE * bytes;
-    match random.below(3) {
-        0 => BUFFER,
-        1 => random.within(least as u64, BUFFER as u64) as usize,
-        _ => least,
-    }
-}
-
-/// One that is too short.
-fn short(random: &mut Random, bytes: usize) -> usize {
-    let least = LINE * bytes;
-    match random.below(3) {
-        0 => least - 1,
-        1 => random.below(least as u64) as usize,
-        _ => 0,
-    }
-}
-
-/// The text in pieces of at most so many bytes, and its end; some calls are first made with a buffer that is
-/// too short.
-fn cut(random: &mut Random, text: &[u8], most: usize, commands: &mut Vec<Command>) {
-    commands.push(Command::New);
-    let mut rest = text;
-    while !rest.is_empty() {
-        let (piece, more) = rest.split_at((random.within(0, most as u64) as usize).min(rest.len()));
-        if random.below(8) == 0 && !piece.is_empty() {
-            commands.push(Command::Feed(piece.to_vec(), short(random, piece.len())));
-        }
-        commands.push(Command::Feed(piece.to_vec(), enough(random, piece.len())));
-        rest = more;
-    }
-    if random.below(4) == 0 {
-        commands.push(Command::Finish(random.below(LINE as u64) as usize));
-    }
-    commands.push(Command::Finish(enough(random, 1)));
-}
 
 /// Plans of every n, in pieces of up to 250 bytes.
 pub fn drawn(count: &mut Count) -> Result<(), String> {
@@ -57,13 +17,11 @@ pub fn drawn(count: &mut Count) -> Result<(), String> {
         let lines = adversary.random.below(150);
         let text = text(&mut adversary, n, k, lines);
         let most = [1, 2, 3, 7, 40, 250][i as usize % 6];
-        cut(&mut adversary.random, &text, most, &mut commands);
+        commands.push(Command::New);
+        commands.extend(cut(&mut adversary.random, &text, most).into_iter().map(Command::Call));
     }
     compare(count, &commands)?;
-    for name in CALLS.iter().filter(|name| !name.contains("whole")) {
-        count.needs(&[name])?;
-    }
-    Ok(())
+    count.needs(CALLS)
 }
 
 /// Short texts in two pieces, cut at every place.
@@ -79,11 +37,8 @@ pub fn every_cut(count: &mut Count) -> Result<(), String> {
         &long,
     ] {
         for at in 0..=text.len() {
-            let (a, b) = text.split_at(at);
             commands.push(Command::New);
-            commands.push(Command::Feed(a.to_vec(), BUFFER));
-            commands.push(Command::Feed(b.to_vec(), BUFFER));
-            commands.push(Command::Finish(LINE));
+            commands.extend(cut_at(text, at).map(Command::Call));
         }
     }
     compare(count, &commands)
@@ -102,7 +57,7 @@ pub fn whole(count: &mut Count) -> Result<(), String> {
         let random = &mut adversary.random;
         let room =
             if random.below(4) == 0 { short(random, text.len() + 1) } else { enough(random, text.len() + 1) };
-        commands.push(Command::Print(text, room));
+        commands.push(Command::Call(Call::Print(text, room)));
     }
     compare(count, &commands)?;
     count.needs(&["call: a whole text", "call: refused"])

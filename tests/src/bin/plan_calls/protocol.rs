@@ -1,8 +1,9 @@
 //! What the program `plan_runs` takes and gives: commands on a plan and a part of its next line. All numbers
 //! are lowest byte first.
 
+use comparison::lent::{self, Call};
 use comparison::model::node::Node;
-use comparison::model::pieces::Plan;
+use comparison::model::pieces::{Plan, LINE};
 use comparison::model::program;
 use comparison::model::refusal;
 use comparison::record_bytes::{record_bytes, Reader, RECORD};
@@ -10,43 +11,20 @@ use comparison::record_bytes::{record_bytes, Reader, RECORD};
 /// The rows of a plan.
 pub const ROWS: usize = 32;
 
-/// The most bytes of a piece, and of a buffer.
-pub const PIECE: usize = 250;
-pub const BUFFER: usize = 20_480;
-
 /// The bytes of a part.
 pub const PART: usize = 121;
-
-/// Each byte of a lent buffer before the call.
-const FILL: u8 = 0xA5;
 
 #[derive(Clone)]
 pub enum Command {
     New,
-    Numbers {
-        over: bool,
-        lines: u64,
-        n: u32,
-    },
+    Numbers { over: bool, lines: u64, n: u32 },
     Load(u8, Node),
-    Part {
-        length: u8,
-        text: [u8; PART],
-    },
-    /// Calls, with the length of the lent buffer.
-    Feed(Vec<u8>, usize),
-    Finish(usize),
-    Print(Vec<u8>, usize),
+    Part { length: u8, text: [u8; PART] },
+    Call(Call),
 }
 
-fn push_call(out: &mut Vec<u8>, letter: u8, text: &[u8], room: usize) {
-    out.extend([letter, text.len() as u8]);
-    out.extend((room as u32).to_le_bytes());
-    out.extend(text);
-}
-
-impl Command {
-    pub fn push(&self, out: &mut Vec<u8>) {
+impl lent::Command for Command {
+    fn push(&self, out: &mut Vec<u8>) {
         match self {
             Command::New => out.extend([b'N', 0]),
             Command::Numbers { over, lines, n } => {
@@ -62,9 +40,14 @@ impl Command {
                 out.extend([b'T', *length]);
                 out.extend(text);
             }
-            Command::Feed(piece, room) => push_call(out, b'F', piece, *room),
-            Command::Finish(room) => push_call(out, b'E', &[], *room),
-            Command::Print(text, room) => push_call(out, b'A', text, *room),
+            Command::Call(call) => call.push(out),
+        }
+    }
+
+    fn call(&self) -> Option<&Call> {
+        match self {
+            Command::Call(call) => Some(call),
+            _ => None,
         }
     }
 }
@@ -96,10 +79,9 @@ impl Held {
         self.text[..rest.len()].copy_from_slice(rest);
     }
 
-    /// Carries a command out. The answer's bytes go into `out`, which is emptied first; none for a command
-    /// that has no answer. The number is that of the refusal.
-    pub fn run(&mut self, command: &Command, out: &mut Vec<u8>) -> Option<u32> {
-        out.clear();
+    /// Carries a command out. The answer's bytes go into `out`, none for a command that has no answer. The number is
+    /// that of the refusal.
+    pub fn run(&mut self, command: &Command, out: &mut Vec<u8>) -> u32 {
         match command {
             Command::New => *self = Held::first(),
             Command::Numbers { over, lines, n } => {
@@ -110,45 +92,35 @@ impl Held {
                 self.length = usize::from(*length);
                 self.text = *text;
             }
-            Command::Feed(piece, room) => {
-                let fed = self.plan.feed(&self.part(), piece, *room);
-                let written = fed.map(|(text, rest)| {
-                    self.keep(&rest);
-                    text
-                });
-                return Some(self.answer(written, *room, out));
-            }
-            Command::Finish(room) => {
-                let written = self.plan.finish(&self.part(), *room);
-                return Some(self.answer(written, *room, out));
-            }
-            Command::Print(text, room) => {
-                let enough = (text.len() + 1) * comparison::model::pieces::LINE <= *room;
-                let written = if enough { Ok(program::run(text)) } else { Err(refusal::OUTPUT) };
-                return Some(self.answer(written, *room, out));
+            Command::Call(call) => {
+                let written = self.written(call);
+                let number = call.push_written(&written, out);
+                self.push(out);
+                return number;
             }
         }
-        None
+        0
     }
 
-    fn answer(&self, written: Result<Vec<u8>, u32>, room: usize, out: &mut Vec<u8>) -> u32 {
-        let mut buffer = vec![FILL; room];
-        let (number, count) = match &written {
-            Ok(text) => {
-                buffer[..text.len()].copy_from_slice(text);
-                (0, text.len() as u32)
-            }
-            Err(number) => (*number, 0),
-        };
-        out.push(number as u8);
-        out.extend(count.to_le_bytes());
-        out.extend(buffer);
+    /// What a call writes.
+    fn written(&mut self, call: &Call) -> Result<Vec<u8>, u32> {
+        match call {
+            Call::Feed(piece, room) => self.plan.feed(&self.part(), piece, *room).map(|(text, rest)| {
+                self.keep(&rest);
+                text
+            }),
+            Call::Finish(room) => self.plan.finish(&self.part(), *room),
+            Call::Print(text, room) if (text.len() + 1) * LINE <= *room => Ok(program::run(text)),
+            Call::Print(..) => Err(refusal::OUTPUT),
+        }
+    }
+
+    fn push(&self, out: &mut Vec<u8>) {
         out.push(u8::from(self.plan.over));
         out.extend(self.plan.lines.to_le_bytes());
         out.extend(self.plan.n.to_le_bytes());
         self.plan.rows.iter().for_each(|row| out.extend(record_bytes(row)));
-        out.push(self.length.min(PART + 1) as u8);
+        out.extend((self.length as u64).to_le_bytes());
         out.extend(self.text);
-        number
     }
 }

@@ -2,9 +2,9 @@
 
 use comparison::model::recorded_text::{run, Form};
 use comparison::printed::{see, Program};
+use comparison::recorded_lines::note;
+pub use comparison::recorded_lines::FORMS;
 use comparison::report::Count;
-
-pub const FORMS: [Form; 2] = [Form::Three, Form::Two];
 
 fn program(form: Form) -> Program {
     let arguments: &[&str] = match form {
@@ -31,16 +31,4 @@ pub fn compare_with(count: &mut Count, form: Form, text: &[u8], expected: &[u8])
     note(count, expected);
     see(count, "the model", text, &run(form, text), expected)?;
     program(form).prints(count, text, expected, usize::MAX)
-}
-
-/// Notes the answer of each line, by the expected output.
-fn note(count: &mut Count, expected: &[u8]) {
-    for line in expected.split_inclusive(|&byte| byte == b'\n') {
-        let line = std::str::from_utf8(line).expect("the output is text");
-        let words: Vec<&str> = line.trim_end().split(' ').collect();
-        match words[..] {
-            ["line", _, "refusal", number] => count.expected(number.parse().expect("a number")),
-            _ => count.expected(0),
-        }
-    }
 }

@@ -1,8 +1,8 @@
 //! Lines about as long as a line may be, lines that lie across the end of the program's buffer, and texts in pieces.
 
 use super::compare::{compare, compare_in_pieces, FORMS};
-use super::generated::text;
 use comparison::random::Random;
+use comparison::recorded_lines::text;
 use comparison::report::Count;
 
 /// Valid lines for both forms: whichever is asked for, one of each two is converted.

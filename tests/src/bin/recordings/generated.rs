@@ -1,43 +1,11 @@
 //! Texts of generated messages.
 
 use super::compare::{compare, compare_with, FORMS};
-use comparison::messages::{all_yes, damage, job_byte, message_of, recorded_of};
-use comparison::model::message::Said;
+use comparison::messages::{all_yes, recorded_of};
 use comparison::model::recorded_text::{line, Form};
 use comparison::random::Random;
+use comparison::recorded_lines::text;
 use comparison::report::Count;
-
-/// Any message of k in the form that is brought to the other, valid or damaged.
-fn message(random: &mut Random, form: Form, k: u32) -> Vec<u8> {
-    let acks = random.number() as u32 & all_yes(k);
-    let return_bit = random.bit();
-    let mut bytes = match form {
-        Form::Three => recorded_of(k, acks, return_bit),
-        Form::Two => {
-            let m = if random.bit() { 0 } else { random.below(9) as u32 };
-            let jobs = job_byte(random, m);
-            message_of(k, m, Said { acks, return_bit, jobs })
-        }
-    };
-    if random.below(3) == 0 {
-        damage(random, &mut bytes);
-    }
-    bytes
-}
-
-/// A text of so many lines; now and then a k that is out of range.
-pub fn text(random: &mut Random, form: Form, k: u32, lines: u64) -> Vec<u8> {
-    let mut text = Vec::new();
-    for _ in 0..lines {
-        let bytes = message(random, form, k);
-        let written = match random.below(16) {
-            0 => random.number() as u32 >> random.below(32),
-            _ => k,
-        };
-        text.extend(line(written, &bytes));
-    }
-    text
-}
 
 /// "Going there and back gives the bytes we began with": what the program prints one way comes back by the other.
 pub fn there_and_back(count: &mut Count) -> Result<(), String> {

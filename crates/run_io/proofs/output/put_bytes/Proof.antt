@@ -1,14 +1,14 @@
--- `plan_runs::answers::put_bytes` is safe and ends. Each turn puts one byte more; the measure is the number of bytes that are left. Assumes nothing.
+-- `run_io::output::put_bytes` is safe and ends. Each turn puts one byte more; the measure is the number of bytes that are left. Assumes nothing.
 use Prim.Native.Nat.{_-_}
 use borrow.Author.Needs.{needs}
-use Rattle.plan_runs.proofs.answers.put_bytes.Statement.{statement}
-use Rattle.plan_runs.proofs.answers.put_bytes.Tie as tie
+use Rattle.run_io.proofs.output.put_bytes.Statement.{statement}
+use Rattle.run_io.proofs.output.put_bytes.Tie as tie
 
 abbrev Inv-loop : tie.InvT-loop
-Inv-loop output₀ held bytes length held₀ i₀ output held' i = Unit {0}
+Inv-loop buffer₀ held bytes length held₀ i₀ buffer held' i = Unit {0}
 
 abbrev μ-loop : tie.MeasureT-loop
-μ-loop output₀ held bytes length held₀ i₀ output held' i = length - i
+μ-loop buffer₀ held bytes length held₀ i₀ buffer held' i = length - i
 
 loop-holds : tie.Need-loop-holds Inv-loop μ-loop
 loop-holds c = tt

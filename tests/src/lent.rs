@@ -1,0 +1,180 @@
+//! Calls on a text that comes in pieces, with a lent buffer: their bytes for a program that runs them, rooms for the
+//! buffer, and the comparison of every answer. All numbers are lowest byte first.
+
+use crate::child;
+use crate::model::pieces::LINE;
+use crate::random::Random;
+use crate::report::Count;
+use std::io::Read;
+
+/// The most bytes of a piece, and of a buffer.
+pub const PIECE: usize = 250;
+pub const BUFFER: usize = 20_480;
+
+/// Each byte of a lent buffer before the call.
+const FILL: u8 = 0xA5;
+
+/// A call, with the length of the lent buffer.
+#[derive(Clone)]
+pub enum Call {
+    Feed(Vec<u8>, usize),
+    Finish(usize),
+    Print(Vec<u8>, usize),
+}
+
+impl Call {
+    fn parts(&self) -> (u8, &[u8], usize) {
+        match self {
+            Call::Feed(piece, room) => (b'F', piece, *room),
+            Call::Finish(room) => (b'E', &[], *room),
+            Call::Print(text, room) => (b'A', text, *room),
+        }
+    }
+
+    pub fn push(&self, out: &mut Vec<u8>) {
+        let (letter, text, room) = self.parts();
+        out.extend([letter, text.len() as u8]);
+        out.extend((room as u32).to_le_bytes());
+        out.extend(text);
+    }
+
+    /// The first bytes of the answer: 0 or the refusal's number, the count of bytes, and the whole buffer, of which
+    /// what was not written is as it was.
+    pub fn push_written(&self, written: &Result<Vec<u8>, u32>, out: &mut Vec<u8>) -> u32 {
+        let (_, _, room) = self.parts();
+        let mut buffer = vec![FILL; room];
+        let (number, count) = match written {
+            Ok(text) => {
+                buffer[..text.len()].copy_from_slice(text);
+                (0, text.len() as u32)
+            }
+            Err(number) => (*number, 0),
+        };
+        out.push(number as u8);
+        out.extend(count.to_le_bytes());
+        out.extend(buffer);
+        number
+    }
+
+    fn note(&self, count: &mut Count, number: u32, answer: &[u8]) {
+        let printed = answer[1..5] != [0; 4];
+        count.expected(number);
+        count.event(match (self, number) {
+            (Call::Feed(..), 0) if printed => "call: a piece that prints",
+            (Call::Feed(..), 0) => "call: a piece that prints nothing",
+            (Call::Finish(_), 0) if printed => "call: an end that is refused",
+            (Call::Finish(_), 0) => "call: an end",
+            (Call::Print(..), 0) => "call: a whole text",
+            _ => "call: refused",
+        });
+    }
+
+    fn shown(&self) -> String {
+        match self {
+            Call::Feed(piece, room) => format!("feed '{}' into {room} bytes", piece.escape_ascii()),
+            Call::Finish(room) => format!("finish into {room} bytes"),
+            Call::Print(text, room) => format!("print '{}' into {room} bytes", text.escape_ascii()),
+        }
+    }
+}
+
+/// What many texts in pieces must meet.
+pub const CALLS: &[&str] = &[
+    "call: a piece that prints",
+    "call: a piece that prints nothing",
+    "call: an end that is refused",
+    "call: an end",
+    "call: refused",
+];
+
+/// A command of a program that runs calls.
+pub trait Command {
+    fn push(&self, out: &mut Vec<u8>);
+
+    /// The call; only such a command has an answer.
+    fn call(&self) -> Option<&Call>;
+}
+
+/// Runs the program on the commands and compares every byte of every answer. `run` carries a command out by the model:
+/// the answer's bytes, and the number of the refusal.
+pub fn compare<C: Command>(
+    count: &mut Count,
+    program: &str,
+    commands: &[C],
+    mut run: impl FnMut(&mut Count, &C, &mut Vec<u8>) -> u32,
+) -> Result<(), String> {
+    let mut script = Vec::new();
+    commands.iter().for_each(|command| command.push(&mut script));
+    child::run(count, program, &script, |count, output| {
+        for (i, command) in commands.iter().enumerate() {
+            let mut expected = Vec::new();
+            let number = run(count, command, &mut expected);
+            let Some(call) = command.call() else { continue };
+            call.note(count, number, &expected);
+            same(count, output, &expected)
+                .map_err(|why| format!("command {}: {}{why}", i + 1, call.shown()))?;
+        }
+        Ok(())
+    })
+}
+
+fn same(count: &mut Count, output: &mut dyn Read, expected: &[u8]) -> Result<(), String> {
+    let mut got = Vec::new();
+    child::read_answer(output, expected.len(), &mut got)
+        .map_err(|why| format!(": the answer cannot be read: {why}"))?;
+    count.check(got == expected, || {
+        let place = got.iter().zip(expected).take_while(|(a, b)| a == b).count();
+        format!(
+            "\n        byte {place} of {} differs from the expected one of {}: {:?}, not {:?}",
+            got.len(),
+            expected.len(),
+            got.get(place),
+            expected.get(place)
+        )
+    })
+}
+
+/// A room that is enough for so many bytes, often just so.
+pub fn enough(random: &mut Random, bytes: usize) -> usize {
+    let least = LINE * bytes;
+    match random.below(3) {
+        0 => BUFFER,
+        1 => random.within(least as u64, BUFFER as u64) as usize,
+        _ => least,
+    }
+}
+
+/// One that is too short.
+pub fn short(random: &mut Random, bytes: usize) -> usize {
+    let least = LINE * bytes;
+    match random.below(3) {
+        0 => least - 1,
+        1 => random.below(least as u64) as usize,
+        _ => 0,
+    }
+}
+
+/// The text in pieces of at most so many bytes, and its end; some calls are first made with a buffer that is too short.
+pub fn cut(random: &mut Random, text: &[u8], most: usize) -> Vec<Call> {
+    let mut calls = Vec::new();
+    let mut rest = text;
+    while !rest.is_empty() {
+        let (piece, more) = rest.split_at((random.within(0, most as u64) as usize).min(rest.len()));
+        if random.below(8) == 0 && !piece.is_empty() {
+            calls.push(Call::Feed(piece.to_vec(), short(random, piece.len())));
+        }
+        calls.push(Call::Feed(piece.to_vec(), enough(random, piece.len())));
+        rest = more;
+    }
+    if random.below(4) == 0 {
+        calls.push(Call::Finish(short(random, 1)));
+    }
+    calls.push(Call::Finish(enough(random, 1)));
+    calls
+}
+
+/// The text in two pieces, cut at a place, and its end.
+pub fn cut_at(text: &[u8], at: usize) -> [Call; 3] {
+    let (a, b) = text.split_at(at);
+    [Call::Feed(a.to_vec(), BUFFER), Call::Feed(b.to_vec(), BUFFER), Call::Finish(LINE)]
+}
