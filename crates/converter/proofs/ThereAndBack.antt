@@ -85,8 +85,9 @@ module _ {readFrom readTo : Reader} {madeFrom madeTo : ℕ → ℕ → Bool → 
       ∙ ap (λ (l : List ℕ). (wrote (sizeFrom k), l ++ drop (sizeFrom k) lent)) (sym same)
       ∙ ap (λ (n : ℕ). (wrote n, bytes ++ drop n lent)) (sym long)
 
-  turned : Converts readFrom readTo there back
+  turned : Converts readFrom readTo sizeTo there back
   turned = record {
+    accepts = λ k a b bytes out e room. ap (λ (o : Outcome). o .0) (on .takes k a b bytes out e room);
     returns = returned;
     same = λ k bytes out count after e. let h = on .gives k bytes out count after e in read-on k bytes out count after h ∙ sym (h .said);
     leaves = on .leaves;

@@ -4,25 +4,14 @@
 use super::compare::compare;
 use super::protocol::Script;
 use super::vectors::{follow, Bytes, Is::*, Nodes, Run, Step::*};
+use super::vectors::{ALL, FIVE, NN, NNN, NOTHING, NY, YN, YNN, YY, YYN, YYY, YY_RETURN};
 use comparison::model::node::Cause;
 use comparison::report::Count;
 
-/// The messages of k = 2 and 3, named by their acknowledgement bits, bit 1 first.
-const YY: Bytes = &[0x02, 0x03, 0x01, 0x00, 0x00, 0x00];
-const NY: Bytes = &[0x02, 0x02, 0x01, 0x00, 0x00, 0x00];
-const YN: Bytes = &[0x02, 0x01, 0x01, 0x00, 0x00, 0x00];
-const NN: Bytes = &[0x02, 0x00, 0x01, 0x00, 0x00, 0x00];
-const YY_RETURN: Bytes = &[0x02, 0x03, 0x01, 0x01, 0x00, 0x00];
+/// Two nos for k = 2, with the return bit.
 const NN_RETURN: Bytes = &[0x02, 0x00, 0x01, 0x01, 0x00, 0x00];
-const NNN: Bytes = &[0x03, 0x00, 0x01, 0x00, 0x00, 0x00];
-const YNN: Bytes = &[0x03, 0x01, 0x01, 0x00, 0x00, 0x00];
-const YYN: Bytes = &[0x03, 0x03, 0x01, 0x00, 0x00, 0x00];
-const YYY: Bytes = &[0x03, 0x07, 0x01, 0x00, 0x00, 0x00];
-const NOTHING: Bytes = &[];
 
-const ALL: Nodes = &[1, 2, 3, 4];
 const THREE: Nodes = &[1, 3, 4];
-const FIVE: Nodes = &[1, 2, 3, 4, 5];
 const OTHERS: Nodes = &[2, 3, 4, 5];
 
 #[rustfmt::skip]
