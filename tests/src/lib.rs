@@ -2,6 +2,7 @@
 //! from the library's code.
 
 pub mod adversary;
+pub mod asked;
 pub mod careful;
 pub mod child;
 pub mod events;
@@ -19,3 +20,4 @@ pub mod record_bytes;
 pub mod recorded_lines;
 pub mod records;
 pub mod report;
+pub mod slot_tables;

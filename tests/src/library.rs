@@ -1,6 +1,6 @@
 //! The library under test, as safe functions.
 
-use crate::model::choices::Choices;
+use crate::model::choices::Asked;
 use crate::model::message::Said;
 
 mod c {
@@ -31,13 +31,47 @@ mod c {
             out_ptr: *mut u8,
             out_len: usize,
         ) -> u64;
-        pub safe fn ring_sender(n: u32, done: u64) -> u64;
-        pub safe fn ring_before(n: u32, set: u32, x: u32, j: u32) -> u64;
-        pub safe fn ring_sponsored(n: u32, k: u32, lag: u32, set: u32, x: u32, j: u32) -> u64;
-        pub safe fn ring_decided(n: u32, k: u32, lag: u32, set: u32, x: u32) -> u64;
-        pub safe fn ring_before_back(n: u32, set: u32, x: u32, j: u32) -> u64;
-        pub safe fn ring_sponsored_back(n: u32, k: u32, lag: u32, set: u32, x: u32, j: u32) -> u64;
-        pub safe fn ring_decided_back(n: u32, k: u32, lag: u32, set: u32, x: u32) -> u64;
+        pub unsafe fn ring_sender(n: u32, ptr: *const u8, len: usize, done: u64) -> u64;
+        pub unsafe fn ring_before(n: u32, ptr: *const u8, len: usize, set: u32, x: u32, j: u32) -> u64;
+        pub unsafe fn ring_sponsored(
+            n: u32,
+            k: u32,
+            lag: u32,
+            ptr: *const u8,
+            len: usize,
+            set: u32,
+            x: u32,
+            j: u32,
+        ) -> u64;
+        pub unsafe fn ring_decided(
+            n: u32,
+            k: u32,
+            lag: u32,
+            ptr: *const u8,
+            len: usize,
+            set: u32,
+            x: u32,
+        ) -> u64;
+        pub unsafe fn ring_before_back(n: u32, ptr: *const u8, len: usize, set: u32, x: u32, j: u32) -> u64;
+        pub unsafe fn ring_sponsored_back(
+            n: u32,
+            k: u32,
+            lag: u32,
+            ptr: *const u8,
+            len: usize,
+            set: u32,
+            x: u32,
+            j: u32,
+        ) -> u64;
+        pub unsafe fn ring_decided_back(
+            n: u32,
+            k: u32,
+            lag: u32,
+            ptr: *const u8,
+            len: usize,
+            set: u32,
+            x: u32,
+        ) -> u64;
     }
 }
 
@@ -122,8 +156,10 @@ pub fn to_two(k: u32, bytes: &[u8], out: &mut [u8]) -> Result<u64, u64> {
 }
 
 /// The sender of the slot that follows `done` slots, or the number of the refusal.
-pub fn sender(n: u32, done: u64) -> Result<u64, u64> {
-    value(c::ring_sender(n, done))
+pub fn sender(asked: &Asked, done: u64) -> Result<u64, u64> {
+    let slots = asked.slots.bytes();
+    // SAFETY: the pointer and the length are those of one slice, which is only read; so it is below.
+    value(unsafe { c::ring_sender(asked.n, slots.as_ptr(), slots.len(), done) })
 }
 
 /// A number or, where there is nobody, none; or the number of the refusal.
@@ -142,22 +178,40 @@ pub struct Found {
 }
 
 /// The j-th member before node x.
-pub fn before(n: u32, set: u32, x: u32, j: u32) -> Found {
-    Found { member: answer(c::ring_before(n, set, x, j)), back: answer(c::ring_before_back(n, set, x, j)) }
+pub fn before(asked: &Asked, set: u32, x: u32, j: u32) -> Found {
+    let (n, slots) = (asked.n, asked.slots.bytes());
+    let (table, places) = (slots.as_ptr(), slots.len());
+    // SAFETY: as above.
+    let (member, back) = unsafe {
+        (c::ring_before(n, table, places, set, x, j), c::ring_before_back(n, table, places, set, x, j))
+    };
+    Found { member: answer(member), back: answer(back) }
 }
 
 /// The j-th member that node x sponsors.
-pub fn sponsored(Choices { n, k, lag, .. }: Choices, set: u32, x: u32, j: u32) -> Found {
-    Found {
-        member: answer(c::ring_sponsored(n, k, lag, set, x, j)),
-        back: answer(c::ring_sponsored_back(n, k, lag, set, x, j)),
-    }
+pub fn sponsored(asked: &Asked, set: u32, x: u32, j: u32) -> Found {
+    let (Asked { n, k, lag, .. }, slots) = (*asked, asked.slots.bytes());
+    let (table, places) = (slots.as_ptr(), slots.len());
+    // SAFETY: as above.
+    let (member, back) = unsafe {
+        (
+            c::ring_sponsored(n, k, lag, table, places, set, x, j),
+            c::ring_sponsored_back(n, k, lag, table, places, set, x, j),
+        )
+    };
+    Found { member: answer(member), back: answer(back) }
 }
 
 /// The member that node x decides.
-pub fn decided(Choices { n, k, lag, .. }: Choices, set: u32, x: u32) -> Found {
-    Found {
-        member: answer(c::ring_decided(n, k, lag, set, x)),
-        back: answer(c::ring_decided_back(n, k, lag, set, x)),
-    }
+pub fn decided(asked: &Asked, set: u32, x: u32) -> Found {
+    let (Asked { n, k, lag, .. }, slots) = (*asked, asked.slots.bytes());
+    let (table, places) = (slots.as_ptr(), slots.len());
+    // SAFETY: as above.
+    let (member, back) = unsafe {
+        (
+            c::ring_decided(n, k, lag, table, places, set, x),
+            c::ring_decided_back(n, k, lag, table, places, set, x),
+        )
+    };
+    Found { member: answer(member), back: answer(back) }
 }

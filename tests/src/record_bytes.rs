@@ -1,13 +1,14 @@
-//! A record as the programs under test take and give it: 60 bytes, all numbers lowest byte first; and the counts that
+//! A record as the programs under test take and give it: 92 bytes, all numbers lowest byte first; and the counts that
 //! stand beside one.
 
 use crate::model::choices::Choices;
 use crate::model::counts::{Counts, NONE};
 use crate::model::node::{Cause, ListeningData, Node, State};
 use crate::model::ring::Set;
+use crate::model::slot_table::Order;
 
 /// The bytes of a record.
-pub const RECORD: usize = 60;
+pub const RECORD: usize = 92;
 
 const CAUSES: [Cause; 4] = [Cause::Unconfirmed, Cause::NothingHeard, Cause::MissedReturn, Cause::SwitchedOff];
 
@@ -54,7 +55,8 @@ pub fn record_bytes(record: &Node) -> [u8; RECORD] {
     for number in [record.chosen.m, record.chosen.lag] {
         out.extend(number.to_le_bytes());
     }
-    out.try_into().expect("60 bytes")
+    out.extend(record.chosen.order.0);
+    out.try_into().expect("92 bytes")
 }
 
 /// Puts the counts of one node: 32 rows of 8, eight bytes each.
@@ -125,7 +127,9 @@ impl<'a> Reader<'a> {
             },
             yes_heard: self.u8() == 1,
         };
-        Node { chosen: Choices { n, k, m: self.u32(), lag: self.u32() }, ..node }
+        let (m, lag) = (self.u32(), self.u32());
+        let order = Order(self.take(32).try_into().expect("32 bytes"));
+        Node { chosen: Choices { n, k, m, lag, order }, ..node }
     }
 }
 
@@ -136,11 +140,12 @@ fn shown_set(set: Set) -> String {
 pub fn shown_record(record: &Node) -> String {
     let data = &record.listening;
     format!(
-        "n {} k {} m {} lag {} own {} slots {} {:?} set {} marks {} returning {} return heard {} yes heard {}; done {} heard {} shortest {} return seen {} last {}",
+        "n {} k {} m {} lag {} table {:?} own {} slots {} {:?} set {} marks {} returning {} return heard {} yes heard {}; done {} heard {} shortest {} return seen {} last {}",
         record.chosen.n,
         record.chosen.k,
         record.chosen.m,
         record.chosen.lag,
+        record.chosen.order.0,
         record.own,
         record.slots,
         record.state,

@@ -4,7 +4,9 @@
 use crate::model::choices::Choices;
 use crate::model::node::{Cause, ListeningData, Node, State, CLAUSES};
 use crate::model::ring::{Set, LIMIT};
+use crate::model::slot_table::Order;
 use crate::random::Random;
+use crate::slot_tables;
 
 pub const STATES: [State; 8] = [
     State::Member,
@@ -61,18 +63,25 @@ pub fn size(random: &mut Random) -> u32 {
     }
 }
 
-/// A slot count below the limit: the own slot is next in one of four, the limit is near in some.
-fn slots(random: &mut Random, n: u32, own: u32) -> u64 {
+/// A slot count three slots or more below the limit: the own slot is next in one of four, the limit is near in some.
+fn slots(random: &mut Random, chosen: Choices, own: u32) -> u64 {
+    let n = chosen.n;
     let base = match random.below(4) {
-        0 => LIMIT - random.within(u64::from(n), 3 * u64::from(n)),
-        1 => random.below(LIMIT - u64::from(n)),
+        0 => LIMIT - random.within(u64::from(n) + 3, 3 * u64::from(n)),
+        1 => random.below(LIMIT - u64::from(n) - 2),
         _ => random.below(200),
     };
     if random.below(4) == 0 {
-        base - base % u64::from(n) + u64::from(own) - 1
+        before_own(chosen, own, base)
     } else {
         base
     }
+}
+
+/// The slots done before the slot of a node, in the round in which so many are done.
+pub fn before_own(chosen: Choices, own: u32, slots: u64) -> u64 {
+    let place = chosen.order.place(chosen.n, own).expect("the table has each node");
+    slots - slots % u64::from(chosen.n) + u64::from(place) - 1
 }
 
 fn listening_data(random: &mut Random, Choices { n, k, .. }: Choices, own: u32) -> ListeningData {
@@ -115,7 +124,8 @@ pub fn choices_of(random: &mut Random, n: u32) -> Choices {
     let lag = lag(random, n);
     let most = n - 1 - lag;
     let k = if random.below(8) == 0 { most } else { random.within(2, u64::from(most)) as u32 };
-    Choices { n, k, m: job_count(random), lag }
+    let m = job_count(random);
+    Choices { n, k, m, lag, order: slot_tables::order(random, n) }
 }
 
 /// The same for any n.
@@ -128,7 +138,7 @@ pub fn choices(random: &mut Random) -> Choices {
 pub fn sound(random: &mut Random, state: State) -> Node {
     let chosen = choices(random);
     let own = random.within(1, u64::from(chosen.n)) as u32;
-    let slots = slots(random, chosen.n, own);
+    let slots = slots(random, chosen, own);
     sound_of(random, state, (chosen, own), slots)
 }
 
@@ -215,8 +225,8 @@ fn unheld(node: &Node) -> Option<Set> {
 
 #[rustfmt::skip]
 pub const BREAKS: &[Break] = &[
-    Break { breaks: &["n in range"], states: ANY, make: |random, r| { r.chosen.n = past(random, 32); Some(()) } },
-    Break { breaks: &["n in range", "k in range"], states: OUT, make: |_, r| { r.own = 1; r.chosen.n = 2; Some(()) } },
+    Break { breaks: &["n in range", "slot table has each node once"], states: ANY, make: |random, r| { r.chosen.n = past(random, 32); Some(()) } },
+    Break { breaks: &["n in range", "k in range"], states: OUT, make: |_, r| { (r.own, r.chosen.n, r.chosen.order) = (1, 2, Order::plain(2)); Some(()) } },
     Break { breaks: &["k in range"], states: ANY, make: |random, r| {
         let low = random.below(2) as u32;
         // A listening node's runs reach to k only.
@@ -347,7 +357,35 @@ pub const BREAKS: &[Break] = &[
         r.chosen.lag = past(random, 1).max(r.chosen.n - r.chosen.k);
         Some(())
     } },
+    Break { breaks: &["slot table has each node once"], states: ANY, make: |random, r| { wrong_place(random, r, 0); Some(()) } },
+    Break { breaks: &["slot table has each node once"], states: ANY, make: |random, r| { wrong_place(random, r, 1); Some(()) } },
+    Break { breaks: &["slot table has each node once"], states: ANY, make: |random, r| { wrong_place(random, r, 2); Some(()) } },
+    Break { breaks: &["slot table has each node once"], states: ANY, make: |random, r| { wrong_place(random, r, 3); Some(()) } },
+    // A spare place is used, by a number or by the node after n.
+    Break { breaks: &["spare places are 0"], states: ANY, make: |random, r| {
+        if r.chosen.n == 32 { return None; }
+        let place = random.within(u64::from(r.chosen.n), 31) as usize;
+        r.chosen.order.0[place] = random.within(1, 255) as u8;
+        Some(())
+    } },
+    Break { breaks: &["spare places are 0"], states: ANY, make: |_, r| {
+        if r.chosen.n == 32 { return None; }
+        r.chosen.order.0[r.chosen.n as usize] = r.chosen.n as u8 + 1;
+        Some(())
+    } },
+    // A node stands in a spare place, and not in its own.
+    Break { breaks: &["slot table has each node once", "spare places are 0"], states: ANY, make: |random, r| {
+        if r.chosen.n == 32 { return None; }
+        let (at, spare) = (random.below(u64::from(r.chosen.n)) as usize, random.within(u64::from(r.chosen.n), 31) as usize);
+        r.chosen.order.0.swap(at, spare);
+        Some(())
+    } },
 ];
+
+/// One of the places 1 to n is wrong.
+fn wrong_place(random: &mut Random, r: &mut Node, way: usize) {
+    slot_tables::make_wrong(random, &mut r.chosen.order.0[..r.chosen.n as usize], way);
+}
 
 /// One of the listening data is neither zero nor no.
 fn not_listening(random: &mut Random, r: &mut Node) -> Option<()> {
@@ -362,12 +400,13 @@ fn not_listening(random: &mut Random, r: &mut Node) -> Option<()> {
     Some(())
 }
 
-/// Makes a sound record one that is not, by yes heard outside the member state, by the listening data, by m or by the
-/// lag.
+/// Makes a sound record one that is not, by yes heard outside the member state, by the listening data, by m, by the
+/// lag or by the slot table.
 pub fn spoil(random: &mut Random, node: &mut Node) {
-    match random.below(5) {
+    match random.below(6) {
         0 => node.chosen.m = past(random, 8),
         1 => node.chosen.lag = past(random, 1),
+        4 => wrong_place(random, node, 0),
         2 | 3 if node.state != State::Member => node.yes_heard = true,
         _ => node.listening.done = node.chosen.n,
     }
@@ -385,7 +424,7 @@ pub fn disturb(random: &mut Random, node: &mut Node) {
         1 => 1 << random.below(32),
         _ => random.below(34) as u32,
     };
-    match random.below(17) {
+    match random.below(18) {
         0 => node.chosen.n = number,
         1 => node.chosen.k = number,
         2 => node.own = number,
@@ -402,6 +441,7 @@ pub fn disturb(random: &mut Random, node: &mut Node) {
         13 => node.yes_heard ^= true,
         14 => node.chosen.m = number,
         15 => node.chosen.lag = number,
+        16 => node.chosen.order.0[random.below(32) as usize] = number as u8,
         _ => node.listening.last.0 ^= number,
     }
 }

@@ -78,7 +78,7 @@ module _ (n : ℕ) (most : n ≤ 32) (s : ℕ) where
 -- ---- the second member decided
 
 module _ (W : World) where
-  open World W using (cable, n-pos, n-most, k-two, E, fair)
+  open World W using (cable, n-pos, turns, n-most, k-two, E, fair)
   open Cable cable using (n, k, lag)
 
   module _ (S : ListedSlot W) where
@@ -88,7 +88,7 @@ module _ (W : World) where
     A = L₁ W S
 
     abbrev s : ℕ
-    s = sender n (suc N)
+    s = sender cable (suc N)
 
     κ : K W (suc N) A
     κ = k-after W S
@@ -105,7 +105,7 @@ module _ (W : World) where
     pub second : Before W N A (sponsors cable A + lag)
     second = before W N A (sponsors cable A + lag) (B .late) (omega (arith, most)) (most .1)
 
-    pub second-is : decided cable A s ≡ found.Member (sender n (second .u)) (suc (second .e))
+    pub second-is : decided cable A s ≡ found.Member (sender cable (second .u)) (suc (second .e))
     second-is = decided-before cable A s (most .0) ∙ second .it
 
     ago : second .u + suc (second .e) ≡ suc N
@@ -116,13 +116,13 @@ module _ (W : World) where
     since = two (decLe (k + lag) (sum (lst W) (suc (second .u)) (suc (second .e))))
       where
         m : ℕ → ℕ
-        m = walks.member n n-pos A
+        m = walks.member cable turns A
 
-        members : sum (walks.member n n-pos A) (suc (second .u)) (suc (second .e)) ≡ sponsors cable A + lag
+        members : sum (walks.member cable turns A) (suc (second .u)) (suc (second .e)) ≡ sponsors cable A + lag
         members =
             let y : suc (second .u) + second .e ≡ suc N = omega (arith, second .ago) in
-            let last : walks.member n n-pos A (suc (second .u) + second .e) ≡ 1 = ap (walks.member n n-pos A) y ∙ num-is (sender-stays W S) in
-            omega (arith, sum-first (walks.member n n-pos A) (second .u) (second .e), sum-next (walks.member n n-pos A) (suc (second .u)) (second .e), num-is (second .listed), second .count)
+            let last : walks.member cable turns A (suc (second .u) + second .e) ≡ 1 = ap (walks.member cable turns A) y ∙ num-is (sender-stays W S) in
+            omega (arith, sum-first (walks.member cable turns A) (second .u) (second .e), sum-next (walks.member cable turns A) (suc (second .u)) (second .e), num-is (second .listed), second .count)
 
         two : Dec (k + lag ≤ sum (lst W) (suc (second .u)) (suc (second .e))) → sponsors cable A + lag ≤ sum (lst W) (suc (second .u)) (suc (second .e))
         two (yes p) = omega (arith, most)
@@ -162,10 +162,10 @@ module _ (W : World) where
       was-listed p = not-false (E (second .u) .listed) (λ f. no-both (κ (second .u) (suc (second .e)) ago (second .recent) .came f (second .listed) .0) p)
 
       -- its mark
-      pub second-mark : (T : Hearer W (S .N) (S .L)) → has (marksAfter s (T .r) (T .v)) (sender n (second .u)) ≡ E (second .u) .sent
+      pub second-mark : (T : Hearer W (S .N) (S .L)) → has (marksAfter s (T .r) (T .v)) (sender cable (second .u)) ≡ E (second .u) .sent
       second-mark T = by-cases (E (second .u) .sent)
-          (λ p. not-false (has (marksAfter s (T .r) (T .v)) (sender n (second .u))) (λ off. never-untold (on-after W S T (second .u) (suc (second .e)) ago (second .recent) p (drop-sub W (E (D .u) .sent) L (sender n (D .u)) (sender n (second .u)) (second .listed)) off .untold)) ∙ sym p)
-          (λ p. not-true (has (marksAfter s (T .r) (T .v)) (sender n (second .u))) (λ on. never-untold (off-after W S T (second .u) (suc (second .e)) ago (second .recent) (was-listed p) p .on on .1)) ∙ sym p)
+          (λ p. not-false (has (marksAfter s (T .r) (T .v)) (sender cable (second .u))) (λ off. never-untold (on-after W S T (second .u) (suc (second .e)) ago (second .recent) p (drop-sub W (E (D .u) .sent) L (sender cable (D .u)) (sender cable (second .u)) (second .listed)) off .untold)) ∙ sym p)
+          (λ p. not-true (has (marksAfter s (T .r) (T .v)) (sender cable (second .u))) (λ on. never-untold (off-after W S T (second .u) (suc (second .e)) ago (second .recent) (was-listed p) p .on on .1)) ∙ sym p)
 
       -- if its slot was not sent, only k + lag members are left
       pub second-few : E (second .u) .sent ≡ false → size n A ≤ k + lag
@@ -186,21 +186,21 @@ module _ (W : World) where
       v₁ = readMarked s r v
 
       abbrev m : ℕ
-      m = sender n (D .u)
+      m = sender cable (D .u)
 
-      first-is : decidedIn s v₁ ≡ found.Member (sender n (D .u)) (suc (D .e))
+      first-is : decidedIn s v₁ ≡ found.Member (sender cable (D .u)) (suc (D .e))
       first-is = ap₂ (λ (c : Cable) (set : ℕ). decided c set s) vc (iv .set-is) ∙ D .it
 
       shorter : E (D .u) .sent ≡ false → without (v₁ .set) m ≡ A
       shorter p = ap (λ (x : ℕ). without x m) (iv .set-is) ∙ sym (otherwise _ _ p)
 
-      then-is : decidedIn s (withSet A v₁) ≡ found.Member (sender n (second .u)) (suc (second .e))
+      then-is : decidedIn s (withSet A v₁) ≡ found.Member (sender cable (second .u)) (suc (second .e))
       then-is = ap (λ (c : Cable). decided c A s) vc ∙ second-is
 
       -- a second look ends where the first did
       two-looks : (times : ℕ) → E (D .u) .sent ≡ false → E (second .u) .sent ≡ true → departing (suc times) s (withSet A v₁) ≡ departing 0 s (withSet A v₁)
       two-looks times p o =
-          look times s (sender n (second .u)) (suc (second .e)) (withSet A v₁) then-is
+          look times s (sender cable (second .u)) (suc (second .e)) (withSet A v₁) then-is
           ∙ otherwise _ _ (ap not (second-mark p T ∙ o))
           ∙ sym (no-look s (withSet A v₁))
 
@@ -230,20 +230,20 @@ module _ (W : World) where
           Small x = tracks (x .state) ≡ true → size n (x .set) ≤ k + lag
 
           m₂ : ℕ
-          m₂ = sender n (second .u)
+          m₂ = sender cable (second .u)
 
-          away : Away n n-most s (withSet (without A (sender n (second .u))) v₁)
+          away : Away n n-most s (withSet (without A (sender cable (second .u))) v₁)
           away nz = go (iv .knock nz)
             where
-              go : Knock W N L v → (1 ≤ v .returning) × (v .returning ≤ n) × (has (without A (sender n (second .u))) (v .returning) ≡ false)
+              go : Knock W N L v → (1 ≤ v .returning) × (v .returning ≤ n) × (has (without A (sender cable (second .u))) (v .returning) ≡ false)
               go κ =
-                  let range = sender-range n n-pos (κ .w) in
+                  let range = sender-range cable turns (κ .w) in
                   let off : has L (v .returning) ≡ false = ap (has L) (sym (κ .it)) ∙ κ .away in
-                  (omega (arith, κ .it), omega (arith, κ .it), not-true _ (λ y. no-both (drop-sub W (E (D .u) .sent) L (sender n (D .u)) (v .returning) (drop-sub W false A (sender n (second .u)) (v .returning) y)) off))
+                  (omega (arith, κ .it), omega (arith, κ .it), not-true _ (λ y. no-both (drop-sub W (E (D .u) .sent) L (sender cable (D .u)) (v .returning) (drop-sub W false A (sender cable (second .u)) (v .returning) y)) off))
 
           rest : Small (departing times s (withSet (without A m₂) v₁))
           rest t =
-              let fewer = size-without n A m₂ (sender-range n n-pos (second .u) .0) (sender-range n n-pos (second .u) .1) (second .listed) in
+              let fewer = size-without n A m₂ (sender-range cable turns (second .u) .0) (sender-range cable turns (second .u) .1) (second .listed) in
               omega (arith, departing-size n n-most s times (withSet (without A m₂) v₁) away t, fewer, second-few p o)
 
           two : (b : Bool) → Small (cond b (leave Unconfirmed (withSet A v₁)) (departing times s (withSet (without A m₂) v₁)))

@@ -58,9 +58,9 @@ module _ (G : Given) (premises : Premises (G .cable) (kept.start G) (G .all)) wh
 
   -- what is known as an accepted slot begins, and of the list as it ends
   record Slot (c : Call) (cs : List Call) (N L : ℕ) : Type 0 where
-    speaker-at : speaker (tableAfter start cs) ≡ sender n (suc N)
+    speaker-at : speaker (tableAfter start cs) ≡ sender cable (suc N)
     list-at : listOf (tableAfter start cs) ≡ L
-    listed-at : W .E (suc N) .listed ≡ has L (sender n (suc N))
+    listed-at : W .E (suc N) .listed ≡ has L (sender cable (suc N))
     enough-at : k + lag < size n L
 
   slot-facts : (c : Call) (cs : List Call) → Beginning all (c ∷ cs) → KeepsList cable start c cs → HearEverything cable start c cs → isSlot c (tableAfter start cs) ≡ true → (r : Run G cs) → Slot c cs (slotsOf (tableAfter start cs) + n) (r .0)
@@ -106,25 +106,25 @@ module _ (G : Given) (premises : Premises (G .cable) (kept.start G) (G .all)) wh
       go false = refl
 
   deciding-parts : (c : Call) (cs : List Call) (s : ℕ) → isSlot c (tableAfter start cs) ≡ true → s ≤ slotsOf (tableAfter start cs)
-      → isDeciding cable start s c cs ≡ eqb (memberAfter n (listOf (tableAfter start cs)) (sender n s) (k + lag)) (speaker (tableAfter start cs))
+      → isDeciding cable start s c cs ≡ eqb (memberAfter cable (listOf (tableAfter start cs)) (sender cable s) (k + lag)) (speaker (tableAfter start cs))
   unfolding isDeciding
   deciding-parts c cs s e h = let l : leb s (slotsOf (tableAfter start cs)) ≡ true = le-leb s (slotsOf (tableAfter start cs)) h in rw (e, l) refl
 
-  same-sender : (s : ℕ) → 1 ≤ s → sender n (s + n) ≡ sender n s
-  same-sender s h = sender-period n pos s h
+  same-sender : (s : ℕ) → 1 ≤ s → sender cable (s + n) ≡ sender cable s
+  same-sender s h = sender-period cable (W .turns) s h
 
   -- the test of the statement, in the terms of the run
-  test-yes : (c : Call) (cs : List Call) (N L s : ℕ) → Slot c cs N L → 1 ≤ s → eqb (memberAfter n (listOf (tableAfter start cs)) (sender n s) (k + lag)) (speaker (tableAfter start cs)) ≡ true
-      → memberAfter n L (sender n (s + n)) (k + lag) ≡ sender n (suc N)
+  test-yes : (c : Call) (cs : List Call) (N L s : ℕ) → Slot c cs N L → 1 ≤ s → eqb (memberAfter cable (listOf (tableAfter start cs)) (sender cable s) (k + lag)) (speaker (tableAfter start cs)) ≡ true
+      → memberAfter cable L (sender cable (s + n)) (k + lag) ≡ sender cable (suc N)
   test-yes c cs N L s f h e =
-      ap (λ (x : ℕ). memberAfter n L x (k + lag)) (same-sender s h) ∙ ap (λ (x : ℕ). memberAfter n x (sender n s) (k + lag)) (sym (f .list-at))
-      ∙ eqb-true (memberAfter n (listOf (tableAfter start cs)) (sender n s) (k + lag)) (speaker (tableAfter start cs)) e ∙ f .speaker-at
+      ap (λ (x : ℕ). memberAfter cable L x (k + lag)) (same-sender s h) ∙ ap (λ (x : ℕ). memberAfter cable x (sender cable s) (k + lag)) (sym (f .list-at))
+      ∙ eqb-true (memberAfter cable (listOf (tableAfter start cs)) (sender cable s) (k + lag)) (speaker (tableAfter start cs)) e ∙ f .speaker-at
 
-  test-no : (c : Call) (cs : List Call) (N L s : ℕ) → Slot c cs N L → 1 ≤ s → eqb (memberAfter n (listOf (tableAfter start cs)) (sender n s) (k + lag)) (speaker (tableAfter start cs)) ≡ false
-      → memberAfter n L (sender n (s + n)) (k + lag) ≢ sender n (suc N)
+  test-no : (c : Call) (cs : List Call) (N L s : ℕ) → Slot c cs N L → 1 ≤ s → eqb (memberAfter cable (listOf (tableAfter start cs)) (sender cable s) (k + lag)) (speaker (tableAfter start cs)) ≡ false
+      → memberAfter cable L (sender cable (s + n)) (k + lag) ≢ sender cable (suc N)
   test-no c cs N L s f h e q =
-      eqb-false (memberAfter n (listOf (tableAfter start cs)) (sender n s) (k + lag)) (speaker (tableAfter start cs)) e
-      (ap (λ (x : ℕ). memberAfter n x (sender n s) (k + lag)) (f .list-at) ∙ ap (λ (x : ℕ). memberAfter n L x (k + lag)) (sym (same-sender s h)) ∙ q ∙ sym (f .speaker-at))
+      eqb-false (memberAfter cable (listOf (tableAfter start cs)) (sender cable s) (k + lag)) (speaker (tableAfter start cs)) e
+      (ap (λ (x : ℕ). memberAfter cable x (sender cable s) (k + lag)) (f .list-at) ∙ ap (λ (x : ℕ). memberAfter cable L x (k + lag)) (sym (same-sender s h)) ∙ q ∙ sym (f .speaker-at))
 
   new-status : (c : Call) (cs : List Call) (s : ℕ) → isSlot c (tableAfter start cs) ≡ true → s ≡ slotsOf (tableAfter start cs) + 1 → Status (slotsOf (tableAfter start (c ∷ cs)) + n) (s + n) (decidingRan cable start s (c ∷ cs))
   unfolding decidingRan isDeciding
@@ -196,9 +196,9 @@ module _ (G : Given) (premises : Premises (G .cable) (kept.start G) (G .all)) wh
   entry-now s = ap entryIn (past-now s) ∙ sym (entry-is start all s)
 
   stays-on : Stays cable start all
-  stays-on s f d i m = ap (λ (x : ℕ). has x (sender n s)) (member-set i m) ∙ ap (has (final .0)) (sym (same-sender s (f .0))) ∙ go (status all whole (premises .list-kept) (premises .all-heard) s (f .0) (f .1))
+  stays-on s f d i m = ap (λ (x : ℕ). has x (sender cable s)) (member-set i m) ∙ ap (has (final .0)) (sym (same-sender s (f .0))) ∙ go (status all whole (premises .list-kept) (premises .all-heard) s (f .0) (f .1))
     where
-      go : Status (slotsOf T + n) (s + n) (decidingRan cable start s all) → has (final .0) (sender n (s + n)) ≡ true
+      go : Status (slotsOf T + n) (s + n) (decidingRan cable start s all) → has (final .0) (sender cable (s + n)) ≡ true
       go (over x) = absurd (no-both x d)
       go (waiting x e ago recent w) = final .1 .kept (s + n) e ago (omega arith) .waits
           (ap (λ (y : Entry). y .listed) (entry-now s) ∙ f .2) (ap (λ (y : Entry). y .sent) (entry-now s) ∙ f .3) w
@@ -224,7 +224,7 @@ module _ (G : Given) (premises : Premises (G .cable) (kept.start G) (G .all)) wh
     unfolding isDeciding
     is-slot = both (isSlot c (tableAfter start before)) _ dg .0
 
-    leaving : has (final .0) (sender n (s + n)) ≡ false
+    leaving : has (final .0) (sender cable (s + n)) ≡ false
     unfolding AtEach
     leaving = go (status before (shorter b) (kl .0) (he .0) s (f .0) (f .1))
       where
@@ -240,15 +240,15 @@ module _ (G : Given) (premises : Premises (G .cable) (kept.start G) (G .all)) wh
         entry-then : entryIn (W .E (s + n)) ≡ entry start before s
         entry-then = ap entryIn (past-now s ∙ past-stable cable pos start begins all before (shorter b) s (f .1)) ∙ sym (entry-is start before s)
 
-        go : Status (slotsOf (tableAfter start before) + n) (s + n) (decidingRan cable start s before) → has (final .0) (sender n (s + n)) ≡ false
+        go : Status (slotsOf (tableAfter start before) + n) (s + n) (decidingRan cable start s before) → has (final .0) (sender cable (s + n)) ≡ false
         go (over x) = absurd (no-both x nd)
         go (waiting x e ago recent w) = final .1 .kept (s + n) (suc e) (omega (arith, here)) recent .dropped
             (ap (λ (y : Entry). y .listed) entry-then ∙ f .2) (ap (λ (y : Entry). y .sent) entry-then ∙ f .3)
             (deciding W (slotsOf (tableAfter start before) + n) (r .0) (r .1 .kept) (sl .enough-at) (sl .listed-at) (s + n) e (omega arith) ago recent w
             (test-yes c before _ (r .0) s sl (f .0) (sym (deciding-parts c before s is-slot (f .1)) ∙ dg)))
 
-    leaves-all : OffAll n T (sender n s)
-    leaves-all i m = ap (λ (x : ℕ). has x (sender n s)) (member-set i m) ∙ ap (has (final .0)) (sym (same-sender s (f .0))) ∙ leaving
+    leaves-all : OffAll n T (sender cable s)
+    leaves-all i m = ap (λ (x : ℕ). has x (sender cable s)) (member-set i m) ∙ ap (has (final .0)) (sym (same-sender s (f .0))) ∙ leaving
 
 -- ---- over the whole sequence
 

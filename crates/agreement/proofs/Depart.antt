@@ -13,8 +13,8 @@ use Rattle.nodeset.proofs.Laws.{has-without, has-without-other, without-lt}
 use Rattle.nodeset.proofs.Counts.{size-without}
 use Rattle.ring.specs.declared.Cable.{Cable}
 use Rattle.ring.specs.declared.Found.the-variants.{Member}
-use Rattle.ring.specs.Ring.{sender, walk, memberBefore}
-use Rattle.ring.proofs.Senders.{sender-range, sender-period, same-slot}
+use Rattle.ring.specs.Ring.{turn, sender, walk, memberBefore}
+use Rattle.ring.proofs.Senders.{turn-period, sender-range, sender-place, sender-period, same-slot}
 use Rattle.ring.proofs.Walks as walks
 use Rattle.ring.proofs.Members.{same-member}
 use Rattle.ring.proofs.Walks.{Met, walk-meets, before-is, others}
@@ -25,7 +25,7 @@ use Rattle.agreement.proofs.Marks.{no-both, not-true}
 use Rattle.agreement.proofs.Listed.{ListedSlot, other-sender, same-window}
 
 module _ (W : World) where
-  open World W using (cable, n-pos, k-two, E, fair)
+  open World W using (cable, n-pos, turns, k-two, E, fair)
   open Cable cable using (n, k, lag)
 
   -- the list after step 3: the decided member leaves if its slot was not sent
@@ -59,18 +59,18 @@ module _ (W : World) where
 
     -- the list after step 3
     abbrev pub L₁ : ℕ
-    L₁ = dropping (E (D .u) .sent) L (sender n (D .u))
+    L₁ = dropping (E (D .u) .sent) L (sender cable (D .u))
 
-    pub sender-stays : has L₁ (sender n (suc N)) ≡ true
-    sender-stays = drop-keeps (E (D .u) .sent) L (sender n (D .u)) (sender n (suc N)) onL
+    pub sender-stays : has L₁ (sender cable (suc N)) ≡ true
+    sender-stays = drop-keeps (E (D .u) .sent) L (sender cable (D .u)) (sender cable (suc N)) onL
         (λ _ p. other-sender W N (D .u) (D .e) (B .late) (omega (arith, D .ago)) (D .recent) (sym p))
 
     pub L₁-size : k + lag ≤ size n L₁
-    L₁-size = omega (arith, B .enough, drop-size (E (D .u) .sent) L (sender n (D .u)) (sender-range n n-pos (D .u) .0) (sender-range n n-pos (D .u) .1) (D .member))
+    L₁-size = omega (arith, B .enough, drop-size (E (D .u) .sent) L (sender cable (D .u)) (sender-range cable turns (D .u) .0) (sender-range cable turns (D .u) .1) (D .member))
 
     -- in the window, only slot D .u can have been dropped
-    pub not-dropped : (u e : ℕ) → u + e ≡ N → e < n → (E (D .u) .sent ≡ false → u ≢ D .u) → has L (sender n u) ≡ true → has L₁ (sender n u) ≡ true
-    not-dropped u e z h ne on = drop-keeps (E (D .u) .sent) L (sender n (D .u)) (sender n u) on
+    pub not-dropped : (u e : ℕ) → u + e ≡ N → e < n → (E (D .u) .sent ≡ false → u ≢ D .u) → has L (sender cable u) ≡ true → has L₁ (sender cable u) ≡ true
+    not-dropped u e z h ne on = drop-keeps (E (D .u) .sent) L (sender cable (D .u)) (sender cable u) on
         (λ f p. ne f (same-window W N u (D .u) e (D .e) (B .late) z (D .ago) h (omega (arith, D .recent)) (sym p)))
 
     k-new : KFact W L₁ (suc N) 0
@@ -87,7 +87,7 @@ module _ (W : World) where
       waits = λ p q r. not-dropped u e z (omega arith) (λ f y. apart y r)
           (B .kept u e z (omega arith) .waits p q (omega (arith, since-next N u e z)));
       dropped = λ p q r. leaves p q r (decLe (k + lag) (sum (lst W) (suc u) e));
-      came = λ p q. let c = B .kept u e z (omega arith) .came p (drop-sub (E (D .u) .sent) L (sender n (D .u)) (sender n u) q) in
+      came = λ p q. let c = B .kept u e z (omega arith) .came p (drop-sub (E (D .u) .sent) L (sender cable (D .u)) (sender cable u) q) in
           (c .0, omega (arith, c .1, since-next N u e z));
     }
       where
@@ -100,14 +100,14 @@ module _ (W : World) where
             let w : sum (lst W) (suc u) e ≡ sum (lst W) (suc (D .u)) (D .e) = ap (λ (q : ℕ). sum (lst W) (suc q) e) y ∙ ap (sum (lst W) (suc (D .u))) x in
             omega (arith, since-next N u e z, D .exact, one)
 
-        leaves : E u .listed ≡ true → E u .sent ≡ false → k + lag ≤ sum (lst W) (suc u) (suc e) → Dec (k + lag ≤ sum (lst W) (suc u) e) → has L₁ (sender n u) ≡ false
-        leaves p q r (yes d) = not-true (has L₁ (sender n u)) (λ y. no-both (drop-sub (E (D .u) .sent) L (sender n (D .u)) (sender n u) y) (B .kept u e z (omega arith) .dropped p q d))
+        leaves : E u .listed ≡ true → E u .sent ≡ false → k + lag ≤ sum (lst W) (suc u) (suc e) → Dec (k + lag ≤ sum (lst W) (suc u) e) → has L₁ (sender cable u) ≡ false
+        leaves p q r (yes d) = not-true (has L₁ (sender cable u)) (λ y. no-both (drop-sub (E (D .u) .sent) L (sender cable (D .u)) (sender cable u) y) (B .kept u e z (omega arith) .dropped p q d))
         leaves p q r (no d) =
             let c₁ : sum (lst W) u (suc e) ≡ k + lag = omega (arith, since-next N u e z, one, sum-first (lst W) u e, num-is p) in
             let c₂ : sum (lst W) (D .u) (suc (D .e)) ≡ k + lag = omega (arith, sum-first (lst W) (D .u) (D .e), num-is (D .listed), D .exact) in
             let y : u ≡ D .u = one-place (lst W) (k + lag) u (suc e) (D .u) (suc (D .e)) (omega (arith, D .ago)) c₁ c₂ (omega (arith, num-is p)) (omega (arith, num-is (D .listed))) in
             let f : E (D .u) .sent ≡ false = rw y at q in
-            rw (f, y) (has-without L (sender n (D .u)))
+            rw (f, y) (has-without L (sender cable (D .u)))
 
     pub k-after : K W (suc N) L₁
     k-after u zero z h = let y : u ≡ suc N = omega arith in rw y k-new
@@ -120,20 +120,20 @@ module _ (W : World) where
       pub later : w < u
       pub upto : u + e ≡ w + n
       pub some-way : 1 ≤ e
-      pub member : has L₁ (sender n u) ≡ true
-      pub alone : sum (walks.member n n-pos L₁) u e ≡ 1
-      pub it : memberBefore n L₁ (sender n w) 1 ≡ Member (sender n u) e
+      pub member : has L₁ (sender cable u) ≡ true
+      pub alone : sum (walks.member cable turns L₁) u e ≡ 1
+      pub it : memberBefore cable L₁ (sender cable w) 1 ≡ Member (sender cable u) e
 
-    pub nearest : (w : ℕ) → 1 ≤ w → has L₁ (sender n w) ≡ false → Nearest w
-    nearest w hw off = go (walk-meets n n-pos L₁ (n - 1) (suc w) 1 (omega arith) (omega arith) (omega (arith, others n n-pos L₁ (suc w) (omega arith), L₁-size, k-two, its-last)))
+    pub nearest : (w : ℕ) → 1 ≤ w → has L₁ (sender cable w) ≡ false → Nearest w
+    nearest w hw off = go (walk-meets cable turns L₁ (n - 1) (suc w) 1 (omega arith) (omega arith) (omega (arith, others cable turns L₁ (suc w) (omega arith), L₁-size, k-two, its-last)))
       where
         z : suc w + (n - 1) ≡ w + n
         z = omega (arith, n-pos)
 
-        its-last : walks.member n n-pos L₁ (suc w + (n - 1)) ≡ 0
-        its-last = ap (walks.member n n-pos L₁) z ∙ ap (λ (x : ℕ). num (has L₁ x)) (sender-period n n-pos w hw) ∙ num-isnt off
+        its-last : walks.member cable turns L₁ (suc w + (n - 1)) ≡ 0
+        its-last = ap (walks.member cable turns L₁) z ∙ ap (λ (x : ℕ). num (has L₁ x)) (sender-period cable turns w hw) ∙ num-isnt off
 
-        go : Met n n-pos L₁ (n - 1) (suc w) 1 → Nearest w
+        go : Met cable turns L₁ (n - 1) (suc w) 1 → Nearest w
         go m =
             let back : n - suc (m .u - suc w) ≡ m .e = omega (arith, m .from, m .upto, m .back, n-pos) in
             record {
@@ -144,35 +144,35 @@ module _ (W : World) where
               some-way = m .back;
               member = m .listed;
               alone = m .count;
-              it = before-is n n-pos L₁ (sender n w) 1
-                  ∙ ap (λ (x : ℕ). walk (n - 1) n L₁ x 1) (sym (sender-period n n-pos w hw) ∙ ap (sender n) (sym z)) ∙ m .found ∙ ap (Member (sender n (m .u))) back;
+              it = before-is cable turns L₁ (sender cable w) 1
+                  ∙ ap (λ (p : ℕ). walk (n - 1) cable L₁ p 1) (sender-place cable turns w ∙ sym (turn-period n n-pos w hw) ∙ ap (turn n) (sym z)) ∙ m .found ∙ ap (Member (sender cable (m .u))) back;
             }
 
     -- If slot N + 1 is that of the nearest member, then k + lag listed slots have been since w.
-    pub enough-since : (w e : ℕ) → w + e ≡ N → suc e < n → E w .outside ≡ true → has L (sender n w) ≡ false
-        → At (sender n (suc N)) (memberBefore n L₁ (sender n w) 1) → k + lag ≤ sum (lst W) (suc w) (suc e)
+    pub enough-since : (w e : ℕ) → w + e ≡ N → suc e < n → E w .outside ≡ true → has L (sender cable w) ≡ false
+        → At (sender cable (suc N)) (memberBefore cable L₁ (sender cable w) 1) → k + lag ≤ sum (lst W) (suc w) (suc e)
     enough-since w e z h out off q = go (nearest w hw off₁)
       where
         hw : 1 ≤ w
         hw = omega (arith, B .late)
 
-        off₁ : has L₁ (sender n w) ≡ false
-        off₁ = not-true (has L₁ (sender n w)) (λ y. no-both (drop-sub (E (D .u) .sent) L (sender n (D .u)) (sender n w) y) off)
+        off₁ : has L₁ (sender cable w) ≡ false
+        off₁ = not-true (has L₁ (sender cable w)) (λ y. no-both (drop-sub (E (D .u) .sent) L (sender cable (D .u)) (sender cable w) y) off)
 
         m : ℕ → ℕ
-        m = walks.member n n-pos L₁
+        m = walks.member cable turns L₁
 
         each : (q : ℕ) → suc w ≤ q → q < suc w + e → m q ≤ lst W q
-        each q a b = by-cases (has L₁ (sender n q)) yes-case (λ f. omega (arith, num-isnt f))
+        each q a b = by-cases (has L₁ (sender cable q)) yes-case (λ f. omega (arith, num-isnt f))
           where
-            yes-case : has L₁ (sender n q) ≡ true → m q ≤ lst W q
-            yes-case p = by-cases (E q .listed) (λ l. omega (arith, num-is l, num-le (has L₁ (sender n q))))
+            yes-case : has L₁ (sender cable q) ≡ true → m q ≤ lst W q
+            yes-case p = by-cases (E q .listed) (λ l. omega (arith, num-is l, num-le (has L₁ (sender cable q))))
                 (λ l. absurd (one-knock W w (q - w) q hw (omega arith) (omega arith) (omega arith) out
-                (fair q .outer (B .kept q (N - q) (omega arith) (omega arith) .came l (drop-sub (E (D .u) .sent) L (sender n (D .u)) (sender n q) p) .0) l)))
+                (fair q .outer (B .kept q (N - q) (omega arith) (omega arith) .came l (drop-sub (E (D .u) .sent) L (sender cable (D .u)) (sender cable q) p) .0) l)))
 
         go : Nearest w → k + lag ≤ sum (lst W) (suc w) (suc e)
         go r =
-            let same : r .u ≡ suc N = same-slot n n-pos (w - 1) (r .u) (suc N) (omega (arith, r .later)) (omega (arith, r .upto, r .some-way)) (omega arith) (omega arith) (same-member (sym (r .it) ∙ q .it)) in
+            let same : r .u ≡ suc N = same-slot cable turns (w - 1) (r .u) (suc N) (omega (arith, r .later)) (omega (arith, r .upto, r .some-way)) (omega arith) (omega arith) (same-member (sym (r .it) ∙ q .it)) in
             let a₁ : sum m (suc N) (r .e) ≡ 1 = rw (← same) (r .alone) in
             let a₂ : suc e + r .e ≡ n = omega (arith, r .upto) in
             let a₃ : w + suc e ≡ suc N = omega arith in

@@ -49,7 +49,7 @@ use Rattle.agreement.proofs.Kept.{Given, Run, run, slot-table, past-at}
 -- ---- one slot, from a table with the invariant
 
 module _ (W : World) where
-  open World W using (cable, n-pos, E)
+  open World W using (cable, n-pos, turns, E)
   open Cable cable using (n, k, lag)
 
   module _ (N L : ℕ) (t : Table) (lost : Bool) (missed : ℕ) (inv : TableInv W N L t) (eq : E (suc N) ≡ pastOf lost missed t)
@@ -61,17 +61,17 @@ module _ (W : World) where
     abbrev heard : ℕ → Reading
     heard i = hd W N L t lost missed inv eq enough hears good below i
 
-    record-before : (i : ℕ) → 1 ≤ i → i ≤ n → recordOf (tableBy ruleBefore lost missed t) i ≡ readIn 1 (recordOf t i .state) (sender n (suc N)) (heard i) (counted (recordOf t i))
+    record-before : (i : ℕ) → 1 ≤ i → i ≤ n → recordOf (tableBy ruleBefore lost missed t) i ≡ readIn 1 (recordOf t i .state) (sender cable (suc N)) (heard i) (counted (recordOf t i))
     record-before i h l =
         record-each (λ i v. slotBy ruleBefore (v .state) (speaker t) (heardBy lost missed t i) (counted v)) t i h (omega (arith, inv .len))
         ∙ ap (λ (x : ℕ). slotBy ruleBefore (recordOf t i .state) x (heardBy lost missed t i) (counted (recordOf t i))) (speaker-is W N L t lost missed inv eq enough hears good below)
-        ∙ before-read (recordOf t i .state) (sender n (suc N)) (heardBy lost missed t i) (counted (recordOf t i))
-        ∙ ap (λ (x : Reading). readIn 1 (recordOf t i .state) (sender n (suc N)) x (counted (recordOf t i))) (told-is W N L t lost missed inv eq enough hears good below i)
+        ∙ before-read (recordOf t i .state) (sender cable (suc N)) (heardBy lost missed t i) (counted (recordOf t i))
+        ∙ ap (λ (x : Reading). readIn 1 (recordOf t i .state) (sender cable (suc N)) x (counted (recordOf t i))) (told-is W N L t lost missed inv eq enough hears good below i)
 
     len-before : length (tableBy ruleBefore lost missed t) ≡ n
     len-before = length-each (λ i v. slotBy ruleBefore (v .state) (speaker t) (heardBy lost missed t i) (counted v)) t ∙ inv .len
 
-    module _ (onL : has L (sender n (suc N)) ≡ true) where
+    module _ (onL : has L (sender cable (suc N)) ≡ true) where
       -- the slot as one of a listed node
       abbrev X : ListedSlot W
       X = S W N L t lost missed inv eq enough hears good below onL
@@ -89,11 +89,11 @@ module _ (W : World) where
       -- who is on the list as the slot begins and as it ends has not left in it
       stayed : (L′ : ℕ) → Next W X L′ → (x : ℕ) → has L x ≡ true → has L′ x ≡ true → has (L₁ W X) x ≡ true
       stayed L′ (plain f e) x p q = ap (λ (y : ℕ). has y x) (sym e) ∙ q
-      stayed L′ (grown w d J e) x p q = go (ℕ-discrete (sender n w) x)
+      stayed L′ (grown w d J e) x p q = go (ℕ-discrete (sender cable w) x)
         where
-          go : Dec (sender n w ≡ x) → has (L₁ W X) x ≡ true
+          go : Dec (sender cable w ≡ x) → has (L₁ W X) x ≡ true
           go (yes y) = absurd (no-both p (ap (has L) (sym y) ∙ J .away))
-          go (no y) = sym (has-with-other (L₁ W X) (sender n w) x y) ∙ ap (λ (z : ℕ). has z x) (sym e) ∙ q
+          go (no y) = sym (has-with-other (L₁ W X) (sender cable w) x y) ∙ ap (λ (z : ℕ). has z x) (sym e) ∙ q
 
       both-stayed : (L′ : ℕ) → Next W X L′ → onBoth n L L′ ≤ size n (L₁ W X)
       unfolding onBoth size
@@ -108,11 +108,11 @@ module _ (W : World) where
           (λ q. let f : ⊥ = omega (arith, second-few W X p q, both-stayed (listOf before) (next-before ends), ap (λ (x : ℕ). onBoth n x (listOf before)) (list W N L t lost missed inv eq enough hears good below)) in absurd f))
 
     -- where nobody leaves but the member that is decided first, the slot is that of the rule before
-    pub slot-once : ((onL : has L (sender n (suc N)) ≡ true) → Once W (X onL)) → tableAfterSlot lost missed t ≡ tableBy ruleBefore lost missed t
+    pub slot-once : ((onL : has L (sender cable (suc N)) ≡ true) → Once W (X onL)) → tableAfterSlot lost missed t ≡ tableBy ruleBefore lost missed t
     slot-once once =
         same-records (tableAfterSlot lost missed t) before (len-after W N L t lost missed inv eq enough hears good below ∙ sym len-before)
         (λ i h l. let m : i ≤ n = omega (arith, len-after W N L t lost missed inv eq enough hears good below) in
-        by-cases (has L (sender n (suc N)))
+        by-cases (has L (sender cable (suc N)))
         (λ onL. node-once W N L t lost missed inv eq enough hears good below onL (once onL) i h m)
         (λ offL. node-outside W N L t lost missed inv eq enough hears good below offL i h m)
         ∙ sym (record-before i h m))

@@ -14,6 +14,7 @@ use Rattle.nodeset.proofs.Sums.{sum-none, sum-next, sum-split, sum-zero, sum-sa
 use Rattle.nodeset.proofs.Tests.{by-cases, chosen, otherwise, all}
 use Rattle.ring.specs.declared.Cable.{Cable}
 use Rattle.ring.specs.Ring.{cableFits}
+use Rattle.ring.proofs.Senders.{turns-of}
 use Rattle.ring.proofs.Ranges.{ring-size, sponsor-count, fitting}
 use Rattle.node_record.specs.States.{isMember}
 use Rattle.bench.specs.Table.{Table, recordOf, nodeCount, slotsOf, speaker}
@@ -154,6 +155,7 @@ world cable fits start begins cs few-failures one-outside =
     record {
       cable = cable;
       n-pos = omega arith;
+      turns = turns-of cable (fitting cable fits);
       n-most = r .1;
       k-two = c .0;
       k-lt = omega arith;

@@ -39,7 +39,7 @@ unfolding runFrom
 run-zero = otherwise _ _ (has-none 1)
 
 module _ (W : World) where
-  open World W using (cable, n-pos, n-most, k-two, E, fair, early, few)
+  open World W using (cable, n-pos, turns, n-most, k-two, E, fair, early, few)
   open Cable cable using (n, k, lag)
 
   -- a window begins with nothing heard, and nothing heard before
@@ -60,18 +60,18 @@ module _ (W : World) where
     pub heard-lt : l .heard < 2 ^ n
     pub last-lt : l .last < 2 ^ n
     pub own-unheard : has (l .heard) i ≡ false
-    pub heard-is : (u e : ℕ) → u + e ≡ N → e < l .done → has (l .heard) (sender n u) ≡ E u .sent
-    pub heard-only : (x : ℕ) → ((u e : ℕ) → u + e ≡ N → e < l .done → sender n u ≢ x) → has (l .heard) x ≡ false
+    pub heard-is : (u e : ℕ) → u + e ≡ N → e < l .done → has (l .heard) (sender cable u) ≡ E u .sent
+    pub heard-only : (x : ℕ) → ((u e : ℕ) → u + e ≡ N → e < l .done → sender cable u ≢ x) → has (l .heard) x ≡ false
     pub knock-shows : (u e : ℕ) → u + e ≡ N → e < l .done → E u .sent ≡ true → E u .listed ≡ false → l .shortest ≡ 0
-    pub last-is : l .last ≢ 0 → (u e : ℕ) → u + e + l .done ≡ N → e < n → (has (l .last) (sender n u) ≡ E u .sent) × (E u .sent ≡ true → E u .listed ≡ true)
+    pub last-is : l .last ≢ 0 → (u e : ℕ) → u + e + l .done ≡ N → e < n → (has (l .last) (sender cable u) ≡ E u .sent) × (E u .sent ≡ true → E u .listed ≡ true)
 
   module _ (N i : ℕ) (late : n ≤ N) (v : Node) (iv : ListeningInv W N i v) (r : Reading)
-      (hq : isHeard r ≡ E (suc N) .sent) (own : i ≡ sender n (suc N) → isHeard r ≡ false)
+      (hq : isHeard r ≡ E (suc N) .sent) (own : i ≡ sender cable (suc N) → isHeard r ≡ false)
       (knock-bits : E (suc N) .sent ≡ true → E (suc N) .listed ≡ false → bitsHeard r ≡ 0) where
     abbrev s : ℕ
-    s = sender n (suc N)
+    s = sender cable (suc N)
 
-    earlier : (u e : ℕ) → u + e ≡ N → e < v .listening .done → s ≢ sender n u
+    earlier : (u e : ℕ) → u + e ≡ N → e < v .listening .done → s ≢ sender cable u
     earlier u e z l = other-sender W N u e late (omega arith) (omega (arith, iv .short))
 
     unheard-yet : has (v .listening .heard) s ≡ false
@@ -79,7 +79,7 @@ module _ (W : World) where
 
     yes-case : (bits : ℕ) (bit : Bool) → r ≡ reading.Heard bits bit → Heard (suc N) i (overheard s (reading.Heard bits bit) (v .listening))
     yes-case bits bit it = record {
-      heard-lt = with-lt n (v .listening .heard) s (sender-range n n-pos (suc N) .1) (iv .heard-lt);
+      heard-lt = with-lt n (v .listening .heard) s (sender-range cable turns (suc N) .1) (iv .heard-lt);
       last-lt = iv .last-lt;
       own-unheard = has-with-other (v .listening .heard) s i (λ q. no-both p (own (sym q))) ∙ iv .own-unheard;
       heard-is = is;
@@ -91,15 +91,15 @@ module _ (W : World) where
         p : isHeard r ≡ true
         p = ap isHeard it
 
-        is : (u e : ℕ) → u + e ≡ suc N → e < v .listening .done + 1 → has (with (v .listening .heard) s) (sender n u) ≡ E u .sent
+        is : (u e : ℕ) → u + e ≡ suc N → e < v .listening .done + 1 → has (with (v .listening .heard) s) (sender cable u) ≡ E u .sent
         is u zero z l =
             let y : u ≡ suc N = omega arith in
-            rw y (has-with (v .listening .heard) s (sender-range n n-pos (suc N) .0) (omega (arith, sender-range n n-pos (suc N), n-most)) ∙ sym p ∙ hq)
+            rw y (has-with (v .listening .heard) s (sender-range cable turns (suc N) .0) (omega (arith, sender-range cable turns (suc N), n-most)) ∙ sym p ∙ hq)
         is u (suc e) z l =
             let ago : u + e ≡ N = omega arith in
-            has-with-other (v .listening .heard) s (sender n u) (earlier u e ago (omega arith)) ∙ iv .heard-is u e ago (omega arith)
+            has-with-other (v .listening .heard) s (sender cable u) (earlier u e ago (omega arith)) ∙ iv .heard-is u e ago (omega arith)
 
-        only : (x : ℕ) → ((u e : ℕ) → u + e ≡ suc N → e < v .listening .done + 1 → sender n u ≢ x) → has (with (v .listening .heard) s) x ≡ false
+        only : (x : ℕ) → ((u e : ℕ) → u + e ≡ suc N → e < v .listening .done + 1 → sender cable u ≢ x) → has (with (v .listening .heard) s) x ≡ false
         only x f = has-with-other (v .listening .heard) s x (f (suc N) 0 (omega arith) (omega arith)) ∙ iv .heard-only x (λ u e z l. f u (suc e) (omega arith) (omega arith))
 
         shows : (u e : ℕ) → u + e ≡ suc N → e < v .listening .done + 1 → E u .sent ≡ true → E u .listed ≡ false → min (v .listening .shortest) (run bits) ≡ 0
@@ -120,11 +120,11 @@ module _ (W : World) where
       last-is = λ nz u e z l. iv .last-is nz u e (omega arith) l;
     }
       where
-        is : (u e : ℕ) → u + e ≡ suc N → e < v .listening .done + 1 → has (v .listening .heard) (sender n u) ≡ E u .sent
+        is : (u e : ℕ) → u + e ≡ suc N → e < v .listening .done + 1 → has (v .listening .heard) (sender cable u) ≡ E u .sent
         is u zero z l = let y : u ≡ suc N = omega arith in rw y (unheard-yet ∙ sym p ∙ hq)
         is u (suc e) z l = iv .heard-is u e (omega arith) (omega arith)
 
-        only : (x : ℕ) → ((u e : ℕ) → u + e ≡ suc N → e < v .listening .done + 1 → sender n u ≢ x) → has (v .listening .heard) x ≡ false
+        only : (x : ℕ) → ((u e : ℕ) → u + e ≡ suc N → e < v .listening .done + 1 → sender cable u ≢ x) → has (v .listening .heard) x ≡ false
         only x f = iv .heard-only x (λ u e z l. f u (suc e) (omega arith) (omega arith))
 
         shows : (u e : ℕ) → u + e ≡ suc N → e < v .listening .done + 1 → E u .sent ≡ true → E u .listed ≡ false → v .listening .shortest ≡ 0
@@ -157,7 +157,7 @@ module _ (W : World) where
 
     -- the end of a window, with the list at that slot's end
     module _ (l : Window) (hd : Heard (suc N) i l) (whole : l .done ≡ n) (cl : clean cable l ≡ true) (L′ : ℕ) (κ : K W (suc N) L′) (enough : k + lag < size n L′) where
-      heard-at : (u e : ℕ) → u + e ≡ suc N → e < n → has (l .heard) (sender n u) ≡ E u .sent
+      heard-at : (u e : ℕ) → u + e ≡ suc N → e < n → has (l .heard) (sender cable u) ≡ E u .sent
       heard-at u e z h = hd .heard-is u e z (omega arith)
 
       -- each member of the list was heard or has failed, and fewer than k have
@@ -167,19 +167,19 @@ module _ (W : World) where
           omega (
             arith,
             enough,
-            size-round n n-pos L′ a,
-            size-round n n-pos (l .heard) a,
-            sum-le (λ u. num (has L′ (sender n u))) (λ u. num (has (l .heard) (sender n u)) + E u .failures) (suc a) n (λ u p q. each u (suc N - u) (omega (arith, q, late)) (omega (arith, p, late))),
-            sum-add (λ u. num (has (l .heard) (sender n u))) (λ u. E u .failures) (suc a) n,
+            size-round cable turns L′ a,
+            size-round cable turns (l .heard) a,
+            sum-le (λ u. num (has L′ (sender cable u))) (λ u. num (has (l .heard) (sender cable u)) + E u .failures) (suc a) n (λ u p q. each u (suc N - u) (omega (arith, q, late)) (omega (arith, p, late))),
+            sum-add (λ u. num (has (l .heard) (sender cable u))) (λ u. E u .failures) (suc a) n,
             few a,
           )
         where
-          each : (u e : ℕ) → u + e ≡ suc N → e < n → num (has L′ (sender n u)) ≤ num (has (l .heard) (sender n u)) + E u .failures
+          each : (u e : ℕ) → u + e ≡ suc N → e < n → num (has L′ (sender cable u)) ≤ num (has (l .heard) (sender cable u)) + E u .failures
           each u e z h = by-cases (E u .sent)
-              (λ p. omega (arith, num-is (heard-at u e z h ∙ p), num-le (has L′ (sender n u))))
+              (λ p. omega (arith, num-is (heard-at u e z h ∙ p), num-le (has L′ (sender cable u))))
               (λ p. by-cases (E u .listed)
-              (λ q. omega (arith, fair u .unsent p q, num-le (has L′ (sender n u))))
-              (λ q. omega (arith, num-isnt (not-true (has L′ (sender n u)) (λ on. no-both (κ u e z h .came q on .0) p)))))
+              (λ q. omega (arith, fair u .unsent p q, num-le (has L′ (sender cable u))))
+              (λ q. omega (arith, num-isnt (not-true (has L′ (sender cable u)) (λ on. no-both (κ u e z h .came q on .0) p)))))
 
       -- so that the run of a knock is too short
       some-run : 1 ≤ l .shortest
@@ -204,13 +204,13 @@ module _ (W : World) where
       }
 
       module _ (κ′ : K′ W (suc N)) (small : L′ < 2 ^ n) (same : l .last ≡ l .heard) where
-        at-slot : (u e : ℕ) → u + e ≡ suc N → e < n → has (l .heard) (sender n u) ≡ has L′ (sender n u)
+        at-slot : (u e : ℕ) → u + e ≡ suc N → e < n → has (l .heard) (sender cable u) ≡ has L′ (sender cable u)
         at-slot u e z h = by-cases (E u .sent) sent-case unsent-case
           where
             f : KFact W L′ u e
             f = κ u e z h
 
-            sent-case : E u .sent ≡ true → has (l .heard) (sender n u) ≡ has L′ (sender n u)
+            sent-case : E u .sent ≡ true → has (l .heard) (sender cable u) ≡ has L′ (sender cable u)
             sent-case p = heard-at u e z h ∙ p ∙ sym (f .spoke (all-listed u e z h p) p)
 
             twice : E u .sent ≡ false → E u .listed ≡ true → Dec (u ≤ n) → ⊥
@@ -219,19 +219,19 @@ module _ (W : World) where
                 let w : ℕ = u - n in
                 let x : w + n ≡ u = omega arith in
                 let w-sent : E w .sent ≡ true = κ′ w e (omega arith) h (rw x q) in
-                let sw : sender n u ≡ sender n w = ap (sender n) (sym x) ∙ sender-period n n-pos w (omega arith) in
-                let had : has (l .last) (sender n w) ≡ true = hd .last-is (λ b. nonzero (sym same ∙ b)) w e (omega arith) h .0 ∙ w-sent in
-                let had′ : has (l .heard) (sender n u) ≡ true = ap (has (l .heard)) sw ∙ ap (λ (b : ℕ). has b (sender n w)) (sym same) ∙ had in
+                let sw : sender cable u ≡ sender cable w = ap (sender cable) (sym x) ∙ sender-period cable turns w (omega arith) in
+                let had : has (l .last) (sender cable w) ≡ true = hd .last-is (λ b. nonzero (sym same ∙ b)) w e (omega arith) h .0 ∙ w-sent in
+                let had′ : has (l .heard) (sender cable u) ≡ true = ap (has (l .heard)) sw ∙ ap (λ (b : ℕ). has b (sender cable w)) (sym same) ∙ had in
                 no-both had′ (heard-at u e z h ∙ p)
 
-            unsent-case : E u .sent ≡ false → has (l .heard) (sender n u) ≡ has L′ (sender n u)
-            unsent-case p = heard-at u e z h ∙ p ∙ sym (not-true (has L′ (sender n u)) (λ on.
+            unsent-case : E u .sent ≡ false → has (l .heard) (sender cable u) ≡ has L′ (sender cable u)
+            unsent-case p = heard-at u e z h ∙ p ∙ sym (not-true (has L′ (sender cable u)) (λ on.
                 by-cases (E u .listed) (λ q. twice p q (decLe u n)) (λ q. no-both (f .came q on .0) p)))
 
         set-is : l .heard ≡ L′
-        set-is = set-ext n (l .heard) L′ (hd .heard-lt) small (λ x a b. go x (its-slot n n-pos (suc N - n) x a b))
+        set-is = set-ext n (l .heard) L′ (hd .heard-lt) small (λ x a b. go x (its-slot cable turns (suc N - n) x a b))
           where
-            go : (x : ℕ) → (u : ℕ) × (suc N - n < u) × (u ≤ suc N - n + n) × (sender n u ≡ x) → has (l .heard) x ≡ has L′ x
+            go : (x : ℕ) → (u : ℕ) × (suc N - n < u) × (u ≤ suc N - n + n) × (sender cable u ≡ x) → has (l .heard) x ≡ has L′ x
             go x r =
                 let e : ℕ = suc N - r .0 in
                 rw (r .3) at (at-slot (r .0) e (omega (arith, r .2)) (omega (arith, r .1)))

@@ -11,7 +11,7 @@ use Rattle.nodeset.proofs.Sums.{sum-next, sum-first, sum-add, sum-split, sum-at
 use Rattle.ring.specs.declared.Cable.{Cable}
 use Rattle.ring.specs.declared.Found.the-variants.{Member}
 use Rattle.ring.specs.Ring.{sender, memberBefore, sponsors, sponsored, decided}
-use Rattle.ring.proofs.Senders.{sender-range, round}
+use Rattle.ring.proofs.Senders.{Turns, sender-range, round}
 use Rattle.ring.proofs.Walks as walks
 use Rattle.ring.proofs.Members.{sponsored-before, decided-before}
 use Rattle.agreement.proofs.Past.{Past, noPast}
@@ -55,6 +55,7 @@ pub record Fair (n : ℕ) (e : Past) : Type 0 where
 pub record World : Type 0 where
   pub cable : Cable
   pub n-pos : 1 ≤ cable .n
+  pub turns : Turns cable
   pub n-most : cable .n ≤ 32
   pub k-two : 2 ≤ cable .k
   pub k-lt : cable .k + cable .lag < cable .n
@@ -71,19 +72,19 @@ pub num-isnt : {b : Bool} → b ≡ false → num b ≡ 0
 num-isnt e = ap num e
 
 module _ (W : World) where
-  open World W using (cable, n-pos, n-most, k-two, E, fair, few, once)
+  open World W using (cable, n-pos, turns, n-most, k-two, E, fair, few, once)
   open Cable cable using (n, k, lag)
 
   -- senders are among the 32 nodes that a set can hold
-  pub sender-most : (u : ℕ) → sender n u ≤ 32
-  sender-most u = omega (arith, sender-range n n-pos u, n-most)
+  pub sender-most : (u : ℕ) → sender cable u ≤ 32
+  sender-most u = omega (arith, sender-range cable turns u, n-most)
 
   abbrev pub lst : ℕ → ℕ
   lst q = num (E q .listed)
 
   -- nobody told those who missed slot u what it was, up to slot N; the senders of the first `lag` listed slots after u do not sponsor its sender
   abbrev pub Untold : ℕ → ℕ → Type 0
-  Untold u N = (t d : ℕ) → suc u + d ≡ t → t ≤ N → lag ≤ sum lst (suc u) d → lst t ≤ E t .failures + num (E u .missed (sender n t))
+  Untold u N = (t d : ℕ) → suc u + d ≡ t → t ≤ N → lag ≤ sum lst (suc u) d → lst t ≤ E t .failures + num (E u .missed (sender cable t))
 
   abbrev pub failed : ℕ → ℕ
   failed q = E q .failures
@@ -93,7 +94,7 @@ module _ (W : World) where
 
   pub told-failures : (u e : ℕ) → e < n → Untold u (u + e) → sum lst (suc u) e ≤ lag + sum failed u (suc e)
   told-failures u e he un =
-      told n lag (sender n) lst failed (λ q x. num (E q .missed x)) u e he (λ q. num-le (E q .listed)) un (omega (arith, round n n-pos (λ x. num (E u .missed x)) u, fair u .count))
+      told n lag (sender cable) lst failed (λ q x. num (E q .missed x)) u e he (λ q. num-le (E q .listed)) un (omega (arith, round cable turns (λ x. num (E u .missed x)) u, fair u .count))
 
   pub told-in-time : (u e : ℕ) → 1 ≤ u → e < n → Untold u (u + e) → sum lst (suc u) e < k + lag
   told-in-time u e hu he un =
@@ -113,30 +114,30 @@ module _ (W : World) where
 
   -- what the list says of the sender of slot u, e slots ago
   pub record KFact (L u e : ℕ) : Type 0 where
-    pub spoke : E u .listed ≡ true → E u .sent ≡ true → has L (sender n u) ≡ true
-    pub waits : E u .listed ≡ true → E u .sent ≡ false → sum lst (suc u) e < k + lag → has L (sender n u) ≡ true
-    pub dropped : E u .listed ≡ true → E u .sent ≡ false → k + lag ≤ sum lst (suc u) e → has L (sender n u) ≡ false
-    pub came : E u .listed ≡ false → has L (sender n u) ≡ true → (E u .sent ≡ true) × (k + lag ≤ sum lst (suc u) e)
+    pub spoke : E u .listed ≡ true → E u .sent ≡ true → has L (sender cable u) ≡ true
+    pub waits : E u .listed ≡ true → E u .sent ≡ false → sum lst (suc u) e < k + lag → has L (sender cable u) ≡ true
+    pub dropped : E u .listed ≡ true → E u .sent ≡ false → k + lag ≤ sum lst (suc u) e → has L (sender cable u) ≡ false
+    pub came : E u .listed ≡ false → has L (sender cable u) ≡ true → (E u .sent ≡ true) × (k + lag ≤ sum lst (suc u) e)
 
   abbrev pub K : ℕ → ℕ → Type 0
   K N L = (u e : ℕ) → u + e ≡ N → e < n → KFact L u e
 
   -- with fewer than k + lag listed slots since, the sender of u is on the list exactly if it was listed
-  pub near : (N L : ℕ) → K N L → (u e : ℕ) → u + e ≡ N → e < n → sum lst (suc u) e < k + lag → has L (sender n u) ≡ E u .listed
+  pub near : (N L : ℕ) → K N L → (u e : ℕ) → u + e ≡ N → e < n → sum lst (suc u) e < k + lag → has L (sender cable u) ≡ E u .listed
   near N L κ u e z h l = go (E u .listed) (E u .sent) refl refl
     where
-      go : (a b : Bool) → E u .listed ≡ a → E u .sent ≡ b → has L (sender n u) ≡ a
+      go : (a b : Bool) → E u .listed ≡ a → E u .sent ≡ b → has L (sender cable u) ≡ a
       go true true p q = κ u e z h .spoke p q
       go true false p q = κ u e z h .waits p q l
-      go false b p q = by-cases (has L (sender n u))
+      go false b p q = by-cases (has L (sender cable u))
           (λ y. let f : ⊥ = omega (arith, κ u e z h .came p y) in absurd f)
           (λ y. y)
 
-  pub span : (N L : ℕ) → K N L → (e u : ℕ) → u + e ≡ N → e ≤ n → sum lst (suc u) e < k + lag → sum (walks.member n n-pos L) (suc u) e ≡ sum lst (suc u) e
+  pub span : (N L : ℕ) → K N L → (e u : ℕ) → u + e ≡ N → e ≤ n → sum lst (suc u) e < k + lag → sum (walks.member cable turns L) (suc u) e ≡ sum lst (suc u) e
   unfolding sum
   span N L κ zero u z h l = refl
   span N L κ (suc e) u z h l =
-      let m : ℕ → ℕ = walks.member n n-pos L in
+      let m : ℕ → ℕ = walks.member cable turns L in
       let y : suc u + e ≡ N = omega arith in
       let l′ : sum lst (suc (suc u)) e < k + lag = omega (arith, sum-first lst (suc u) e) in
       omega (
@@ -147,18 +148,18 @@ module _ (W : World) where
         ap num (near N L κ (suc u) e y (omega arith) l′),
       )
 
-  pub span-mem : (N L : ℕ) → K N L → (e u : ℕ) → u + e ≡ N → e ≤ n → sum (walks.member n n-pos L) (suc u) e < k + lag → sum (walks.member n n-pos L) (suc u) e ≡ sum lst (suc u) e
+  pub span-mem : (N L : ℕ) → K N L → (e u : ℕ) → u + e ≡ N → e ≤ n → sum (walks.member cable turns L) (suc u) e < k + lag → sum (walks.member cable turns L) (suc u) e ≡ sum lst (suc u) e
   unfolding sum
   span-mem N L κ zero u z h l = refl
   span-mem N L κ (suc e) u z h l =
-      let m : ℕ → ℕ = walks.member n n-pos L in
+      let m : ℕ → ℕ = walks.member cable turns L in
       let y : suc u + e ≡ N = omega arith in
       let r : sum m (suc (suc u)) e ≡ sum lst (suc (suc u)) e = span-mem N L κ e (suc u) y (omega arith) (omega (arith, sum-first m (suc u) e)) in
       let l′ : sum lst (suc (suc u)) e < k + lag = omega (arith, sum-first m (suc u) e) in
       omega (arith, sum-first lst (suc u) e, sum-first m (suc u) e, r, ap num (near N L κ (suc u) e y (omega arith) l′))
 
-  pub size-from : (L a : ℕ) → 1 ≤ a → sum (walks.member n n-pos L) a n ≡ size n L
-  size-from = backwards.size-from n n-pos
+  pub size-from : (L a : ℕ) → 1 ≤ a → sum (walks.member cable turns L) a n ≡ size n L
+  size-from = backwards.size-from cable turns
 
   -- after n - 1 slots k + lag listed ones have been
   pub full-round : (N L : ℕ) → K N L → k + lag < size n L → (w e : ℕ) → 1 ≤ w → w + e ≡ N → suc e ≡ n → k + lag ≤ sum lst (suc w) e
@@ -167,8 +168,8 @@ module _ (W : World) where
       go : Dec (k + lag ≤ sum lst (suc w) e) → k + lag ≤ sum lst (suc w) e
       go (yes p) = p
       go (no p) =
-          let m : ℕ → ℕ = walks.member n n-pos L in
-          let f : ⊥ = omega (arith, span N L κ e w z (omega arith) (omega arith), size-from L w hw, ap (sum m w) h, sum-first m w e, num-le (has L (sender n w))) in
+          let m : ℕ → ℕ = walks.member cable turns L in
+          let f : ⊥ = omega (arith, span N L κ e w z (omega arith) (omega arith), size-from L w hw, ap (sum m w) h, sum-first m w e, num-le (has L (sender cable w))) in
           absurd f
 
   -- ---- the walk back, on the list as the slot after N begins
@@ -179,10 +180,10 @@ module _ (W : World) where
   sponsors-are L h = omega arith
 
   abbrev pub Before : ℕ → ℕ → ℕ → Type 0
-  Before N L j = backwards.Before n n-pos N L j
+  Before N L j = backwards.Before cable turns N L j
 
   pub before : (N L j : ℕ) → n ≤ N → 1 ≤ j → j < size n L → Before N L j
-  before = backwards.before n n-pos
+  before = backwards.before cable turns
 
   -- the member that the sender of the next slot decides
   pub record Decision (N L : ℕ) : Type 0 where
@@ -191,16 +192,16 @@ module _ (W : World) where
     pub ago : u + e ≡ N
     pub recent : suc e < n
     pub listed : E u .listed ≡ true
-    pub member : has L (sender n u) ≡ true
+    pub member : has L (sender cable u) ≡ true
     pub exact : suc (sum lst (suc u) e) ≡ k + lag
-    pub it : decided cable L (sender n (suc N)) ≡ Member (sender n u) (suc e)
+    pub it : decided cable L (sender cable (suc N)) ≡ Member (sender cable u) (suc e)
 
   pub decision : (N L : ℕ) → n ≤ N → K N L → k + lag < size n L → Decision N L
   decision N L hn κ hs = go (before N L (k + lag) hn (omega (arith, k-two)) hs)
     where
       go : Before N L (k + lag) → Decision N L
       go b =
-          let m : ℕ → ℕ = walks.member n n-pos L in
+          let m : ℕ → ℕ = walks.member cable turns L in
           let c₂ : suc (sum m (suc (b .u)) (b .e)) ≡ k + lag = omega (arith, sum-first m (b .u) (b .e), num-is (b .listed), b .count) in
           let c₃ : sum m (suc (b .u)) (b .e) ≡ sum lst (suc (b .u)) (b .e) = span-mem N L κ (b .e) (b .u) (b .ago) (omega (arith, b .recent)) (omega arith) in
           record {
@@ -211,7 +212,7 @@ module _ (W : World) where
             listed = sym (near N L κ (b .u) (b .e) (b .ago) (omega (arith, b .recent)) (omega arith)) ∙ b .listed;
             member = b .listed;
             exact = omega arith;
-            it = decided-before cable L (sender n (suc N)) (omega (arith, sponsors-are L hs, k-two)) ∙ ap (λ (j : ℕ). memberBefore n L (sender n (suc N)) (j + lag)) (sponsors-are L hs) ∙ b .it;
+            it = decided-before cable L (sender cable (suc N)) (omega (arith, sponsors-are L hs, k-two)) ∙ ap (λ (j : ℕ). memberBefore cable L (sender cable (suc N)) (j + lag)) (sponsors-are L hs) ∙ b .it;
           }
 
   -- who is among the last k + lag listed senders, not among the last `lag`, and on the list is sponsored in the next slot
@@ -219,14 +220,14 @@ module _ (W : World) where
     pub j : ℕ
     pub few : j < k
     pub back : ℕ
-    pub it : sponsored cable L (sender n (suc N)) (suc j) ≡ Member (sender n u) back
+    pub it : sponsored cable L (sender cable (suc N)) (suc j) ≡ Member (sender cable u) back
 
-  pub sponsored-since : (N L : ℕ) → n ≤ N → K N L → k + lag < size n L → (u e : ℕ) → u + e ≡ N → suc e < n → has L (sender n u) ≡ true
+  pub sponsored-since : (N L : ℕ) → n ≤ N → K N L → k + lag < size n L → (u e : ℕ) → u + e ≡ N → suc e < n → has L (sender cable u) ≡ true
       → lag ≤ sum lst (suc u) e → sum lst (suc u) e < k + lag → Sponsored N L u
   sponsored-since N L hn κ hs u e z he hm past l = by (sum lst (suc u) e - lag) (omega (arith, past, span N L κ e u z (omega arith) l))
     where
       m : ℕ → ℕ
-      m = walks.member n n-pos L
+      m = walks.member cable turns L
 
       c : sum m (suc u) e ≡ sum lst (suc u) e
       c = span N L κ e u z (omega arith) l
@@ -242,5 +243,5 @@ module _ (W : World) where
                 j = j;
                 few = omega (arith, c, q);
                 back = suc (b .e);
-                it = sponsored-before cable L (sender n (suc N)) (suc j) (omega arith) (omega (arith, c, q, sponsors-are L hs)) ∙ b .it ∙ ap (λ (x : ℕ). Member (sender n x) (suc (b .e))) same;
+                it = sponsored-before cable L (sender cable (suc N)) (suc j) (omega arith) (omega (arith, c, q, sponsors-are L hs)) ∙ b .it ∙ ap (λ (x : ℕ). Member (sender cable x) (suc (b .e))) same;
               }

@@ -18,13 +18,13 @@ module _ (W : World) where
   pub record Off (N i u : ℕ) (v : Node) : Type 0 where
     pub member : isMember (v .state) ≡ true
     pub listed : E u .listed ≡ true
-    pub who : (E u .missed i ≡ true) ⊎ (i ≡ sender n u)
+    pub who : (E u .missed i ≡ true) ⊎ (i ≡ sender cable u)
     pub untold : Untold W u N
 
   -- slot u was listed and not sent: its sender is marked at nobody but itself, and there only while no member told it; it has heard no yes
   pub record Lost (N i u marks : ℕ) (heard : Bool) : Type 0 where
-    pub on : has marks (sender n u) ≡ true → (i ≡ sender n u) × Untold W u N
-    pub unsaid : i ≡ sender n u → heard ≡ false
+    pub on : has marks (sender cable u) ≡ true → (i ≡ sender cable u) × Untold W u N
+    pub unsaid : i ≡ sender cable u → heard ≡ false
 
   -- the knock that returning speaks of
   pub record Knock (N L : ℕ) (v : Node) : Type 0 where
@@ -34,19 +34,19 @@ module _ (W : World) where
     pub recent : e < n
     pub unlisted : E w .listed ≡ false
     pub outer : E w .outside ≡ true
-    pub it : sender n w ≡ v .returning
-    pub away : has L (sender n w) ≡ false
+    pub it : sender cable w ≡ v .returning
+    pub away : has L (sender cable w) ≡ false
     -- a member speaks before the node's next slot
     pub p : ℕ
     pub ahead : N < p
     pub soon : p < w + n
-    pub next : has L (sender n p) ≡ true
+    pub next : has L (sender cable p) ≡ true
     pub how : (E w .sent ≡ true) ⊎ (isKnocking (v .state) ≡ true)
 
   -- what an open knock is to node i
   pub data Awaits (N i w : ℕ) (v : Node) : Type 0 where
-    aware : v .returning ≡ sender n w → (i ≡ sender n w → (v .«return_heard» ≡ true) ⊎ Untold W w N) → Awaits N i w v
-    unaware : isMember (v .state) ≡ true → v .returning ≡ 0 → i ≢ sender n w → E w .missed i ≡ true → Untold W w N → Awaits N i w v
+    aware : v .returning ≡ sender cable w → (i ≡ sender cable w → (v .«return_heard» ≡ true) ⊎ Untold W w N) → Awaits N i w v
+    unaware : isMember (v .state) ≡ true → v .returning ≡ 0 → i ≢ sender cable w → E w .missed i ≡ true → Untold W w N → Awaits N i w v
 
   pub record Tracking (N L i : ℕ) (v : Node) : Type 0 where
     -- S and T
@@ -55,14 +55,14 @@ module _ (W : World) where
     pub own-out : isMember (v .state) ≡ false → has L i ≡ false
     -- M
     pub marks-off : (u e : ℕ) → u + e ≡ N → e < n → E u .listed ≡ true → E u .sent ≡ false → Lost N i u (v .present) (v .«yes_heard»)
-    pub marks-on : (u e : ℕ) → u + e ≡ N → e < n → E u .sent ≡ true → has L (sender n u) ≡ true → has (v .present) (sender n u) ≡ false → Off N i u v
+    pub marks-on : (u e : ℕ) → u + e ≡ N → e < n → E u .sent ≡ true → has L (sender cable u) ≡ true → has (v .present) (sender cable u) ≡ false → Off N i u v
     -- R
     pub knock : v .returning ≢ 0 → Knock N L v
-    pub open-knock : (w e : ℕ) → w + e ≡ N → e < n → E w .listed ≡ false → E w .sent ≡ true → has L (sender n w) ≡ false → Awaits N i w v
+    pub open-knock : (w e : ℕ) → w + e ≡ N → e < n → E w .listed ≡ false → E w .sent ≡ true → has L (sender cable w) ≡ false → Awaits N i w v
     pub knocking-own : isKnocking (v .state) ≡ true → v .returning ≡ i
     pub own-knocking : v .returning ≡ i → isKnocking (v .state) ≡ true
     pub quiet : isKnocking (v .state) ≡ false → v .«return_heard» ≡ false
-    pub lost-knock : isKnocking (v .state) ≡ true → (w e : ℕ) → w + e ≡ N → e < n → sender n w ≡ i → E w .sent ≡ false → v .«return_heard» ≡ false
+    pub lost-knock : isKnocking (v .state) ≡ true → (w e : ℕ) → w + e ≡ N → e < n → sender cable w ≡ i → E w .sent ≡ false → v .«return_heard» ≡ false
 
   -- Q
   pub record ListeningInv (N i : ℕ) (v : Node) : Type 0 where
@@ -70,7 +70,7 @@ module _ (W : World) where
     pub heard-lt : v .listening .heard < 2 ^ n
     pub last-lt : v .listening .last < 2 ^ n
     pub own-unheard : has (v .listening .heard) i ≡ false
-    pub heard-is : (u e : ℕ) → u + e ≡ N → e < v .listening .done → has (v .listening .heard) (sender n u) ≡ E u .sent
-    pub heard-only : (x : ℕ) → ((u e : ℕ) → u + e ≡ N → e < v .listening .done → sender n u ≢ x) → has (v .listening .heard) x ≡ false
+    pub heard-is : (u e : ℕ) → u + e ≡ N → e < v .listening .done → has (v .listening .heard) (sender cable u) ≡ E u .sent
+    pub heard-only : (x : ℕ) → ((u e : ℕ) → u + e ≡ N → e < v .listening .done → sender cable u ≢ x) → has (v .listening .heard) x ≡ false
     pub knock-shows : (u e : ℕ) → u + e ≡ N → e < v .listening .done → E u .sent ≡ true → E u .listed ≡ false → v .listening .shortest ≡ 0
-    pub last-is : v .listening .last ≢ 0 → (u e : ℕ) → u + e + v .listening .done ≡ N → e < n → (has (v .listening .last) (sender n u) ≡ E u .sent) × (E u .sent ≡ true → E u .listed ≡ true)
+    pub last-is : v .listening .last ≢ 0 → (u e : ℕ) → u + e + v .listening .done ≡ N → e < n → (has (v .listening .last) (sender cable u) ≡ E u .sent) × (E u .sent ≡ true → E u .listed ≡ true)

@@ -30,7 +30,7 @@ use Rattle.agreement.proofs.Depart.{drop-sub, L₁, sender-stays, not-d
 use Rattle.agreement.proofs.Returns.{joins-yes, joins-if, not-member, same-knock, Stays, member-stays, outsider-stays, awaits-after, lost-after, quiet-after}
 
 module _ (W : World) where
-  open World W using (cable, n-pos, n-most, E, fair)
+  open World W using (cable, n-pos, turns, n-most, E, fair)
   open Cable cable using (n, k, lag)
 
   module _ (S : ListedSlot W) where
@@ -46,19 +46,19 @@ module _ (W : World) where
       pub recent : suc e < n
       pub unlisted : E w .listed ≡ false
       pub sent : E w .sent ≡ true
-      pub away : has L (sender n w) ≡ false
+      pub away : has L (sender cable w) ≡ false
       pub since : k + lag ≤ sum (lst W) (suc w) (suc e)
-      pub near : At (sender n (suc N)) (memberBefore n A (sender n w) 1)
+      pub near : At (sender cable (suc N)) (memberBefore cable A (sender cable w) 1)
 
     pub data Next (L′ : ℕ) : Type 0 where
       plain : ((w e : ℕ) → Joining w e → ⊥) → L′ ≡ A → Next L′
-      grown : (w e : ℕ) → Joining w e → L′ ≡ with A (sender n w) → Next L′
+      grown : (w e : ℕ) → Joining w e → L′ ≡ with A (sender cable w) → Next L′
 
     module _ (T : Hearer W (S .N) (S .L)) where
       open Hearer T using (r, i, i-pos, i-le, v, vc, iv)
 
       abbrev s : ℕ
-      s = sender n (suc N)
+      s = sender cable (suc N)
 
       abbrev pub v₁ : Node
       v₁ = readMarked s r v
@@ -67,22 +67,22 @@ module _ (W : World) where
       knock-recent : (κ : Knock W N L v) → suc (κ .e) < n
       knock-recent κ = omega (arith, κ .ahead, κ .soon, κ .ago)
 
-      away₁ : (w : ℕ) → has L (sender n w) ≡ false → has A (sender n w) ≡ false
-      away₁ w f = not-true (has A (sender n w)) (λ y. no-both (drop-sub W (E (D .u) .sent) L (sender n (D .u)) (sender n w) y) f)
+      away₁ : (w : ℕ) → has L (sender cable w) ≡ false → has A (sender cable w) ≡ false
+      away₁ w f = not-true (has A (sender cable w)) (λ y. no-both (drop-sub W (E (D .u) .sent) L (sender cable (D .u)) (sender cable w) y) f)
 
       -- off the list after step 3, and never listed: it was off before
-      was-away : (w e : ℕ) → w + e ≡ N → e < n → E w .listed ≡ false → has A (sender n w) ≡ false → has L (sender n w) ≡ false
-      was-away w e z l u f = not-true (has L (sender n w)) (λ y. no-both (not-dropped W S w e z l (λ _ q. no-both (D .listed) (rw (← q) u)) y) f)
+      was-away : (w e : ℕ) → w + e ≡ N → e < n → E w .listed ≡ false → has A (sender cable w) ≡ false → has L (sender cable w) ≡ false
+      was-away w e z l u f = not-true (has L (sender cable w)) (λ y. no-both (not-dropped W S w e z l (λ _ q. no-both (D .listed) (rw (← q) u)) y) f)
 
       the-nearest : (κ : Knock W N L v) → Nearest W S (κ .w)
       the-nearest κ = nearest W S (κ .w) (omega (arith, κ .ago, κ .recent, B .late)) (away₁ (κ .w) (κ .away))
 
       -- the nearest member before the returning node, where that is the sender of w
-      nearest-is : (w : ℕ) → v .returning ≡ sender n w → memberBefore (v .cable .n) A (v .returning) 1 ≡ memberBefore n A (sender n w) 1
-      nearest-is w q = ap₂ (λ (c : Cable) (x : ℕ). memberBefore (c .n) A x 1) vc q
+      nearest-is : (w : ℕ) → v .returning ≡ sender cable w → memberBefore (v .cable) A (v .returning) 1 ≡ memberBefore cable A (sender cable w) 1
+      nearest-is w q = ap₂ (λ (c : Cable) (x : ℕ). memberBefore c A x 1) vc q
 
-      joins-at : (w : ℕ) → v .returning ≡ sender n w → At s (memberBefore n A (sender n w) 1) → joins s (withSet A v₁) ≡ true
-      joins-at w q a = joins-if s (withSet A v₁) (λ z. omega (arith, sender-range n n-pos w)) (record { back = a .back; it = nearest-is w q ∙ a .it })
+      joins-at : (w : ℕ) → v .returning ≡ sender cable w → At s (memberBefore cable A (sender cable w) 1) → joins s (withSet A v₁) ≡ true
+      joins-at w q a = joins-if s (withSet A v₁) (λ z. omega (arith, sender-range cable turns w)) (record { back = a .back; it = nearest-is w q ∙ a .it })
 
       knock-kept : joins s (withSet A v₁) ≡ false → Knock W N L v → Knock W (suc N) A (withSet A v₁)
       knock-kept j κ = go (the-nearest κ)
@@ -105,11 +105,11 @@ module _ (W : World) where
           }
             where
               ne : t .u ≢ suc N
-              ne q = no-both (joins-at (κ .w) (sym (κ .it)) (record { back = t .e; it = t .it ∙ ap (λ (x : ℕ). found.Member (sender n x) (t .e)) q })) j
+              ne q = no-both (joins-at (κ .w) (sym (κ .it)) (record { back = t .e; it = t .it ∙ ap (λ (x : ℕ). found.Member (sender cable x) (t .e)) q })) j
 
               not-before : t .u < suc N → ⊥
               not-before l =
-                  let f : ℕ → ℕ = walks.member n n-pos A in
+                  let f : ℕ → ℕ = walks.member cable turns A in
                   let d : ℕ = κ .w + n - suc N in
                   omega (
                     arith,
@@ -136,7 +136,7 @@ module _ (W : World) where
         own-in = member-stays W S T ne;
         own-out = outsider-stays W S T;
         marks-off = off-after W S T;
-        marks-on = λ u e z l p q off. off-at (withSet A v₁) refl u (on-after W S T u e z l p (drop-sub W (E (D .u) .sent) L (sender n (D .u)) (sender n u) q) off);
+        marks-on = λ u e z l p q off. off-at (withSet A v₁) refl u (on-after W S T u e z l p (drop-sub W (E (D .u) .sent) L (sender cable (D .u)) (sender cable u) q) off);
         knock = λ nz. knock-kept j (iv .knock nz);
         open-knock = opened;
         knocking-own = iv .knocking-own;
@@ -149,14 +149,14 @@ module _ (W : World) where
           copy w (aware q f) = aware q f
           copy w (unaware q f g x un) = unaware q f g x un
 
-          opened : (w e : ℕ) → w + e ≡ suc N → e < n → E w .listed ≡ false → E w .sent ≡ true → has A (sender n w) ≡ false → Awaits W (suc N) i w (withSet A v₁)
+          opened : (w e : ℕ) → w + e ≡ suc N → e < n → E w .listed ≡ false → E w .sent ≡ true → has A (sender cable w) ≡ false → Awaits W (suc N) i w (withSet A v₁)
           opened w zero z l a b c = let y : w ≡ suc N = omega arith in absurd (no-both lT (rw (← y) a))
           opened w (suc e) z l a b c =
               let ago : w + e ≡ N = omega arith in
               copy w (awaits-after W S T ok w e ago (omega arith) a b (was-away w e ago (omega arith) a c))
 
       -- the joining node is known to all
-      pub joining-known : readReturn r v ≡ false → (w e : ℕ) → Joining w e → (v .returning ≡ sender n w) × (i ≡ sender n w → readHeard r v ≡ true)
+      pub joining-known : readReturn r v ≡ false → (w e : ℕ) → Joining w e → (v .returning ≡ sender cable w) × (i ≡ sender cable w → readHeard r v ≡ true)
       joining-known ok w e J = go (awaits-after W S T ok w e (J .ago) (omega (arith, J .recent)) (J .unlisted) (J .sent) (J .away))
         where
           never : Untold W w (suc N) → ⊥
@@ -169,7 +169,7 @@ module _ (W : World) where
           answered-it (inl p) = p
           answered-it (inr un) = absurd (never un)
 
-          go : Awaits W (suc N) i w v₁ → (v .returning ≡ sender n w) × (i ≡ sender n w → readHeard r v ≡ true)
+          go : Awaits W (suc N) i w v₁ → (v .returning ≡ sender cable w) × (i ≡ sender cable w → readHeard r v ≡ true)
           go (aware q f) = (q, λ y. answered-it (f y))
           go (unaware q f g x un) = absurd (never un)
 
@@ -177,7 +177,7 @@ module _ (W : World) where
       joining-from : joins s (withSet A v₁) ≡ true → (κ : Knock W N L v) → E (κ .w) .sent ≡ true → Joining (κ .w) (κ .e)
       joining-from j κ sent =
           let yes = joins-yes s (withSet A v₁) j .1 in
-          let at-s : At s (memberBefore n A (sender n (κ .w)) 1) = record { back = yes .back; it = sym (nearest-is (κ .w) (sym (κ .it))) ∙ yes .it } in
+          let at-s : At s (memberBefore cable A (sender cable (κ .w)) 1) = record { back = yes .back; it = sym (nearest-is (κ .w) (sym (κ .it))) ∙ yes .it } in
           record {
             ago = κ .ago;
             recent = knock-recent κ;
@@ -205,7 +205,7 @@ module _ (W : World) where
         own-in = λ q. absurd (false≢true q);
         own-out = λ _. outsider-stays W S T nm;
         marks-off = off-after W S T;
-        marks-on = λ u e z l p q off. absurd (no-both (on-after W S T u e z l p (drop-sub W (E (D .u) .sent) L (sender n (D .u)) (sender n u) q) off .member) nm);
+        marks-on = λ u e z l p q off. absurd (no-both (on-after W S T u e z l p (drop-sub W (E (D .u) .sent) L (sender cable (D .u)) (sender cable u) q) off .member) nm);
         knock = λ nz. absurd (nz refl);
         open-knock = λ w e z l a b c. absurd (none-open (iv .knock (joins-yes s (withSet A v₁) j .0)) w e z l a b);
         knocking-own = λ q. absurd (false≢true q);
@@ -223,37 +223,37 @@ module _ (W : World) where
               no-both b (rw (← same) (unanswered ok j kn f κ))
 
       -- the marks and the open knocks after a joining
-      module _ (w e : ℕ) (J : Joining w e) (it : v .returning ≡ sender n w) where
+      module _ (w e : ℕ) (J : Joining w e) (it : v .returning ≡ sender cable w) where
         ago′ : w + suc e ≡ suc N
         ago′ = omega (arith, J .ago)
 
         off-grown : (u d : ℕ) → u + d ≡ suc N → d < n → E u .listed ≡ true → E u .sent ≡ false → Lost W (suc N) i u (with (marksAfter s r v) (v .returning)) (yesAfter s r v)
         off-grown u d z l p q =
-            let ne : sender n w ≢ sender n u = λ y. no-both (rw (same-window W (suc N) u w d (suc e) (omega (arith, B .late)) z ago′ l (J .recent) (sym y)) at p) (J .unlisted) in
+            let ne : sender cable w ≢ sender cable u = λ y. no-both (rw (same-window W (suc N) u w d (suc e) (omega (arith, B .late)) z ago′ l (J .recent) (sym y)) at p) (J .unlisted) in
             let o = off-after W S T u d z l p q in
             record {
-              on = λ y. o .on (sym (ap (λ (x : ℕ). has (with (marksAfter s r v) x) (sender n u)) it ∙ has-with-other (marksAfter s r v) (sender n w) (sender n u) ne) ∙ y);
+              on = λ y. o .on (sym (ap (λ (x : ℕ). has (with (marksAfter s r v) x) (sender cable u)) it ∙ has-with-other (marksAfter s r v) (sender cable w) (sender cable u) ne) ∙ y);
               unsaid = o .unsaid;
             }
 
-        on-grown : (u d : ℕ) → u + d ≡ suc N → d < n → E u .sent ≡ true → has (with A (sender n w)) (sender n u) ≡ true → has (with (marksAfter s r v) (v .returning)) (sender n u) ≡ false → Off W (suc N) i u v
+        on-grown : (u d : ℕ) → u + d ≡ suc N → d < n → E u .sent ≡ true → has (with A (sender cable w)) (sender cable u) ≡ true → has (with (marksAfter s r v) (v .returning)) (sender cable u) ≡ false → Off W (suc N) i u v
         on-grown u d z l p q off =
-            let off′ : has (with (marksAfter s r v) (sender n w)) (sender n u) ≡ false = ap (λ (x : ℕ). has (with (marksAfter s r v) x) (sender n u)) (sym it) ∙ off in
-            let ne : sender n w ≢ sender n u = λ y. no-both (rw y (has-with (marksAfter s r v) (sender n u) (sender-range n n-pos u .0) (sender-most W u))) off′ in
-            let q′ : has A (sender n u) ≡ true = sym (has-with-other A (sender n w) (sender n u) ne) ∙ q in
-            let off″ : has (marksAfter s r v) (sender n u) ≡ false = sym (has-with-other (marksAfter s r v) (sender n w) (sender n u) ne) ∙ off′ in
-            on-after W S T u d z l p (drop-sub W (E (D .u) .sent) L (sender n (D .u)) (sender n u) q′) off″
+            let off′ : has (with (marksAfter s r v) (sender cable w)) (sender cable u) ≡ false = ap (λ (x : ℕ). has (with (marksAfter s r v) x) (sender cable u)) (sym it) ∙ off in
+            let ne : sender cable w ≢ sender cable u = λ y. no-both (rw y (has-with (marksAfter s r v) (sender cable u) (sender-range cable turns u .0) (sender-most W u))) off′ in
+            let q′ : has A (sender cable u) ≡ true = sym (has-with-other A (sender cable w) (sender cable u) ne) ∙ q in
+            let off″ : has (marksAfter s r v) (sender cable u) ≡ false = sym (has-with-other (marksAfter s r v) (sender cable w) (sender cable u) ne) ∙ off′ in
+            on-after W S T u d z l p (drop-sub W (E (D .u) .sent) L (sender cable (D .u)) (sender cable u) q′) off″
 
-        none-grown : (w′ d : ℕ) → w′ + d ≡ suc N → d < n → E w′ .listed ≡ false → E w′ .sent ≡ true → has (with A (sender n w)) (sender n w′) ≡ false → ⊥
+        none-grown : (w′ d : ℕ) → w′ + d ≡ suc N → d < n → E w′ .listed ≡ false → E w′ .sent ≡ true → has (with A (sender cable w)) (sender cable w′) ≡ false → ⊥
         none-grown w′ d z l a b c =
             let same : w ≡ w′ = same-knock W (suc N) w (suc e) w′ d (omega (arith, B .late)) ago′ (J .recent) z l (fair w .outer (J .sent) (J .unlisted)) (fair w′ .outer b a) in
-            no-both (rw same (has-with A (sender n w′) (sender-range n n-pos w′ .0) (sender-most W w′))) c
+            no-both (rw same (has-with A (sender cable w′) (sender-range cable turns w′ .0) (sender-most W w′))) c
 
-        joined-inv : Stays W S T → isKnocking (v .state) ≡ false → Tracking W (suc N) (with A (sender n w)) i (listedAs (v .state) (withSet A v₁))
+        joined-inv : Stays W S T → isKnocking (v .state) ≡ false → Tracking W (suc N) (with A (sender cable w)) i (listedAs (v .state) (withSet A v₁))
         joined-inv ne nk = record {
           set-is = ap (with A) it;
-          own-in = λ p. has-with-keeps A (sender n w) i i-pos (omega (arith, i-le, n-most)) (member-stays W S T ne p);
-          own-out = λ p. has-with-other A (sender n w) i (λ y. no-both (iv .own-knocking (it ∙ y)) nk) ∙ outsider-stays W S T p;
+          own-in = λ p. has-with-keeps A (sender cable w) i i-pos (omega (arith, i-le, n-most)) (member-stays W S T ne p);
+          own-out = λ p. has-with-other A (sender cable w) i (λ y. no-both (iv .own-knocking (it ∙ y)) nk) ∙ outsider-stays W S T p;
           marks-off = off-grown;
           marks-on = λ u d z l p q off. let o = on-grown u d z l p q off in record { member = o .member; listed = o .listed; who = o .who; untold = o .untold };
           knock = λ nz. absurd (nz refl);
@@ -264,10 +264,10 @@ module _ (W : World) where
           lost-knock = λ _ _ _ _ _ _ _. refl;
         }
 
-        became-inv : isKnocking (v .state) ≡ true → Tracking W (suc N) (with A (sender n w)) i (listedAs Member (withSet A v₁))
+        became-inv : isKnocking (v .state) ≡ true → Tracking W (suc N) (with A (sender cable w)) i (listedAs Member (withSet A v₁))
         became-inv kn = record {
           set-is = ap (with A) it;
-          own-in = λ p. rw (sym (iv .knocking-own kn) ∙ it) (has-with A (sender n w) (sender-range n n-pos w .0) (sender-most W w));
+          own-in = λ p. rw (sym (iv .knocking-own kn) ∙ it) (has-with A (sender cable w) (sender-range cable turns w .0) (sender-most W w));
           own-out = λ p. absurd (true≢false p);
           marks-off = off-grown;
           marks-on = λ u d z l p q off. let o = on-grown u d z l p q off in record { member = refl; listed = o .listed; who = o .who; untold = o .untold };

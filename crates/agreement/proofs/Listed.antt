@@ -27,7 +27,7 @@ use Rattle.agreement.proofs.Invariant.{Tracking, Off, Lost}
 use Rattle.agreement.proofs.Marks.{no-both, not-true, not-false, WasOff, unmarked, denied, WasOn, mark-own, mark-of-sender, off-before, on-before, yes-own, yes-before}
 
 module _ (W : World) where
-  open World W using (cable, n-pos, E, fair)
+  open World W using (cable, n-pos, turns, E, fair)
   open Cable cable using (n, k, lag)
 
   -- a slot begins
@@ -39,30 +39,30 @@ module _ (W : World) where
 
   -- what tracking node i hears of slot N + 1
   pub record Hears (N i : ℕ) (v : Node) (r : Reading) : Type 0 where
-    pub own : i ≡ sender n (suc N) → isHeard r ≡ false
+    pub own : i ≡ sender cable (suc N) → isHeard r ≡ false
     pub unsent : E (suc N) .sent ≡ false → isHeard r ≡ false
-    pub missing : isHeard r ≡ false → E (suc N) .sent ≡ true → i ≢ sender n (suc N) → (isMember (v .state) ≡ true) × (E (suc N) .missed i ≡ true)
+    pub missing : isHeard r ≡ false → E (suc N) .sent ≡ true → i ≢ sender cable (suc N) → (isMember (v .state) ≡ true) × (E (suc N) .missed i ≡ true)
 
   -- what a member says in slot N + 1
   pub record Says (N L : ℕ) (r : Reading) : Type 0 where
     pub z : Node
-    pub inv : Tracking W N L (sender n (suc N)) z
+    pub inv : Tracking W N L (sender cable (suc N)) z
     pub member : isMember (z .state) ≡ true
-    pub bits : (j x : ℕ) → j < k → At x (sponsored cable L (sender n (suc N)) (suc j)) → has (bitsHeard r) (suc j) ≡ has (z .present) x
+    pub bits : (j x : ℕ) → j < k → At x (sponsored cable L (sender cable (suc N)) (suc j)) → has (bitsHeard r) (suc j) ≡ has (z .present) x
     pub ret : returnIn r ≡ not (eqb (z .returning) 0)
 
   -- the sender of an earlier slot of the round is another
-  pub other-sender : (N u e : ℕ) → n ≤ N → u + suc e ≡ suc N → suc e < n → sender n (suc N) ≢ sender n u
-  other-sender N u e hn z h p = sender-once n n-pos u (suc e) (omega arith) (omega arith) h (ap (sender n) z ∙ p)
+  pub other-sender : (N u e : ℕ) → n ≤ N → u + suc e ≡ suc N → suc e < n → sender cable (suc N) ≢ sender cable u
+  other-sender N u e hn z h p = sender-once cable turns u (suc e) (omega arith) (omega arith) h (ap (sender cable) z ∙ p)
 
-  pub same-window : (N u v a b : ℕ) → n ≤ N → u + a ≡ N → v + b ≡ N → a < n → b < n → sender n u ≡ sender n v → u ≡ v
-  same-window N u v a b hn p q ha hb e = same-slot n n-pos (N - n) u v (omega arith) (omega arith) (omega arith) (omega arith) e
+  pub same-window : (N u v a b : ℕ) → n ≤ N → u + a ≡ N → v + b ≡ N → a < n → b < n → sender cable u ≡ sender cable v → u ≡ v
+  same-window N u v a b hn p q ha hb e = same-slot cable turns (N - n) u v (omega arith) (omega arith) (omega arith) (omega arith) e
 
   -- one slot more, which says something of u only after `lag` listed ones
-  pub extend : (N u : ℕ) → Untold W u N → ((d : ℕ) → u + d ≡ N → lag ≤ sum (lst W) (suc u) d → lst W (suc N) ≤ E (suc N) .failures + num (E u .missed (sender n (suc N)))) → Untold W u (suc N)
+  pub extend : (N u : ℕ) → Untold W u N → ((d : ℕ) → u + d ≡ N → lag ≤ sum (lst W) (suc u) d → lst W (suc N) ≤ E (suc N) .failures + num (E u .missed (sender cable (suc N)))) → Untold W u (suc N)
   extend N u un h q d y r past = go (ℕ-discrete q (suc N))
     where
-      go : Dec (q ≡ suc N) → lst W q ≤ E q .failures + num (E u .missed (sender n q))
+      go : Dec (q ≡ suc N) → lst W q ≤ E q .failures + num (E u .missed (sender cable q))
       go (yes x) = rw x (h d (omega arith) past)
       go (no x) = un q d y (omega arith) past
 
@@ -76,7 +76,7 @@ module _ (W : World) where
     pub L : ℕ  -- the list as it begins
     pub B : Begins N L
     pub lT : E (suc N) .listed ≡ true
-    pub onL : has L (sender n (suc N)) ≡ true
+    pub onL : has L (sender cable (suc N)) ≡ true
     pub D : Decision W N L  -- the member that its sender decides
 
   -- a tracking node i with the record v that reads r in slot N + 1
@@ -97,7 +97,7 @@ module _ (W : World) where
     open Hearer T using (r, says, i, i-pos, i-le, v, vc, vo, iv, h)
 
     abbrev s : ℕ
-    s = sender n (suc N)
+    s = sender cable (suc N)
 
     sponsors-is : sponsorsIn v ≡ k
     sponsors-is = ap₂ sponsors vc (iv .set-is) ∙ sponsors-are W L (B .enough)
@@ -121,13 +121,13 @@ module _ (W : World) where
 
     -- an earlier slot u of the round
     module _ (u e : ℕ) (ago : u + e ≡ N) (l : suc e < n) where
-      ne : s ≢ sender n u
+      ne : s ≢ sender cable u
       ne = other-sender N u e (B .late) (omega arith) l
 
       missed-it : E u .missed s ≡ true → lst W (suc N) ≤ E (suc N) .failures + num (E u .missed s)
       missed-it p = omega (arith, num-is p, num-le (E (suc N) .listed))
 
-      by-sender : (E u .missed s ≡ true) ⊎ (s ≡ sender n u) → lst W (suc N) ≤ E (suc N) .failures + num (E u .missed s)
+      by-sender : (E u .missed s ≡ true) ⊎ (s ≡ sender cable u) → lst W (suc N) ≤ E (suc N) .failures + num (E u .missed s)
       by-sender (inl p) = missed-it p
       by-sender (inr p) = absurd (ne p)
 
@@ -142,7 +142,7 @@ module _ (W : World) where
       extended un f = extend N u un (λ d y past. let c : d ≡ e = omega arith in f (rw c at past))
 
       -- the bit of its sender, where no member told it
-      said-of : has L (sender n u) ≡ true → Untold W u N → lag ≤ sum (lst W) (suc u) e → Sponsored W N L u
+      said-of : has L (sender cable u) ≡ true → Untold W u N → lag ≤ sum (lst W) (suc u) e → Sponsored W N L u
       said-of on un past =
           let un′ : Untold W u (u + e) = rw ago un in
           sponsored-since W N L (B .late) (B .kept) (B .enough) u e ago l on past (told-in-time W u e (omega (arith, B .late)) (omega arith) un′)
@@ -154,17 +154,17 @@ module _ (W : World) where
         was = iv .marks-off u e ago (omega arith) listed lost
 
         -- the mark of its sender is off at the sender of this slot
-        sender-off : (Z : Says N L r) → has (Z .z .present) (sender n u) ≡ false
-        sender-off Z = not-true (has (Z .z .present) (sender n u)) (λ y. ne (Z .inv .marks-off u e ago (omega arith) listed lost .on y .0))
+        sender-off : (Z : Says N L r) → has (Z .z .present) (sender cable u) ≡ false
+        sender-off Z = not-true (has (Z .z .present) (sender cable u)) (λ y. ne (Z .inv .marks-off u e ago (omega arith) listed lost .on y .0))
 
-        not-told : isHeard r ≡ true → Told true s (bitsHeard r) v (sender n u) (sponsorsIn v) → ⊥
-        not-told p t = no-both (told-mark (sender n u) (says p) t) (sender-off (says p))
+        not-told : isHeard r ≡ true → Told true s (bitsHeard r) v (sender cable u) (sponsorsIn v) → ⊥
+        not-told p t = no-both (told-mark (sender cable u) (says p) t) (sender-off (says p))
 
         -- its sender, where it hears this slot, hears a no
-        denial : isHeard r ≡ true → i ≡ sender n u → Untold W u N → lag ≤ sum (lst W) (suc u) e → Told false s (bitsHeard r) v (v .own) (sponsorsIn v)
+        denial : isHeard r ≡ true → i ≡ sender cable u → Untold W u N → lag ≤ sum (lst W) (suc u) e → Told false s (bitsHeard r) v (v .own) (sponsorsIn v)
         denial p y un past = go (says p) (said-of still un past)
           where
-            still : has L (sender n u) ≡ true
+            still : has L (sender cable u) ≡ true
             still =
                 let un′ : Untold W u (u + e) = rw ago un in
                 B .kept u e ago (omega arith) .waits listed lost (told-in-time W u e (omega (arith, B .late)) (omega arith) un′)
@@ -173,57 +173,57 @@ module _ (W : World) where
             go Z sp = record {
               i = sp .j;
               below = omega (arith, sp .few, sponsors-is);
-              bit = ap not (Z .bits (sp .j) (sender n u) (sp .few) (record { back = sp .back; it = sp .it }) ∙ sender-off Z);
+              bit = ap not (Z .bits (sp .j) (sender cable u) (sp .few) (record { back = sp .back; it = sp .it }) ∙ sender-off Z);
               it = record { back = sp .back; it = sponsored-is (suc (sp .j)) ∙ sp .it ∙ ap (λ (x : ℕ). found.Member x (sp .back)) (sym y ∙ sym vo) };
             }
 
         still-lost : Lost W (suc N) i u (marksAfter s r v) (yesAfter s r v)
-        still-lost = record { on = λ y. older (on-before s v r mute (sender n u) (sender-range n n-pos u .0) (sender-most W u) ne y); unsaid = λ y. not-true (yesAfter s r v) (λ a. said y (yes-before s v r a)) }
+        still-lost = record { on = λ y. older (on-before s v r mute (sender cable u) (sender-range cable turns u .0) (sender-most W u) ne y); unsaid = λ y. not-true (yesAfter s r v) (λ a. said y (yes-before s v r a)) }
           where
-            kept : (i ≡ sender n u) × Untold W u N → (isHeard r ≡ true → sender n u ≡ v .own → v .«yes_heard» ≡ false → Told false s (bitsHeard r) v (v .own) (sponsorsIn v) → ⊥) → (i ≡ sender n u) × Untold W u (suc N)
+            kept : (i ≡ sender cable u) × Untold W u N → (isHeard r ≡ true → sender cable u ≡ v .own → v .«yes_heard» ≡ false → Told false s (bitsHeard r) v (v .own) (sponsorsIn v) → ⊥) → (i ≡ sender cable u) × Untold W u (suc N)
             kept (y, un) f = (y, extended un (λ past. by-cases (isHeard r) (λ p. absurd (f p (sym y ∙ sym vo) (was .unsaid y) (denial p y un past))) (λ p. not-heard (λ c. ne (sym c ∙ y)) p)))
 
-            older : WasOn s r v (sender n u) → (i ≡ sender n u) × Untold W u (suc N)
+            older : WasOn s r v (sender cable u) → (i ≡ sender cable u) × Untold W u (suc N)
             older o = two (o .was)
               where
-                two : (has (v .present) (sender n u) ≡ true) ⊎ ((isHeard r ≡ true) × Told true s (bitsHeard r) v (sender n u) (sponsorsIn v)) → (i ≡ sender n u) × Untold W u (suc N)
+                two : (has (v .present) (sender cable u) ≡ true) ⊎ ((isHeard r ≡ true) × Told true s (bitsHeard r) v (sender cable u) (sponsorsIn v)) → (i ≡ sender cable u) × Untold W u (suc N)
                 two (inl a) = kept (was .on a) (o .undenied)
                 two (inr t) = absurd (not-told (t .0) (t .1))
 
-            said : i ≡ sender n u → (v .«yes_heard» ≡ true) ⊎ ((isHeard r ≡ true) × Told true s (bitsHeard r) v (v .own) (sponsorsIn v)) → ⊥
+            said : i ≡ sender cable u → (v .«yes_heard» ≡ true) ⊎ ((isHeard r ≡ true) × Told true s (bitsHeard r) v (v .own) (sponsorsIn v)) → ⊥
             said y (inl a) = no-both a (was .unsaid y)
             said y (inr t) = not-told (t .0) (subst (λ (x : ℕ). Told true s (bitsHeard r) v x (sponsorsIn v)) (vo ∙ y) (t .1))
 
       -- ---- it was sent
 
-      module _ (sent : E u .sent ≡ true) (on : has L (sender n u) ≡ true) where
-        untold-after : (isHeard r ≡ true → Told true s (bitsHeard r) v (sender n u) (sponsorsIn v) → ⊥) → Off W N i u v → lag ≤ sum (lst W) (suc u) e → lst W (suc N) ≤ E (suc N) .failures + num (E u .missed s)
+      module _ (sent : E u .sent ≡ true) (on : has L (sender cable u) ≡ true) where
+        untold-after : (isHeard r ≡ true → Told true s (bitsHeard r) v (sender cable u) (sponsorsIn v) → ⊥) → Off W N i u v → lag ≤ sum (lst W) (suc u) e → lst W (suc N) ≤ E (suc N) .failures + num (E u .missed s)
         untold-after nt o past = two (ℕ-discrete i s)
           where
-            own-case : i ≡ s → (E u .missed i ≡ true) ⊎ (i ≡ sender n u) → lst W (suc N) ≤ E (suc N) .failures + num (E u .missed s)
+            own-case : i ≡ s → (E u .missed i ≡ true) ⊎ (i ≡ sender cable u) → lst W (suc N) ≤ E (suc N) .failures + num (E u .missed s)
             own-case c (inl p) = missed-it (rw c at p)
             own-case c (inr p) = absurd (ne (sym c ∙ p))
 
             heard-with : isHeard r ≡ true → (Z : Says N L r) → Sponsored W N L u → lst W (suc N) ≤ E (suc N) .failures + num (E u .missed s)
             heard-with p Z sp =
-                let at-u : At (sender n u) (sponsored cable L s (suc (sp .j))) = record { back = sp .back; it = sp .it } in
+                let at-u : At (sender cable u) (sponsored cable L s (suc (sp .j))) = record { back = sp .back; it = sp .it } in
                 let nb : has (bitsHeard r) (suc (sp .j)) ≡ false = not-true (has (bitsHeard r) (suc (sp .j))) (λ b. nt p (record { i = sp .j; below = omega (arith, sp .few, sponsors-is); bit = b; it = record { back = sp .back; it = sponsored-is (suc (sp .j)) ∙ sp .it } })) in
-                by-sender (Z .inv .marks-on u e ago (omega arith) sent on (sym (Z .bits (sp .j) (sender n u) (sp .few) at-u) ∙ nb) .who)
+                by-sender (Z .inv .marks-on u e ago (omega arith) sent on (sym (Z .bits (sp .j) (sender cable u) (sp .few) at-u) ∙ nb) .who)
 
             two : Dec (i ≡ s) → lst W (suc N) ≤ E (suc N) .failures + num (E u .missed s)
             two (yes c) = own-case c (o .who)
             two (no c) = by-cases (isHeard r) (λ p. heard-with p (says p) (said-of on (o .untold) past)) (λ p. not-heard c p)
 
-        still-off : has (marksAfter s r v) (sender n u) ≡ false → Off W (suc N) i u v
-        still-off off = go (off-before s v r mute (sender n u) (sender-range n n-pos u .0) (sender-most W u) ne off)
+        still-off : has (marksAfter s r v) (sender cable u) ≡ false → Off W (suc N) i u v
+        still-off off = go (off-before s v r mute (sender cable u) (sender-range cable turns u .0) (sender-most W u) ne off)
           where
-            go : WasOff s r v (sender n u) → Off W (suc N) i u v
+            go : WasOff s r v (sender cable u) → Off W (suc N) i u v
             go (unmarked f nt) =
                 let o : Off W N i u v = iv .marks-on u e ago (omega arith) sent on f in
                 record { member = o .member; listed = o .listed; who = o .who; untold = extended (o .untold) (untold-after nt o) }
             go (denied p own t) = said-no (says p)
               where
-                me : i ≡ sender n u
+                me : i ≡ sender cable u
                 me = sym (own ∙ vo)
 
                 said-no : Says N L r → Off W (suc N) i u v
@@ -245,19 +245,19 @@ module _ (W : World) where
     other-own d e = d (sym (e ∙ vo))
 
     pub off-after : (u e : ℕ) → u + e ≡ suc N → e < n → E u .listed ≡ true → E u .sent ≡ false → Lost W (suc N) i u (marksAfter s r v) (yesAfter s r v)
-    off-after u zero z l p q = record { on = λ y. first y (ℕ-discrete i s); unsaid = λ y. yes-own s v r (ap (sender n) (sym now) ∙ sym y ∙ sym vo) }
+    off-after u zero z l p q = record { on = λ y. first y (ℕ-discrete i s); unsaid = λ y. yes-own s v r (ap (sender cable) (sym now) ∙ sym y ∙ sym vo) }
       where
         now : u ≡ suc N
         now = omega arith
 
-        first : has (marksAfter s r v) (sender n u) ≡ true → Dec (i ≡ s) → (i ≡ sender n u) × Untold W u (suc N)
-        first y (yes c) = (c ∙ ap (sender n) (sym now), vacuous u now)
+        first : has (marksAfter s r v) (sender cable u) ≡ true → Dec (i ≡ s) → (i ≡ sender cable u) × Untold W u (suc N)
+        first y (yes c) = (c ∙ ap (sender cable) (sym now), vacuous u now)
         first y (no c) =
-            let off : has (marksAfter s r v) s ≡ false = mark-of-sender s v r (sender-range n n-pos (suc N) .0) (sender-most W (suc N)) (other-own c) ∙ h .unsent (rw now at q) in
-            absurd (no-both y (ap (λ (x : ℕ). has (marksAfter s r v) (sender n x)) now ∙ off))
+            let off : has (marksAfter s r v) s ≡ false = mark-of-sender s v r (sender-range cable turns (suc N) .0) (sender-most W (suc N)) (other-own c) ∙ h .unsent (rw now at q) in
+            absurd (no-both y (ap (λ (x : ℕ). has (marksAfter s r v) (sender cable x)) now ∙ off))
     off-after u (suc e) z l p q = still-lost u e (omega arith) l p q
 
-    pub on-after : (u e : ℕ) → u + e ≡ suc N → e < n → E u .sent ≡ true → has L (sender n u) ≡ true → has (marksAfter s r v) (sender n u) ≡ false → Off W (suc N) i u v
+    pub on-after : (u e : ℕ) → u + e ≡ suc N → e < n → E u .sent ≡ true → has L (sender cable u) ≡ true → has (marksAfter s r v) (sender cable u) ≡ false → Off W (suc N) i u v
     on-after u zero z l p q off = rw now (new (rw now at p) (ℕ-discrete i s))
       where
         now : u ≡ suc N
@@ -267,9 +267,9 @@ module _ (W : World) where
         off-now = rw now at off
 
         new : E (suc N) .sent ≡ true → Dec (i ≡ s) → Off W (suc N) i (suc N) v
-        new sent (yes c) = absurd (no-both (mark-own s v r (sender-range n n-pos (suc N) .0) (sender-most W (suc N)) (sym c ∙ sym vo)) off-now)
+        new sent (yes c) = absurd (no-both (mark-own s v r (sender-range cable turns (suc N) .0) (sender-most W (suc N)) (sym c ∙ sym vo)) off-now)
         new sent (no c) =
-            let unheard : isHeard r ≡ false = sym (mark-of-sender s v r (sender-range n n-pos (suc N) .0) (sender-most W (suc N)) (other-own c)) ∙ off-now in
+            let unheard : isHeard r ≡ false = sym (mark-of-sender s v r (sender-range cable turns (suc N) .0) (sender-most W (suc N)) (other-own c)) ∙ off-now in
             let m = h .missing unheard sent c in
             record { member = m .0; listed = lT; who = inl (m .1); untold = vacuous (suc N) refl }
     on-after u (suc e) z l p q off = still-off u e (omega arith) l p q off

@@ -100,9 +100,9 @@ module _ (W : World) where
 
   -- a listening node
   pub listening-after : (N L L′ i : ℕ) → n ≤ N → 1 ≤ i → K W (suc N) L′ → k + lag < size n L′ → K′ W (suc N) → L′ < 2 ^ n → (v : Node) → NodeInv N L i v → isListening (v .state) ≡ true
-      → (r : Reading) → isHeard r ≡ E (suc N) .sent → (i ≡ sender n (suc N) → isHeard r ≡ false)
+      → (r : Reading) → isHeard r ≡ E (suc N) .sent → (i ≡ sender cable (suc N) → isHeard r ≡ false)
       → (E (suc N) .sent ≡ true → E (suc N) .listed ≡ false → bitsHeard r ≡ 0)
-      → NodeInv (suc N) L′ i (listeningBy (sender n (suc N)) r (counted v))
+      → NodeInv (suc N) L′ i (listeningBy (sender cable (suc N)) r (counted v))
   listening-after N L L′ i late i-pos κ enough κ′ small v nv li r hq own kb =
       go _ (listening-law W N i late (counted v) (counted-listening N i v (nv .listen li)) r hq own kb (nv .cable-is) i-pos L′ κ enough κ′ small)
     where
@@ -131,7 +131,7 @@ module _ (W : World) where
 
   -- what node i hears of the slot, whatever it is
   pub record HearsAny (N i : ℕ) (v : Node) (r : Reading) : Type 0 where
-    pub own : i ≡ sender n (suc N) → isHeard r ≡ false
+    pub own : i ≡ sender cable (suc N) → isHeard r ≡ false
     pub tracking : tracks (v .state) ≡ true → Hears W N i v r
     pub listening : isListening (v .state) ≡ true → isHeard r ≡ E (suc N) .sent
 
@@ -140,11 +140,11 @@ module _ (W : World) where
     open ListedSlot S using (N, L, B, lT, onL, D)
 
     abbrev s : ℕ
-    s = sender n (suc N)
+    s = sender cable (suc N)
 
     -- the decided member
     abbrev d : ℕ
-    d = sender n (D .u)
+    d = sender cable (D .u)
 
     module _ (r : Reading) (says : isHeard r ≡ true → Says W N L r)
         (i : ℕ) (i-pos : 1 ≤ i) (i-le : i ≤ n) (v : Node) (nv : NodeInv N L i v) (h : HearsAny N i v r) where
@@ -243,24 +243,24 @@ module _ (W : World) where
           (λ c e p. absurd (false≢true (sym (ap isMember e) ∙ p)))
 
   -- a slot outside the list
-  module _ (N L : ℕ) (B : Begins W N L) (lT : E (suc N) .listed ≡ false) (offL : has L (sender n (suc N)) ≡ false)
+  module _ (N L : ℕ) (B : Begins W N L) (lT : E (suc N) .listed ≡ false) (offL : has L (sender cable (suc N)) ≡ false)
       (i : ℕ) (i-pos : 1 ≤ i) (v : Node) (nv : NodeInv N L i v) (r : Reading) (h : HearsAny N i v r) (o : OwnSlot W N i v)
       (knock-bits : E (suc N) .sent ≡ true → bitsHeard r ≡ 0) where
-    is-outside : (tr : tracks (v .state) ≡ true) → slotByCases 1 (sender n (suc N)) r (counted v) ≡ outsideSlot (sender n (suc N)) r (counted v)
-    is-outside tr = slot-outside 1 (sender n (suc N)) r (counted v) (ap (λ (y : ℕ). has y (sender n (suc N))) (nv .track tr .set-is) ∙ offL)
+    is-outside : (tr : tracks (v .state) ≡ true) → slotByCases 1 (sender cable (suc N)) r (counted v) ≡ outsideSlot (sender cable (suc N)) r (counted v)
+    is-outside tr = slot-outside 1 (sender cable (suc N)) r (counted v) (ap (λ (y : ℕ). has y (sender cable (suc N))) (nv .track tr .set-is) ∙ offL)
 
     own-counted : OwnSlot W N i (counted v)
     own-counted = record { out = o .out; sent = o .sent }
 
-    outside-slot : (tr : tracks (v .state) ≡ true) → Like (counted v) (outsideSlot (sender n (suc N)) r (counted v)) × ((tracks (outsideSlot (sender n (suc N)) r (counted v) .state) ≡ false) ⊎ Tracking W (suc N) L i (outsideSlot (sender n (suc N)) r (counted v)))
+    outside-slot : (tr : tracks (v .state) ≡ true) → Like (counted v) (outsideSlot (sender cable (suc N)) r (counted v)) × ((tracks (outsideSlot (sender cable (suc N)) r (counted v) .state) ≡ false) ⊎ Tracking W (suc N) L i (outsideSlot (sender cable (suc N)) r (counted v)))
     unfolding outsideSlot
-    outside-slot tr = go (noted (sender n (suc N)) r (counted v)) (noted-law (sender n (suc N)) r (counted v))
+    outside-slot tr = go (noted (sender cable (suc N)) r (counted v)) (noted-law (sender cable (suc N)) r (counted v))
       where
-        go : (y : Node) → Noted (sender n (suc N)) r (counted v) y → Like (counted v) (settle false (sender n (suc N)) y) × ((tracks (settle false (sender n (suc N)) y .state) ≡ false) ⊎ Tracking W (suc N) L i (settle false (sender n (suc N)) y))
-        go y nt = two (settle false (sender n (suc N)) y) (settle-outside (sender n (suc N)) y)
+        go : (y : Node) → Noted (sender cable (suc N)) r (counted v) y → Like (counted v) (settle false (sender cable (suc N)) y) × ((tracks (settle false (sender cable (suc N)) y .state) ≡ false) ⊎ Tracking W (suc N) L i (settle false (sender cable (suc N)) y))
+        go y nt = two (settle false (sender cable (suc N)) y) (settle-outside (sender cable (suc N)) y)
           where
             b : Same (counted v) y × (isListening (y .state) ≡ false)
-            b = noted-like (sender n (suc N)) r (counted v) y (not-listening (v .state) tr) nt
+            b = noted-like (sender cable (suc N)) r (counted v) y (not-listening (v .state) tr) nt
 
             two : (x : Node) → Gone y x ⊎ (x ≡ y) → Like (counted v) x × ((tracks (x .state) ≡ false) ⊎ Tracking W (suc N) L i x)
             two x (inl g) = ((same-then (counted v) y x (b .0) (gone-like y x g .0), gone-like y x g .1), inl (gone-not y x g))
@@ -269,8 +269,8 @@ module _ (W : World) where
               inr (after-noted W N L B lT offL i i-pos (counted v) (nv .own-is) (counted-inv N L i v (nv .track tr)) r (counted-hears N i v r (h .tracking tr)) own-counted y nt),
             )
 
-    pub outside-after : K W (suc N) L → K′ W (suc N) → L < 2 ^ n → NodeInv (suc N) L i (readIn 1 (v .state) (sender n (suc N)) r (counted v))
-    outside-after κ κ′ small = by-state (NodeInv (suc N) L i) v 1 (sender n (suc N)) r
+    pub outside-after : K W (suc N) L → K′ W (suc N) → L < 2 ^ n → NodeInv (suc N) L i (readIn 1 (v .state) (sender cable (suc N)) r (counted v))
+    outside-after κ κ′ small = by-state (NodeInv (suc N) L i) v 1 (sender cable (suc N)) r
         (λ tr. rw (is-outside tr) (finish N L L i v _ nv (outside-slot tr .0) (outside-slot tr .1)))
         (λ li. listening-after N L L i (B .late) i-pos κ (B .enough) κ′ small v nv li r (h .listening li) (h .own) (λ q _. knock-bits q))
         (λ c e. out-after N L L i v nv c e)

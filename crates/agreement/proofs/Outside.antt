@@ -33,19 +33,19 @@ following-only Knocking f = absurd (false≢true f)
 following-only (Out x) f = absurd (false≢true f)
 
 module _ (W : World) where
-  open World W using (cable, n-pos, E, fair)
+  open World W using (cable, n-pos, turns, E, fair)
   open Cable cable using (n)
 
   -- the own slot of node i, outside the list
   pub record OwnSlot (N i : ℕ) (v : Node) : Type 0 where
-    pub out : i ≡ sender n (suc N) → sends v ≡ true → E (suc N) .outside ≡ true
-    pub sent : i ≡ sender n (suc N) → E (suc N) .sent ≡ true → sends v ≡ true
+    pub out : i ≡ sender cable (suc N) → sends v ≡ true → E (suc N) .outside ≡ true
+    pub sent : i ≡ sender cable (suc N) → E (suc N) .sent ≡ true → sends v ≡ true
 
-  module _ (N L : ℕ) (B : Begins W N L) (lT : E (suc N) .listed ≡ false) (offL : has L (sender n (suc N)) ≡ false)
+  module _ (N L : ℕ) (B : Begins W N L) (lT : E (suc N) .listed ≡ false) (offL : has L (sender cable (suc N)) ≡ false)
       (i : ℕ) (i-pos : 1 ≤ i) (v : Node) (vo : v .own ≡ i)
       (iv : Tracking W N L i v) (r : Reading) (h : Hears W N i v r) (o : OwnSlot N i v) where
     abbrev s : ℕ
-    s = sender n (suc N)
+    s = sender cable (suc N)
 
     free : (u : ℕ) → Untold W u N → Untold W u (suc N)
     free u un = extend W N u un (λ _ _ _. omega (arith, num-isnt lT))
@@ -59,7 +59,7 @@ module _ (W : World) where
         let o = iv .marks-off u e (omega arith) (omega arith) p q in
         record { on = λ y. (o .on y .0, free u (o .on y .1)); unsaid = o .unsaid }
 
-    on-after : (u e : ℕ) → u + e ≡ suc N → e < n → E u .sent ≡ true → has L (sender n u) ≡ true → has (v .present) (sender n u) ≡ false → Off W (suc N) i u v
+    on-after : (u e : ℕ) → u + e ≡ suc N → e < n → E u .sent ≡ true → has L (sender cable u) ≡ true → has (v .present) (sender cable u) ≡ false → Off W (suc N) i u v
     on-after u zero z l p q off = let y : u ≡ suc N = omega arith in absurd (no-both (rw y at q) offL)
     on-after u (suc e) z l p q off =
         let f = iv .marks-on u e (omega arith) (omega arith) p q off in
@@ -106,7 +106,7 @@ module _ (W : World) where
     heard-sent : isHeard r ≡ true → E (suc N) .sent ≡ true
     heard-sent p = not-false (E (suc N) .sent) (λ q. no-both p (h .unsent q))
 
-    knock-own : (κ : Knock W N L v) → sender n (κ .w) ≡ s → ⊥
+    knock-own : (κ : Knock W N L v) → sender cable (κ .w) ≡ s → ⊥
     knock-own κ e = other-sender W N (κ .w) (κ .e) (B .late) (omega (arith, κ .ago)) (knock-recent κ) (sym e)
 
     -- what does not change, with the own claim on a new open knock
@@ -125,15 +125,15 @@ module _ (W : World) where
       lost-knock = lost;
     }
       where
-        opened : (w e : ℕ) → w + e ≡ suc N → e < n → E w .listed ≡ false → E w .sent ≡ true → has L (sender n w) ≡ false → Awaits W (suc N) i w v
+        opened : (w e : ℕ) → w + e ≡ suc N → e < n → E w .listed ≡ false → E w .sent ≡ true → has L (sender cable w) ≡ false → Awaits W (suc N) i w v
         opened w zero z l a b c = let y : w ≡ suc N = omega arith in rw y (new (rw y at b))
         opened w (suc e) z l a b c = copy w (iv .open-knock w e (omega arith) (omega arith) a b c)
 
-        lost : isKnocking (v .state) ≡ true → (w e : ℕ) → w + e ≡ suc N → e < n → sender n w ≡ i → E w .sent ≡ false → v .«return_heard» ≡ false
+        lost : isKnocking (v .state) ≡ true → (w e : ℕ) → w + e ≡ suc N → e < n → sender cable w ≡ i → E w .sent ≡ false → v .«return_heard» ≡ false
         lost kn w zero z l y f =
             let x : w ≡ suc N = omega arith in
             let κ = iv .knock (λ q. let bad : ⊥ = omega (arith, iv .knocking-own kn) in bad) in
-            absurd (knock-own κ (κ .it ∙ iv .knocking-own kn ∙ sym y ∙ ap (sender n) x))
+            absurd (knock-own κ (κ .it ∙ iv .knocking-own kn ∙ sym y ∙ ap (sender cable) x))
         lost kn w (suc e) z l y f = iv .lost-knock kn w e (omega arith) (omega arith) y f
 
     at-last : Ahead W L (suc N)
@@ -175,8 +175,8 @@ module _ (W : World) where
         out : E (suc N) .outside ≡ true
         out = fair (suc N) .outer sent lT
 
-        opened : (w e : ℕ) → w + e ≡ suc N → e < n → E w .listed ≡ false → E w .sent ≡ true → has L (sender n w) ≡ false → Awaits W (suc N) i w (withReturning (v .state) s v)
-        opened w zero z l a b c = let y : w ≡ suc N = omega arith in aware (ap (sender n) (sym y)) (λ q. absurd (ne (ap (sender n) (sym y) ∙ sym q ∙ sym vo)))
+        opened : (w e : ℕ) → w + e ≡ suc N → e < n → E w .listed ≡ false → E w .sent ≡ true → has L (sender cable w) ≡ false → Awaits W (suc N) i w (withReturning (v .state) s v)
+        opened w zero z l a b c = let y : w ≡ suc N = omega arith in aware (ap (sender cable) (sym y)) (λ q. absurd (ne (ap (sender cable) (sym y) ∙ sym q ∙ sym vo)))
         opened w (suc e) z l a b c = absurd (no-other-open w e (omega arith) l a b out)
 
     -- it knocks
@@ -212,8 +212,8 @@ module _ (W : World) where
         out : E (suc N) .outside ≡ true
         out = o .out (sym vo ∙ sym so) sd
 
-        opened : (w e : ℕ) → w + e ≡ suc N → e < n → E w .listed ≡ false → E w .sent ≡ true → has L (sender n w) ≡ false → Awaits W (suc N) i w (withReturning Knocking (v .own) v)
-        opened w zero z l a b c = let y : w ≡ suc N = omega arith in aware (sym so ∙ ap (sender n) (sym y)) (λ q. inr (rw y vacuous))
+        opened : (w e : ℕ) → w + e ≡ suc N → e < n → E w .listed ≡ false → E w .sent ≡ true → has L (sender cable w) ≡ false → Awaits W (suc N) i w (withReturning Knocking (v .own) v)
+        opened w zero z l a b c = let y : w ≡ suc N = omega arith in aware (sym so ∙ ap (sender cable) (sym y)) (λ q. inr (rw y vacuous))
         opened w (suc e) z l a b c = absurd (no-other-open w e (omega arith) l a b out)
 
     sends-then : sends v ≡ true → isMember (v .state) ≡ false → (isFollowing (v .state) && eqb (v .returning) 0) ≡ true

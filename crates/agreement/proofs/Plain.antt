@@ -17,12 +17,12 @@ use Rattle.agreement.proofs.Demanded.{demand3}
 
 pub demand3-plain : Demand3Plain
 unfolding sponsored KeepsListOn isDeciding EverySequence
-demand3-plain n k m = record {
+demand3-plain n k m order = record {
   ks-is = λ c. refl;
-  sponsored-is = λ set x j. ap (λ (i : ℕ). cond (leb 1 j && leb j (sponsors (plain n k m) set)) (memberBefore n set x i) Nobody) (add-zero j);
+  sponsored-is = λ set x j. ap (λ (i : ℕ). cond (leb 1 j && leb j (sponsors (plain n k m order) set)) (memberBefore (plain n k m order) set x i) Nobody) (add-zero j);
   keeps-is = λ run c cs. refl;
   deciding-is = λ start s c cs.
-      ap (λ (j : ℕ). isSlot c (tableAfter start cs) && (leb s (slotsOf (tableAfter start cs)) && eqb (memberAfter n (listOf (tableAfter start cs)) (sender n s) j) (speaker (tableAfter start cs)))) (add-zero k);
-  demand = λ ring low high jobs.
-      demand3 (plain n k m) (fits-by (plain n k m) (record { ring = ring; lag = refl; sponsors = all (le-leb 2 k low) (le-leb k (n - 1) high); jobs = jobs }));
+      ap (λ (j : ℕ). isSlot c (tableAfter start cs) && (leb s (slotsOf (tableAfter start cs)) && eqb (memberAfter (plain n k m order) (listOf (tableAfter start cs)) (sender (plain n k m order) s) j) (speaker (tableAfter start cs)))) (add-zero k);
+  demand = λ ring low high jobs kept.
+      demand3 (plain n k m order) (fits-by (plain n k m order) (record { ring = ring; lag = refl; sponsors = all (le-leb 2 k low) (le-leb k (n - 1) high); jobs = jobs; order = kept }));
 }

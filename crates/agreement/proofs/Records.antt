@@ -40,7 +40,7 @@ read-is s lost missed t i e =
     (heard-unless lost missed t i ∙ ap (λ (x : ℕ). cond (lost || has missed i) unheard (cond (transmits t) (reading.Heard (bitsSent (recordOf t x)) (returnSent (recordOf t x))) unheard)) e)
 
 pub record-after : (s : ℕ) (lost : Bool) (missed : ℕ) (t : Table) (i : ℕ) → 1 ≤ i → i ≤ length t → sound (recordOf t i) ≡ true → recordOf t i .slots < limit
-    → sender (recordOf t i .cable .n) (recordOf t i .slots + 1) ≡ s → speaker t ≡ s
+    → sender (recordOf t i .cable) (recordOf t i .slots + 1) ≡ s → speaker t ≡ s
     → recordOf (tableAfterSlot lost missed t) i ≡ readIn (recordOf t i .cable .n) (recordOf t i .state) s (readOf s lost missed t i) (counted (recordOf t i))
 record-after s lost missed t i h l good few its sp =
     after-slot-record lost missed t i h l

@@ -36,13 +36,13 @@ use Rattle.agreement.proofs.Depart.{drop-sub, drop-keeps, since-next, L
 pub or-true : (a b : Bool) → a ≡ true → (a || b) ≡ true
 or-true a b e = rw e
 
-pub joins-yes : (s : ℕ) (v : Node) → joins s v ≡ true → (v .returning ≢ 0) × At s (memberBefore (v .cable .n) (v .set) (v .returning) 1)
+pub joins-yes : (s : ℕ) (v : Node) → joins s v ≡ true → (v .returning ≢ 0) × At s (memberBefore (v .cable) (v .set) (v .returning) 1)
 joins-yes s v e =
-    let t = both (not (eqb (v .returning) 0)) (isFound s (memberBefore (v .cable .n) (v .set) (v .returning) 1)) e in
-    (λ z. no-both (t .0) (ap not (eq-eqb (v .returning) 0 z)), found-it s (memberBefore (v .cable .n) (v .set) (v .returning) 1) (t .1))
+    let t = both (not (eqb (v .returning) 0)) (isFound s (memberBefore (v .cable) (v .set) (v .returning) 1)) e in
+    (λ z. no-both (t .0) (ap not (eq-eqb (v .returning) 0 z)), found-it s (memberBefore (v .cable) (v .set) (v .returning) 1) (t .1))
 
-pub joins-if : (s : ℕ) (v : Node) → v .returning ≢ 0 → At s (memberBefore (v .cable .n) (v .set) (v .returning) 1) → joins s v ≡ true
-joins-if s v nz a = all (ap not (ne-eqb (v .returning) 0 nz)) (is-found s (memberBefore (v .cable .n) (v .set) (v .returning) 1) a)
+pub joins-if : (s : ℕ) (v : Node) → v .returning ≢ 0 → At s (memberBefore (v .cable) (v .set) (v .returning) 1) → joins s v ≡ true
+joins-if s v nz a = all (ap not (ne-eqb (v .returning) 0 nz)) (is-found s (memberBefore (v .cable) (v .set) (v .returning) 1) a)
 
 pub not-missed : (r : Reading) (v : Node) → readReturn r v ≡ false → v .returning ≡ 0 → returnIn r ≡ false
 not-missed r v e z =
@@ -80,7 +80,7 @@ pub or-false : (a b : Bool) → a ≡ false → b ≡ false → (a || b) ≡ fal
 or-false a b p q = rw (p, q) refl
 
 module _ (W : World) where
-  open World W using (cable, n-pos, E, fair)
+  open World W using (cable, n-pos, turns, E, fair)
   open Cable cable using (n)
 
   pub same-knock : (N w e w′ e′ : ℕ) → n ≤ N → w + e ≡ N → e < n → w′ + e′ ≡ N → e′ < n → E w .outside ≡ true → E w′ .outside ≡ true → w ≡ w′
@@ -98,7 +98,7 @@ module _ (W : World) where
       open Hearer T using (r, says, i, i-pos, i-le, v, vo, iv, h)
 
       abbrev s : ℕ
-      s = sender n (suc N)
+      s = sender cable (suc N)
 
       abbrev pub v₁ : Node
       v₁ = readMarked s r v
@@ -113,33 +113,33 @@ module _ (W : World) where
           omega (arith, told-in-time W (D .u) (suc (D .e)) (omega (arith, D .ago, D .recent, B .late)) (D .recent) un, since-next W N (D .u) (D .e) (D .ago), D .exact, num-is lT)
 
       -- the decided member is marked exactly if its slot was sent
-      pub marked-is : has (v₁ .present) (sender n (D .u)) ≡ E (D .u) .sent
+      pub marked-is : has (v₁ .present) (sender cable (D .u)) ≡ E (D .u) .sent
       marked-is = by-cases (E (D .u) .sent)
-          (λ p. not-false (has (v₁ .present) (sender n (D .u))) (λ off. d-told (on-after W S T (D .u) (suc (D .e)) d-ago (D .recent) p (D .member) off .untold)) ∙ sym p)
-          (λ p. not-true (has (v₁ .present) (sender n (D .u))) (λ on. d-told (off-after W S T (D .u) (suc (D .e)) d-ago (D .recent) (D .listed) p .on on .1)) ∙ sym p)
+          (λ p. not-false (has (v₁ .present) (sender cable (D .u))) (λ off. d-told (on-after W S T (D .u) (suc (D .e)) d-ago (D .recent) p (D .member) off .untold)) ∙ sym p)
+          (λ p. not-true (has (v₁ .present) (sender cable (D .u))) (λ on. d-told (off-after W S T (D .u) (suc (D .e)) d-ago (D .recent) (D .listed) p .on on .1)) ∙ sym p)
 
-      pub set-after : setAfter (sender n (D .u)) v₁ ≡ L₁ W S
+      pub set-after : setAfter (sender cable (D .u)) v₁ ≡ L₁ W S
       set-after = rw (marked-is, iv .set-is) refl
 
       -- this node is not the one that departs
       abbrev pub Stays : Type 0
-      Stays = has (v₁ .present) (sender n (D .u)) ≡ false → sender n (D .u) ≢ v .own
+      Stays = has (v₁ .present) (sender cable (D .u)) ≡ false → sender cable (D .u) ≢ v .own
 
       -- a member that stays is still on the list
       pub member-stays : Stays → isMember (v .state) ≡ true → has (L₁ W S) i ≡ true
-      member-stays ne p = drop-keeps W (E (D .u) .sent) L (sender n (D .u)) i (iv .own-in p)
+      member-stays ne p = drop-keeps W (E (D .u) .sent) L (sender cable (D .u)) i (iv .own-in p)
           (λ f y. ne (marked-is ∙ f) (y ∙ sym vo))
 
       pub outsider-stays : isMember (v .state) ≡ false → has (L₁ W S) i ≡ false
-      outsider-stays p = not-true (has (L₁ W S) i) (λ y. no-both (drop-sub W (E (D .u) .sent) L (sender n (D .u)) i y) (iv .own-out p))
+      outsider-stays p = not-true (has (L₁ W S) i) (λ y. no-both (drop-sub W (E (D .u) .sent) L (sender cable (D .u)) i y) (iv .own-out p))
 
       -- a sender that sends return bit 0 has missed an open knock
-      unaware-sender : (w e : ℕ) → w + e ≡ N → e < n → E w .listed ≡ false → E w .sent ≡ true → has L (sender n w) ≡ false
+      unaware-sender : (w e : ℕ) → w + e ≡ N → e < n → E w .listed ≡ false → E w .sent ≡ true → has L (sender cable w) ≡ false
           → isHeard r ≡ true → returnIn r ≡ false → E w .missed s ≡ true
       unaware-sender w e z l a b c p q = go (says p)
         where
           two : (Z : Says W N L r) → Z .z .returning ≡ 0 → Awaits W N s w (Z .z) → E w .missed s ≡ true
-          two Z y (aware q f) = let bad : ⊥ = omega (arith, sender-range n n-pos w) in absurd bad
+          two Z y (aware q f) = let bad : ⊥ = omega (arith, sender-range cable turns w) in absurd bad
           two Z y (unaware q f g x un) = x
 
           go : Says W N L r → E w .missed s ≡ true
@@ -156,8 +156,8 @@ module _ (W : World) where
           go (inr p) = omega (arith, num-le (E (suc N) .listed))
 
       -- the return bit at a knocking node
-      answer : (w e : ℕ) → w + e ≡ N → e < n → E w .listed ≡ false → E w .sent ≡ true → has L (sender n w) ≡ false
-          → isKnocking (v .state) ≡ true → i ≡ sender n w → (v .«return_heard» ≡ true) ⊎ Untold W w N → (readHeard r v ≡ true) ⊎ Untold W w (suc N)
+      answer : (w e : ℕ) → w + e ≡ N → e < n → E w .listed ≡ false → E w .sent ≡ true → has L (sender cable w) ≡ false
+          → isKnocking (v .state) ≡ true → i ≡ sender cable w → (v .«return_heard» ≡ true) ⊎ Untold W w N → (readHeard r v ≡ true) ⊎ Untold W w (suc N)
       answer w e z l a b c kn io (inl p) = inl (or-true (v .«return_heard») _ p)
       answer w e z l a b c kn io (inr un) = by-cases (E (suc N) .sent)
           (λ p. by-cases (isHeard r) (λ q. by-cases (returnIn r)
@@ -167,7 +167,7 @@ module _ (W : World) where
           (λ p. inr (still-untold w un (λ q. absurd (no-both q p))))
 
       -- R for an open knock, after step 1
-      pub awaits-after : readReturn r v ≡ false → (w e : ℕ) → w + e ≡ N → e < n → E w .listed ≡ false → E w .sent ≡ true → has L (sender n w) ≡ false → Awaits W (suc N) i w v₁
+      pub awaits-after : readReturn r v ≡ false → (w e : ℕ) → w + e ≡ N → e < n → E w .listed ≡ false → E w .sent ≡ true → has L (sender cable w) ≡ false → Awaits W (suc N) i w v₁
       awaits-after ok w e z l a b c = go (iv .open-knock w e z l a b c)
         where
           go : Awaits W N i w v → Awaits W (suc N) i w v₁
@@ -181,7 +181,7 @@ module _ (W : World) where
                   (λ t. inr (missed-failure W (suc N) i (h .missing t p y .1) i-pos i-le))
 
       -- a lost knock is not answered
-      pub lost-after : isKnocking (v .state) ≡ true → (w e : ℕ) → w + e ≡ suc N → e < n → sender n w ≡ i → E w .sent ≡ false → readHeard r v ≡ false
+      pub lost-after : isKnocking (v .state) ≡ true → (w e : ℕ) → w + e ≡ suc N → e < n → sender cable w ≡ i → E w .sent ≡ false → readHeard r v ≡ false
       lost-after kn w zero z l y f =
           let x : w ≡ suc N = omega arith in
           absurd (no-both onL (rw (← x) (rw y (iv .own-out (not-member (v .state) kn)))))

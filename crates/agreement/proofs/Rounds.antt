@@ -20,7 +20,7 @@ use Rattle.agreement.proofs.Depart.{since-next, k-after, drop-lt}
 use Rattle.agreement.proofs.Join.{A, Next, plain, grown}
 
 module _ (W : World) where
-  open World W using (cable, n-pos, E)
+  open World W using (cable, n-pos, turns, E)
   open Cable cable using (n, k, lag)
 
   -- K': the last slot but one of a listed sender was sent
@@ -37,7 +37,7 @@ module _ (W : World) where
       ago : w + suc e ≡ suc (S .N)
       ago = omega (arith, J .ago)
 
-      go : (u d : ℕ) → u + d ≡ suc (S .N) → d < n → Dec (u ≡ w) → KFact W (with a (sender n w)) u d
+      go : (u d : ℕ) → u + d ≡ suc (S .N) → d < n → Dec (u ≡ w) → KFact W (with a (sender cable w)) u d
       go u d z h (yes y) =
           let x : d ≡ suc e = omega arith in
           let c : k + lag ≤ sum (lst W) (suc u) d = rw (y, x) (J .since) in
@@ -48,8 +48,8 @@ module _ (W : World) where
             came = λ p q. (rw y (J .sent), c);
           }
       go u d z h (no y) =
-          let ne : sender n w ≢ sender n u = λ p. y (same-window W (suc (S .N)) u w d (suc e) (omega (arith, S .B .late)) z ago h (J .recent) (sym p)) in
-          let same : has (with a (sender n w)) (sender n u) ≡ has a (sender n u) = has-with-other a (sender n w) (sender n u) ne in
+          let ne : sender cable w ≢ sender cable u = λ p. y (same-window W (suc (S .N)) u w d (suc e) (omega (arith, S .B .late)) z ago h (J .recent) (sym p)) in
+          let same : has (with a (sender cable w)) (sender cable u) ≡ has a (sender cable u) = has-with-other a (sender cable w) (sender cable u) ne in
           let f = k-after W S u d z h in
           record {
             spoke = λ p q. same ∙ f .spoke p q;
@@ -62,13 +62,13 @@ module _ (W : World) where
   next-lt S L′ nx = go nx
     where
       small : A W S < 2 ^ n
-      small = drop-lt W (E (S .D .u) .sent) (S .L) (sender n (S .D .u)) (sender-range n n-pos (S .D .u) .1) (S .B .small)
+      small = drop-lt W (E (S .D .u) .sent) (S .L) (sender cable (S .D .u)) (sender-range cable turns (S .D .u) .1) (S .B .small)
 
       go : Next W S L′ → L′ < 2 ^ n
       go (plain f q) = rw q small
-      go (grown w e J q) = rw q (with-lt n (A W S) (sender n w) (sender-range n n-pos w .1) small)
+      go (grown w e J q) = rw q (with-lt n (A W S) (sender cable w) (sender-range cable turns w .1) small)
 
-  pub k′-listed : (N L : ℕ) → Begins W N L → has L (sender n (suc N)) ≡ true → K′ N → K′ (suc N)
+  pub k′-listed : (N L : ℕ) → Begins W N L → has L (sender cable (suc N)) ≡ true → K′ N → K′ (suc N)
   k′-listed N L B onL κ w (suc e) z h l = κ w e (omega arith) (omega arith) l
   k′-listed N L B onL κ w zero z h l = by-cases (E w .sent) (λ p. p) (λ p. by-cases (E w .listed) (λ q. listed-case p q) (λ q. f .came q on .0))
     where
@@ -87,8 +87,8 @@ module _ (W : World) where
       f : KFact W L w d
       f = B .kept w d ago short
 
-      on : has L (sender n w) ≡ true
-      on = let y : suc N ≡ w + n = omega arith in ap (has L) (sym (ap (sender n) y ∙ sender-period n n-pos w w-pos)) ∙ onL
+      on : has L (sender cable w) ≡ true
+      on = let y : suc N ≡ w + n = omega arith in ap (has L) (sym (ap (sender cable) y ∙ sender-period cable turns w w-pos)) ∙ onL
 
       listed-case : E w .sent ≡ false → E w .listed ≡ true → E w .sent ≡ true
       listed-case p q = absurd (no-both on (f .dropped q p (full-round W N L (B .kept) (B .enough) w d w-pos ago (omega (arith, n-pos)))))
@@ -97,7 +97,7 @@ module _ (W : World) where
   k′-outside N u κ w (suc e) z h l = κ w e (omega arith) (omega arith) l
   k′-outside N u κ w zero z h l = let y : w + n ≡ suc N = omega arith in absurd (no-both (rw y at l) u)
 
-  pub k-outside : (N L : ℕ) → E (suc N) .listed ≡ false → has L (sender n (suc N)) ≡ false → K W N L → K W (suc N) L
+  pub k-outside : (N L : ℕ) → E (suc N) .listed ≡ false → has L (sender cable (suc N)) ≡ false → K W N L → K W (suc N) L
   k-outside N L u off κ q zero z h =
       let y : q ≡ suc N = omega arith in
       let l : E q .listed ≡ false = rw y u in
@@ -123,12 +123,12 @@ module _ (W : World) where
     pub p : ℕ
     pub later : w < p
     pub soon : p < w + n
-    pub member : has L (sender n p) ≡ true
+    pub member : has L (sender cable p) ≡ true
 
-  pub ahead : (L w : ℕ) → 1 ≤ size n L → 1 ≤ w → has L (sender n w) ≡ false → Ahead L w
-  ahead L w hs hw off = go (walk-meets n n-pos L n w 1 hw (omega arith) (omega (arith, size-from W L w hw)))
+  pub ahead : (L w : ℕ) → 1 ≤ size n L → 1 ≤ w → has L (sender cable w) ≡ false → Ahead L w
+  ahead L w hs hw off = go (walk-meets cable turns L n w 1 hw (omega arith) (omega (arith, size-from W L w hw)))
     where
-      go : Met n n-pos L n w 1 → Ahead L w
+      go : Met cable turns L n w 1 → Ahead L w
       go m =
           let ne : w ≢ m .u = λ p. no-both (m .listed) (rw (sym p) off) in
           record { p = m .u; later = omega (arith, m .from, ne); soon = omega (arith, m .upto, m .back); member = m .listed }

@@ -48,31 +48,31 @@ use Rattle.agreement.proofs.Tables.{TableInv, Witness, witness, list-is
 use Rattle.agreement.proofs.Reached.{hear, hear-message, unheard-bits, unreached, and-no, reached, sent-parts, not-out, listening-neither, sends-tracks}
 
 module _ (W : World) where
-  open World W using (cable, n-pos, n-most, k-lt, E)
+  open World W using (cable, n-pos, turns, n-most, k-lt, E)
   open Cable cable using (n, k, lag)
 
   module _ (N L : ℕ) (t : Table) (lost : Bool) (missed : ℕ) (inv : TableInv W N L t) (eq : E (suc N) ≡ pastOf lost missed t)
       (enough : k + (1 + lag) ≤ size n (listOf t)) (hears : AllHear n (slot lost missed 64) t)
       (good : (i : ℕ) → 1 ≤ i → i ≤ n → sound (recordOf t i) ≡ true) (below : slotsOf t < limit) where
     abbrev pub s : ℕ
-    s = sender n (suc N)
+    s = sender cable (suc N)
 
     s-pos : 1 ≤ s
-    s-pos = sender-range n n-pos (suc N) .0
+    s-pos = sender-range cable turns (suc N) .0
 
     s-le : s ≤ n
-    s-le = sender-range n n-pos (suc N) .1
+    s-le = sender-range cable turns (suc N) .1
 
-    pub speaker-is : speaker t ≡ sender n (suc N)
+    pub speaker-is : speaker t ≡ sender cable (suc N)
     unfolding speaker
     speaker-is =
         let z : slotsOf t + 1 + n ≡ suc N = omega (arith, slots-at W N L t inv) in
-        ap (λ (x : ℕ). sender x (slotsOf t + 1)) (inv .len) ∙ sym (sender-period n n-pos (slotsOf t + 1) (omega arith)) ∙ ap (sender n) z
+        ap (λ (c : Cable). sender c (slotsOf t + 1)) (inv .nodes 1 (omega arith) n-pos .cable-is) ∙ sym (sender-period cable turns (slotsOf t + 1) (omega arith)) ∙ ap (sender cable) z
 
     pub list : listOf t ≡ L
     list = list-is W N L t inv (omega arith)
 
-    pub listed-is : E (suc N) .listed ≡ has L (sender n (suc N))
+    pub listed-is : E (suc N) .listed ≡ has L (sender cable (suc N))
     unfolding isListed
     listed-is = ap (λ (e : Past). e .listed) eq ∙ ap (λ (x : ℕ). has x (speaker t)) list ∙ ap (has L) speaker-is
 
@@ -215,13 +215,13 @@ module _ (W : World) where
         let nv = inv .nodes i h l in
         let z : recordOf t i .slots + 1 + n ≡ suc N = omega (arith, nv .slots-is) in
         record-after s lost missed t i h (omega (arith, inv .len)) (good i h l) (omega (arith, nv .slots-is, slots-at W N L t inv, below))
-        (ap (λ (c : Cable). sender (c .n) (recordOf t i .slots + 1)) (nv .cable-is) ∙ sym (sender-period n n-pos (recordOf t i .slots + 1) (omega arith)) ∙ ap (sender n) z) speaker-is
+        (ap (λ (c : Cable). sender c (recordOf t i .slots + 1)) (nv .cable-is) ∙ sym (sender-period cable turns (recordOf t i .slots + 1) (omega arith)) ∙ ap (sender cable) z) speaker-is
         ∙ ap (λ (c : Cable). readIn (c .n) (recordOf t i .state) s (hd i) (counted (recordOf t i))) (nv .cable-is)
 
     pub len-after : length (tableAfterSlot lost missed t) ≡ n
     len-after = after-slot-length lost missed t ∙ inv .len
 
-    module _ (onL : has L (sender n (suc N)) ≡ true) where
+    module _ (onL : has L (sender cable (suc N)) ≡ true) where
       -- the slot as one of a listed node
       abbrev pub S : ListedSlot W
       S = record { N = N; L = L; B = begins; lT = listed-is ∙ onL; onL = onL; D = decision W N L (inv .late) (inv .kept) (begins .enough) }
@@ -278,7 +278,7 @@ module _ (W : World) where
                   sm = next-lt W S (listOf after) nx′
 
     -- outside the list nobody is decided, however often
-    pub node-outside : has L (sender n (suc N)) ≡ false → (i : ℕ) → 1 ≤ i → i ≤ n → recordOf (tableAfterSlot lost missed t) i ≡ readIn 1 (recordOf t i .state) s (hd i) (counted (recordOf t i))
+    pub node-outside : has L (sender cable (suc N)) ≡ false → (i : ℕ) → 1 ≤ i → i ≤ n → recordOf (tableAfterSlot lost missed t) i ≡ readIn 1 (recordOf t i .state) s (hd i) (counted (recordOf t i))
     node-outside offL i h l = node-after i h l ∙ as-many n 1 s (hd i) (recordOf t i) (λ tr.
         let off : has (recordOf t i .set) s ≡ false = ap (λ (y : ℕ). has y s) (inv .nodes i h l .track tr .set-is) ∙ offL in
         slot-outside n s (hd i) (counted (recordOf t i)) off ∙ sym (slot-outside 1 s (hd i) (counted (recordOf t i)) off))

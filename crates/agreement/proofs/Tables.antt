@@ -57,7 +57,7 @@ unfolding recordOf
 record-at t j = let z : suc j - 1 ≡ j = omega arith in ap (λ (x : ℕ). getD t x noNode) z
 
 module _ (W : World) where
-  open World W using (cable, n-pos, n-most, E, early)
+  open World W using (cable, n-pos, turns, n-most, E, early)
   open Cable cable using (n)
 
   pub record TableInv (N L : ℕ) (t : Table) : Type 0 where
@@ -166,7 +166,7 @@ module _ (W : World) where
     late = omega arith;
     kept = λ u e z h. let s : E u .sent ≡ true = ap (λ (x : Past). x .sent) (early u (omega arith)) in
         record {
-          spoke = λ p q. has-full n (sender n u) (sender-range n n-pos u .0) (sender-range n n-pos u .1) (omega (arith, sender-range n n-pos u, n-most));
+          spoke = λ p q. has-full n (sender cable u) (sender-range cable turns u .0) (sender-range cable turns u .1) (omega (arith, sender-range cable turns u, n-most));
           waits = λ p q. absurd (no-both s q);
           dropped = λ p q. absurd (no-both s q);
           came = λ p q. absurd (no-both (ap (λ (x : Past). x .listed) (early u (omega arith))) p);

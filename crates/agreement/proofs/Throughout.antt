@@ -1,72 +1,37 @@
 -- The distance that the bench's call tells, of a look and of a slot, is 0 after each call of a sequence that keeps the premises. Assumes nothing.
-use Prim.Native.Nat.{ℕ, suc, _-_, _≤_, _<_}
-use mathlib.Core.Path.{_≡_, refl, sym, ap, _∙_, subst}
+use Prim.Native.Nat.{ℕ, _≤_}
+use mathlib.Core.Path.{_≡_, sym, ap, _∙_, subst}
 use mathlib.Core.Bool.{true, false≢true}
 use mathlib.Core.List.{List, [], _∷_}
 use native.Mathlib.Omega.{arith}
-use lib.ListN.{length, getD}
+use lib.ListN.{length}
 use Rattle.nodeset.specs.Sets.{distance}
-use Rattle.nodeset.proofs.Tests.{by-cases}
 use Rattle.ring.specs.declared.Cable.{Cable}
 use Rattle.ring.proofs.Ranges.{ring-size, fitting}
 use Rattle.bench.proofs.Ledgers.{given-made}
-use Rattle.node_record.specs.declared.Node.{Node}
-use Rattle.node_record.specs.States.{isMember}
 use Rattle.node.specs.declared.Answer.{Answer}
 use Rattle.node.specs.declared.Answer.the-variants.{Done, Refused}
-use Rattle.node.specs.Calls.{noNode, isDone}
+use Rattle.node.specs.Calls.{isDone}
 use Rattle.bench.specs.Table.{Table, recordOf, nodeCount}
-use Rattle.bench.specs.Calls.{setUpOf, slotOf, lookOf, farthest, greatest, Called}
+use Rattle.bench.specs.Calls.{setUpOf, slotOf, lookOf, greatest, Called}
 use Rattle.bench.specs.Outcomes.{slotOutcome, endedOf}
 use Rattle.bench.specs.Runs.{Call, slot, off, restart, callOf, tableAfter}
 use Rattle.agreement.specs.Demand.{AtEach, AfterEach, MemberAt, Agree, EverySequence}
 use Rattle.agreement.specs.Distance.{NoDistance, LookTells, SlotTells, NoDistanceTold}
 use Rattle.bench.proofs.Places.{Placed}
+use Rattle.bench.proofs.Farthest.{least}
 use Rattle.bench.proofs.Runs.{start-placed, never-unsound, run-length}
 use Rattle.agreement.proofs.Demanded.{demand3}
 
 -- ---- the distance of tables whose lists agree
 
-no-farther : (n set : ℕ) (t : Table)
-    → ((j : ℕ) → j < length t → isMember (getD t j noNode .state) ≡ true → distance n set (getD t j noNode .set) ≡ 0)
-    → farthest n set t ≡ 0
-unfolding farthest
-no-farther n set [] h = refl
-no-farther n set (v ∷ t) h = by-cases (isMember (v .state))
-    (λ e. rw (e, h 0 (omega arith) e, no-farther n set t (λ j l m. h (suc j) (omega arith) m)))
-    (λ e. rw (e, no-farther n set t (λ j l m. h (suc j) (omega arith) m)))
-
-no-greater : (n : ℕ) (t : Table)
-    → ((i j : ℕ) → i < length t → j < length t → isMember (getD t i noNode .state) ≡ true → isMember (getD t j noNode .state) ≡ true
-    → distance n (getD t i noNode .set) (getD t j noNode .set) ≡ 0)
-    → greatest n t ≡ 0
-unfolding greatest
-no-greater n [] h = refl
-no-greater n (v ∷ t) h = by-cases (isMember (v .state))
-    (λ e. rw (e, no-farther n (v .set) t (λ j l m. h 0 (suc j) (omega arith) (omega arith) e m), no-greater n t rest))
-    (λ e. rw (e, no-greater n t rest))
-  where
-    rest : (i j : ℕ) → i < length t → j < length t → isMember (getD t i noNode .state) ≡ true → isMember (getD t j noNode .state) ≡ true → distance n (getD t i noNode .set) (getD t j noNode .set) ≡ 0
-    rest i j p q a b = h (suc i) (suc j) (omega arith) (omega arith) a b
-
-record-at : (t : Table) (i : ℕ) → recordOf t (suc i) ≡ getD t i noNode
-unfolding recordOf
-record-at t i = let z : suc i - 1 ≡ i = omega arith in ap (λ (x : ℕ). getD t x noNode) z
-
 -- "all lists of member-state nodes are equal" as the bench tells it
 pub nothing-apart : (n : ℕ) (t : Table) → length t ≡ n
     → ((i j : ℕ) → MemberAt n t i → MemberAt n t j → distance n (recordOf t i .set) (recordOf t j .set) ≡ 0)
     → greatest n t ≡ 0
-nothing-apart n t l h = no-greater n t (λ i j p q a b.
-    ap (λ (v : Node). distance n (v .set) (getD t j noNode .set)) (sym (at i))
-    ∙ ap (λ (v : Node). distance n (recordOf t (suc i) .set) (v .set)) (sym (at j))
-    ∙ h (suc i) (suc j) (member i p a) (member j q b))
-  where
-    at : (i : ℕ) → recordOf t (suc i) ≡ getD t i noNode
-    at i = record-at t i
-
-    member : (i : ℕ) → i < length t → isMember (getD t i noNode .state) ≡ true → MemberAt n t (suc i)
-    member i p a = (omega arith, omega arith, ap (λ (v : Node). isMember (v .state)) (at i) ∙ a)
+nothing-apart n t l h =
+    let z : greatest n t ≤ 0 = least n 0 t (λ i j a b c d p q. omega (arith, h i j (a, omega arith, p) (c, omega arith, q))) in
+    omega arith
 
 -- ---- after each call
 
@@ -86,11 +51,11 @@ module _ (cable : Cable) (pos : 1 ≤ cable .n) (start : Table) (begins : Placed
 
   look-tells : (cs : List Call) → Agree cable start cs → LookTells cable start cs
   unfolding endedOf lookOf
-  look-tells cs h lost room = rw (never-unsound cable pos start begins cs) (told-zero cs h)
+  look-tells cs h lost slots room = rw (never-unsound cable pos start begins cs) (told-zero cs h)
 
   slot-tells : (c : Call) (cs : List Call) → Agree cable start (c ∷ cs) → SlotTells cable start c cs
   unfolding endedOf tableAfter callOf
-  slot-tells (slot lost missed room) cs h = λ jobs e.
+  slot-tells (slot lost missed room) cs h = λ jobs slots e.
       let t = tableAfter start cs in
       let is = given-made lost missed jobs room t e in
       subst (λ (c : Called). NoDistance (slotOutcome lost t (c .table) (c .answer))) (sym is) (go (slotOf lost missed room t .answer) (sym (ap (λ (c : Called). isDone (c .answer)) is) ∙ e))

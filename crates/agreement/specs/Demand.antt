@@ -9,6 +9,7 @@ use lib.Dec.{eqb, leb}
 use lib.ListN.{length}
 use Rattle.nodeset.specs.Sums.{sum, num}
 use Rattle.nodeset.specs.Sets.{has, size, distance}
+use Rattle.slot_table.specs.Order.{nodeAt, place}
 use Rattle.ring.specs.declared.Cable.{Cable}
 use Rattle.ring.specs.Ring.{sender, cableFits}
 use Rattle.node_record.specs.States.{isMember, isOut}
@@ -40,20 +41,21 @@ AllHear n (slot lost missed room) t =
 AllHear n (off a) t = Unit {0}
 AllHear n (restart a) t = Unit {0}
 
--- The node whose slot comes just after that of node x.
+-- The place whose slot comes just after that of place p.
 unfoldable pub next : ℕ → ℕ → ℕ
-next n x = cond (eqb x n) 1 (x + 1)
+next n p = cond (eqb p n) 1 (p + 1)
 
--- The j-th member met from node x onwards, in at most `left` slots; 0 where there is none.
-unfoldable pub onwards : ℕ → ℕ → ℕ → ℕ → ℕ → ℕ
-onwards zero n set x j = 0
-onwards (suc left) n set x j =
-    let p = next n x in
-    cond (has set p && eqb j 1) p (onwards left n set p (j - num (has set p)))
+-- The j-th member met from place p onwards, in at most `left` slots; 0 where there is none.
+unfoldable pub onwards : ℕ → Cable → ℕ → ℕ → ℕ → ℕ
+onwards zero cable set p j = 0
+onwards (suc left) cable set p j =
+    let q = next (cable .n) p in
+    let x = nodeAt (cable .order) q in
+    cond (has set x && eqb j 1) x (onwards left cable set q (j - num (has set x)))
 
 -- "The k-th member after that node, round the ring": the j-th. (With j + 1 members it is another node.)
-abbrev pub memberAfter : ℕ → ℕ → ℕ → ℕ → ℕ
-memberAfter n set x j = onwards n n set x j
+abbrev pub memberAfter : Cable → ℕ → ℕ → ℕ → ℕ
+memberAfter cable set x j = onwards (cable .n) cable set (place (cable .order) x) j
 
 abbrev pub MemberAt : ℕ → Table → ℕ → Type 0
 MemberAt n t i = (1 ≤ i) × (i ≤ n) × (isMember (recordOf t i .state) ≡ true)
@@ -122,7 +124,7 @@ module _ (cable : Cable) (start : Table) where
   isDeciding s c cs =
       isSlot c (tableAfter cs)
       && (leb s (slotsOf (tableAfter cs))
-      && eqb (memberAfter n (listOf (tableAfter cs)) (sender n s) (k + lag)) (speaker (tableAfter cs)))
+      && eqb (memberAfter cable (listOf (tableAfter cs)) (sender cable s) (k + lag)) (speaker (tableAfter cs)))
 
   -- "Its deciding slot is the first" such: has it been?
   unfoldable pub decidingRan : ℕ → List Call → Bool
@@ -143,13 +145,13 @@ module _ (cable : Cable) (start : Table) where
 
   -- "Until the deciding slot ends, or the calls do, the node is on all those lists": while the deciding slot has not been.
   abbrev pub Stays : List Call → Type 0
-  Stays cs = (s : ℕ) → LostOrSilent s cs → decidingRan s cs ≡ false → OnAll n (tableAfter cs) (sender n s)
+  Stays cs = (s : ℕ) → LostOrSilent s cs → decidingRan s cs ≡ false → OnAll n (tableAfter cs) (sender cable s)
 
   -- "At the end of it, off them all": the call c is the deciding slot, and there was none among the calls cs before it.
   abbrev pub Leaves : Call → List Call → Type 0
   Leaves c cs =
       (s : ℕ) → LostOrSilent s cs → decidingRan s cs ≡ false → isDeciding s c cs ≡ true
-      → OffAll n (tableAfter (c ∷ cs)) (sender n s)
+      → OffAll n (tableAfter (c ∷ cs)) (sender cable s)
 
   -- "If n - 1 slots ran after s, it is one of them."
   abbrev pub InTime : List Call → Type 0

@@ -20,15 +20,15 @@ NoDistance outcome.Quiet = ⊥
 NoDistance (outcome.Refused cause) = ⊥
 
 module _ (cable : Cable) (start : Table) where
-  -- A look after the calls so far, whatever it is asked and however many bytes are lent, tells so.
+  -- A look after the calls so far, whatever it is asked and lent, tells so.
   abbrev pub LookTells : List Call → Type 0
-  LookTells cs = (lost : Bool) (room : ℕ) → NoDistance (endedOf (command.Look lost) room (tableAfter start cs) .reply .outcome)
+  LookTells cs = (lost : Bool) (slots : List ℕ) (room : ℕ) → NoDistance (endedOf (command.Look lost) slots room (tableAfter start cs) .reply .outcome)
 
   -- So does the call c, made after the calls cs, if it is a slot that runs, whatever job byte its sender is given.
   abbrev pub SlotTells : Call → List Call → Type 0
   SlotTells (slot lost missed room) cs =
-      (jobs : ℕ) → isDone (calledOf (command.Slot lost missed jobs) room (tableAfter start cs) .answer) ≡ true
-      → NoDistance (endedOf (command.Slot lost missed jobs) room (tableAfter start cs) .reply .outcome)
+      (jobs : ℕ) (slots : List ℕ) → isDone (calledOf (command.Slot lost missed jobs) slots room (tableAfter start cs) .answer) ≡ true
+      → NoDistance (endedOf (command.Slot lost missed jobs) slots room (tableAfter start cs) .reply .outcome)
   SlotTells (off a) cs = Unit {0}
   SlotTells (restart a) cs = Unit {0}
 

@@ -52,8 +52,8 @@ start-is cable t f e =
     let n = cable .n in
     let x : Table = startTable cable t in
     let c₁ : Called = ifPassed (eqb (length t) n) 4 t (done x) in
-    leaves-if (cableFits cable) (faultOf cable) t x c₁ (leaves-if (eqb (length t) n) 4 t x (done x) (leaves-done t x)) .where-done
-    (done-past (cableFits cable) (faultOf cable) t c₁ (fits-by cable f) ∙ done-past (eqb (length t) n) 4 t (done x) (eq-eqb (length t) n e))
+    leaves-if (cableFits cable) (faultOf cable n) t x c₁ (leaves-if (eqb (length t) n) 4 t x (done x) (leaves-done t x)) .where-done
+    (done-past (cableFits cable) (faultOf cable n) t c₁ (fits-by cable f) ∙ done-past (eqb (length t) n) 4 t (done x) (eq-eqb (length t) n e))
 
 -- ---- slot
 

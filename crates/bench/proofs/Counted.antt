@@ -132,14 +132,14 @@ pub after-slot-same : (s : ℕ) (r : Reading) (v : Node) → Same v (afterSlot s
 after-slot-same s r v = subst (Same v) (sym (after-read s r v)) (read-same (v .cable .n) (v .state) s (heardFrom s r v) v)
 
 -- a slot that is not refused
-pub step-done : (r : Reading) (v : Node) → sound v ≡ true → v .slots < limit → stepOf r v ≡ done (afterSlot (sender (v .cable .n) (v .slots + 1)) r (counted v))
+pub step-done : (r : Reading) (v : Node) → sound v ≡ true → v .slots < limit → stepOf r v ≡ done (afterSlot (sender (v .cable) (v .slots + 1)) r (counted v))
 unfolding stepOf
 step-done r v e h = chosen _ _ e ∙ otherwise _ _ (lt-leb limit (v .slots) h)
 
 pub step-numbers : (r : Reading) (v : Node) → sound v ≡ true → v .slots < limit → Numbers (v .cable) (v .own) (v .slots + 1) (stepOf r v .node)
 step-numbers r v e h =
-    let z : stepOf r v .node ≡ afterSlot (sender (v .cable .n) (v .slots + 1)) r (counted v) = ap (λ (x : Stepped). x .node) (step-done r v e h) in
-    rw z (after-slot-same (sender (v .cable .n) (v .slots + 1)) r (counted v))
+    let z : stepOf r v .node ≡ afterSlot (sender (v .cable) (v .slots + 1)) r (counted v) = ap (λ (x : Stepped). x .node) (step-done r v e h) in
+    rw z (after-slot-same (sender (v .cable) (v .slots + 1)) r (counted v))
 
 pub off-same : (v : Node) → Same v (offOf v .node)
 unfolding offOf

@@ -9,32 +9,33 @@ use lib.Pow.{pow-pos}
 use borrow.Author.Tests.{lt-ltb}
 use Rattle.nodeset.specs.Sets.{within}
 use Rattle.nodeset.proofs.Tests.{by-cases}
-use Rattle.ring.specs.Ring.{cableFits, nodeNumber}
+use Rattle.ring.specs.Ring.{cableWith, maySetUp, nodeNumber}
 use Rattle.message.specs.Message.{jobsWithin}
 use Rattle.node_record.specs.Soundness.{limit}
 use Rattle.node.specs.Calls.{isDone}
 use Rattle.bench.specs.declared.Command.the-variants as command
 use Rattle.bench.specs.Table.{Table, tableSound, nodeCount, slotsOf}
-use Rattle.bench.specs.Calls.{Called, ifPassed, setUpOf, slotOf, offOf}
+use Rattle.bench.specs.Calls.{Called, ifPassed, setUpGiven, slotOf, offOf}
 use Rattle.bench.specs.Reports.{reportsFit, jobsOn}
 use Rattle.bench.specs.Outcomes.{slotGiven}
 use Rattle.bench.specs.Ledger.{ledgerFits}
 use Rattle.bench.specs.Kept.{setUpWith, slotWith, offWith, OnlyRefuses}
 
 pub only-refuses : OnlyRefuses
-unfolding setUpWith slotWith offWith setUpOf slotGiven offOf
-only-refuses (command.SetUp cable) room ledger counts t =
-    by-cases (cableFits cable)
+unfolding setUpWith slotWith offWith setUpGiven slotGiven offOf
+only-refuses (command.SetUp choices) slots room ledger counts t =
+    let cable = cableWith choices slots in
+    by-cases (maySetUp cable (length slots))
     (λ a. by-cases (eqb (length counts) (cable .n)) (λ d. inl (rw (a, d) refl)) (λ d. inr (inr (rw (a, d) refl))))
     (λ a. inl (rw a refl))
-only-refuses (command.Off a) room ledger counts t =
+only-refuses (command.Off a) slots room ledger counts t =
     by-cases (tableSound t)
     (λ e. by-cases (nodeNumber (nodeCount t) a)
     (λ h. by-cases (ledgerFits (nodeCount t) (slotsOf t) ledger) (λ f. inl (rw (e, h, f) refl)) (λ f. inr (inl (rw (e, h, f) refl))))
     (λ h. inl (rw (e, h) refl)))
     (λ e. inl (rw e refl))
-only-refuses (command.Restart a) room ledger counts t = inl refl
-only-refuses (command.Slot lost missed jobs) room ledger counts t =
+only-refuses (command.Restart a) slots room ledger counts t = inl refl
+only-refuses (command.Slot lost missed jobs) slots room ledger counts t =
     by-cases (tableSound t)
     (λ e. by-cases (reportsFit t counts)
     (λ r. by-cases (within (nodeCount t) missed)
@@ -42,7 +43,7 @@ only-refuses (command.Slot lost missed jobs) room ledger counts t =
     (λ h. inl (rw (e, r, h) refl)))
     (λ r. inr (inr (rw (e, r) refl))))
     (λ e. inl (rw e refl))
-only-refuses (command.Look lost) room ledger counts t = inl refl
+only-refuses (command.Look lost) slots room ledger counts t = inl refl
 
 -- job byte 0 has no spare bit: the slot given it is the slot of demand 3
 pub given-none : (lost : Bool) (missed room : ℕ) (t : Table) → slotGiven lost missed 0 room t ≡ slotOf lost missed room t

@@ -7,3 +7,4 @@ pub mod SlotKinds
 pub mod Computed
 pub mod Ledgers
 pub mod Reports
+pub mod Farthest

@@ -11,7 +11,9 @@ use borrow.Author.Tests.{eqb-true, eq-eqb}
 use Rattle.nodeset.proofs.Tests.{both, all}
 use Rattle.ring.specs.declared.Cable.{Cable}
 use Rattle.ring.specs.Ring.{sameCable}
+use Rattle.slot_table.proofs.Places.{kept-length}
 use Rattle.ring.proofs.Cables.{same-is, is-same}
+use Rattle.node_record.proofs.Facts.{clauses}
 use Rattle.node_record.specs.declared.Node.{Node}
 use Rattle.node_record.specs.Soundness.{sound}
 use Rattle.node.specs.Calls.{noNode}
@@ -56,7 +58,7 @@ in-place cable slots i v e =
     let c₃ = both (eqb (v .slots) slots) (eqb (v .own) i) (c₂ .1) in
     record {
       is-sound = c₁ .0;
-      cable-is = same-is (v .cable) cable (c₂ .0);
+      cable-is = same-is (v .cable) cable (kept-length (v .cable .n) (v .cable .order) (clauses v (c₁ .0) .choices .order)) (c₂ .0);
       slots-is = eqb-true (v .slots) slots (c₃ .0);
       own-is = eqb-true (v .own) i (c₃ .1);
     }

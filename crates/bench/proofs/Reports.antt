@@ -38,9 +38,9 @@ unfolding reportsAfterSlot
 counts-length lost missed jobs t counts = each-length (λ i c. countsAfter (receivedBy lost missed jobs t i) (recordOf t i) c) 1 counts
 
 -- each node of a sound table takes the same slot for the next
-pub next-sender : (t : Table) → tableSound t ≡ true → (i : ℕ) → 1 ≤ i → i ≤ length t → sender (recordOf t i .cable .n) (recordOf t i .slots + 1) ≡ speaker t
+pub next-sender : (t : Table) → tableSound t ≡ true → (i : ℕ) → 1 ≤ i → i ≤ length t → sender (recordOf t i .cable) (recordOf t i .slots + 1) ≡ speaker t
 unfolding speaker
 next-sender t ok i low high =
     let p = sound-placed t ok in
     let q = p .at i low (omega (arith, high, p .length-is)) in
-    ap₂ (λ (n s : ℕ). sender n (s + 1)) (ap (λ (c : Cable). c .n) (q .cable-is) ∙ sym (p .length-is)) (q .slots-is)
+    ap₂ (λ (c : Cable) (s : ℕ). sender c (s + 1)) (q .cable-is) (q .slots-is)

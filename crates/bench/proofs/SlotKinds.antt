@@ -190,7 +190,7 @@ slot-ok s heard v = subst (Ok (v .state)) (sym (after-read s heard v)) (go (v .s
 step-ok : (heard : Reading) (v : Node) → Ok (v .state) (stepOf heard v .node)
 unfolding stepOf
 step-ok heard v =
-    ways P (sound v) (ways P (leb limit (v .slots)) (stays (v .state)) (slot-ok (sender (v .cable .n) (v .slots + 1)) heard (counted v))) (stays (v .state))
+    ways P (sound v) (ways P (leb limit (v .slots)) (stays (v .state)) (slot-ok (sender (v .cable) (v .slots + 1)) heard (counted v))) (stays (v .state))
   where
     P : Stepped → Type 0
     P r = Ok (v .state) (r .node)

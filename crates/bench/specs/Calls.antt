@@ -3,13 +3,14 @@
 -- leaves the table as it was.
 use Prim.Native.Nat.{ℕ, max}
 use mathlib.Core.Bool.{Bool, true, false, cond, _||_}
-use mathlib.Core.List.{[], _∷_}
+use mathlib.Core.List.{List, [], _∷_}
 use lib.Dec.{eqb, leb, ltb}
 use lib.ListN.{length}
 use Rattle.refusal.specs.Causes.{cause}
 use Rattle.nodeset.specs.Sets.{has, within, distance}
+use Rattle.ring.specs.declared.Choices.{Choices}
 use Rattle.ring.specs.declared.Cable.{Cable}
-use Rattle.ring.specs.Ring.{cableFits, nodeNumber}
+use Rattle.ring.specs.Ring.{cableWith, cableFits, maySetUp, nodeNumber}
 use Rattle.ring.specs.Answers.{faultOf}
 use Rattle.message.specs.declared.Reading.{Reading}
 use Rattle.message.specs.declared.Reading.the-variants as reading
@@ -39,17 +40,24 @@ abbrev pub ifPassed : Bool → ℕ → Table → Called → Called
 ifPassed true number t called = called
 ifPassed false number t called = record { table = t; answer = Refused (cause number) }
 
--- ---- set-up: 1, 16, 2, 14 and 4
+-- ---- set-up: 1, 16, 2, 14, 17, 18 and 4
 
 -- "All start as members, set full, all marks on, returning 0."
 abbrev pub startTable : Cable → Table → Table
 startTable cable t = each (λ i v. starting cable i) t
 
+-- On a cable as the records keep it.
 unfoldable pub setUpOf : Cable → Table → Called
 setUpOf cable t =
-    ifPassed (cableFits cable) (faultOf cable) t
+    ifPassed (cableFits cable) (faultOf cable (cable .n)) t
     (ifPassed (eqb (length t) (cable .n)) 4 t
     (done (startTable cable t)))
+
+-- With the choices and the slot table as they are given.
+unfoldable pub setUpGiven : Choices → List ℕ → Table → Called
+setUpGiven choices slots t =
+    let cable = cableWith choices slots in
+    ifPassed (maySetUp cable (length slots)) (faultOf cable (length slots)) t (setUpOf cable t)
 
 -- ---- slot: 4, 3, 5 and 9
 

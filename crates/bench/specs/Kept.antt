@@ -9,8 +9,8 @@ use lib.Dec.{eqb}
 use lib.ListN.{length}
 use Rattle.refusal.specs.Causes.{cause}
 use Rattle.nodeset.specs.Sets.{within}
-use Rattle.ring.specs.declared.Cable.{Cable}
-use Rattle.ring.specs.Ring.{cableFits, nodeNumber}
+use Rattle.ring.specs.declared.Choices.{Choices}
+use Rattle.ring.specs.Ring.{cableWith, maySetUp, nodeNumber}
 use Rattle.ring.specs.Answers.{faultOf}
 use Rattle.node_reports.specs.Reports.{Counts, noReportsAt}
 use Rattle.node.specs.declared.Answer.{Answer}
@@ -19,18 +19,19 @@ use Rattle.bench.specs.declared.Command.{Command}
 use Rattle.bench.specs.declared.Command.the-variants as command
 use Rattle.bench.specs.declared.Reply.{Reply}
 use Rattle.bench.specs.Table.{Table, tableSound, nodeCount, slotsOf}
-use Rattle.bench.specs.Calls.{Called, ifPassed, setUpOf, offOf}
+use Rattle.bench.specs.Calls.{Called, ifPassed, setUpGiven, offOf}
 use Rattle.bench.specs.Reports.{reportsFit, reportsAfterSlot}
 use Rattle.bench.specs.Outcomes.{slotGiven, calledOf, endedBy, bytesBy}
 use Rattle.bench.specs.Ledger.{Ledger, ledgerFits, ledgerAfter}
 
--- ---- set-up: 1, 16, 2, 14, 4, then what set-up without counts answers (4)
+-- ---- set-up: 1, 16, 2, 14, 17, 18, 4, then what set-up without counts answers (4)
 
-unfoldable pub setUpWith : Cable → List Counts → Table → Called
-setUpWith cable counts t =
-    ifPassed (cableFits cable) (faultOf cable) t
+unfoldable pub setUpWith : Choices → List ℕ → List Counts → Table → Called
+setUpWith choices slots counts t =
+    let cable = cableWith choices slots in
+    ifPassed (maySetUp cable (length slots)) (faultOf cable (length slots)) t
     (ifPassed (eqb (length counts) (cable .n)) 4 t
-    (setUpOf cable t))
+    (setUpGiven choices slots t))
 
 -- ---- slot: 4, 3, 13, then what the slot without them answers (5, 8 and 9)
 
@@ -53,20 +54,20 @@ offWith a ledger t =
 
 -- ---- each call
 
-abbrev pub calledWith : Command → ℕ → Ledger → List Counts → Table → Called
-calledWith (command.SetUp cable) room ledger counts t = setUpWith cable counts t
-calledWith (command.Off a) room ledger counts t = offWith a ledger t
-calledWith (command.Restart a) room ledger counts t = calledOf (command.Restart a) room t
-calledWith (command.Slot lost missed jobs) room ledger counts t = slotWith lost missed jobs room ledger counts t
-calledWith (command.Look lost) room ledger counts t = calledOf (command.Look lost) room t
+abbrev pub calledWith : Command → List ℕ → ℕ → Ledger → List Counts → Table → Called
+calledWith (command.SetUp choices) slots room ledger counts t = setUpWith choices slots counts t
+calledWith (command.Off a) slots room ledger counts t = offWith a ledger t
+calledWith (command.Restart a) slots room ledger counts t = calledOf (command.Restart a) slots room t
+calledWith (command.Slot lost missed jobs) slots room ledger counts t = slotWith lost missed jobs room ledger counts t
+calledWith (command.Look lost) slots room ledger counts t = calledOf (command.Look lost) slots room t
 
 -- With any ledger and any counts a call is the one without them, or it is refused by 13 or 4 and leaves the table.
 abbrev pub OnlyRefuses : Type 0
 OnlyRefuses =
-    (c : Command) (room : ℕ) (ledger : Ledger) (counts : List Counts) (t : Table)
-    → (calledWith c room ledger counts t ≡ calledOf c room t)
-    ⊎ ((calledWith c room ledger counts t ≡ record { table = t; answer = answer.Refused (cause 13) })
-    ⊎ (calledWith c room ledger counts t ≡ record { table = t; answer = answer.Refused (cause 4) }))
+    (c : Command) (slots : List ℕ) (room : ℕ) (ledger : Ledger) (counts : List Counts) (t : Table)
+    → (calledWith c slots room ledger counts t ≡ calledOf c slots room t)
+    ⊎ ((calledWith c slots room ledger counts t ≡ record { table = t; answer = answer.Refused (cause 13) })
+    ⊎ (calledWith c slots room ledger counts t ≡ record { table = t; answer = answer.Refused (cause 4) }))
 
 -- What a call that was made leaves; a refused one changes nothing.
 abbrev pub ifDone : {A : Type 0} → Answer → A → A → A
@@ -77,7 +78,7 @@ ifDone (answer.Refused cause) after before = before
 
 -- A leaving in a slot has that slot's number; "`off` counts as a leaving if the node was a member, dated with the slots done so far".
 abbrev pub dateOf : Command → Table → ℕ
-dateOf (command.SetUp cable) t = 0
+dateOf (command.SetUp choices) t = 0
 dateOf (command.Off a) t = slotsOf t
 dateOf (command.Restart a) t = 0
 dateOf (command.Slot lost missed jobs) t = slotsOf t + 1
@@ -85,7 +86,7 @@ dateOf (command.Look lost) t = 0
 
 -- Who left and who joined is entered.
 abbrev pub ledgerWith : Command → Table → Called → Ledger → Ledger
-ledgerWith (command.SetUp cable) before called ledger = ledger
+ledgerWith (command.SetUp choices) before called ledger = ledger
 ledgerWith (command.Off a) before called ledger = ifDone (called .answer) (ledgerAfter (dateOf (command.Off a) before) before (called .table) ledger) ledger
 ledgerWith (command.Restart a) before called ledger = ledger
 ledgerWith (command.Slot lost missed jobs) before called ledger =
@@ -95,7 +96,7 @@ ledgerWith (command.Look lost) before called ledger = ledger
 -- ---- the counts: "only set-up clears them"
 
 abbrev pub reportsWith : Command → Table → Called → List Counts → List Counts
-reportsWith (command.SetUp cable) before called counts = ifDone (called .answer) (noReportsAt (length counts)) counts
+reportsWith (command.SetUp choices) before called counts = ifDone (called .answer) (noReportsAt (length counts)) counts
 reportsWith (command.Off a) before called counts = counts
 reportsWith (command.Restart a) before called counts = counts
 reportsWith (command.Slot lost missed jobs) before called counts = ifDone (called .answer) (reportsAfterSlot lost missed jobs before counts) counts
@@ -110,11 +111,11 @@ pub record Kept : Type 0 where
   pub counts : List Counts
   pub reply : Reply
 
-unfoldable pub keptOf : Command → ℕ → Ledger → List Counts → Table → Kept
-keptOf c room ledger counts t =
-    let called = calledWith c room ledger counts t in
+unfoldable pub keptOf : Command → List ℕ → ℕ → Ledger → List Counts → Table → Kept
+keptOf c slots room ledger counts t =
+    let called = calledWith c slots room ledger counts t in
     record { table = called .table; ledger = ledgerWith c t called ledger; counts = reportsWith c t called counts; reply = endedBy c t called .reply }
 
 -- The lent bytes after a call.
-abbrev pub bytesWith : Command → Ledger → List Counts → Table → List ℕ → List ℕ
-bytesWith c ledger counts t out = bytesBy c t (calledWith c (length out) ledger counts t) out
+abbrev pub bytesWith : Command → List ℕ → Ledger → List Counts → Table → List ℕ → List ℕ
+bytesWith c slots ledger counts t out = bytesBy c t (calledWith c slots (length out) ledger counts t) out

@@ -14,7 +14,7 @@ use Rattle.bench.specs.declared.Outcome.{Outcome}
 use Rattle.bench.specs.declared.Outcome.the-variants as outcome
 use Rattle.bench.specs.declared.Reply.{Reply}
 use Rattle.bench.specs.Table.{Table, tableSound, nodeCount, slotsOf, speaker}
-use Rattle.bench.specs.Calls.{Called, ifPassed, setUpOf, slotOf, offOf, restartOf, lookOf, listIn, greatest, fateOf}
+use Rattle.bench.specs.Calls.{Called, ifPassed, setUpGiven, slotOf, offOf, restartOf, lookOf, listIn, greatest, fateOf}
 use Rattle.bench.specs.Reports.{jobsOn}
 use Rattle.bench.specs.Pairs.{pairsTold, slotBytes}
 
@@ -27,13 +27,13 @@ slotGiven lost missed jobs room t =
     (ifPassed (jobsWithin (jobsOn t) jobs) 8 t
     (slotOf lost missed room t))))
 
--- The call that a command asks for, where so many bytes are lent for the pairs, and neither ledger nor counts are kept.
-abbrev pub calledOf : Command → ℕ → Table → Called
-calledOf (command.SetUp cable) room t = setUpOf cable t
-calledOf (command.Off a) room t = offOf a t
-calledOf (command.Restart a) room t = restartOf a t
-calledOf (command.Slot lost missed jobs) room t = slotGiven lost missed jobs room t
-calledOf (command.Look lost) room t = lookOf t
+-- The call that a command asks for, where this slot table and so many bytes for the pairs are lent, and neither ledger nor counts are kept. (Only set-up looks at the slot table.)
+abbrev pub calledOf : Command → List ℕ → ℕ → Table → Called
+calledOf (command.SetUp choices) slots room t = setUpGiven choices slots t
+calledOf (command.Off a) slots room t = offOf a t
+calledOf (command.Restart a) slots room t = restartOf a t
+calledOf (command.Slot lost missed jobs) slots room t = slotGiven lost missed jobs room t
+calledOf (command.Look lost) slots room t = lookOf t
 
 -- ---- what there is to print
 
@@ -51,7 +51,7 @@ quietOutcome (answer.Refused cause) = outcome.Refused cause
 
 -- A look leaves the table as it is: the slots done, the next slot's sender and fate, the list and the distance are all told of it.
 abbrev pub outcomeOf : Command → Table → Called → Outcome
-outcomeOf (command.SetUp cable) before called = quietOutcome (called .answer)
+outcomeOf (command.SetUp choices) before called = quietOutcome (called .answer)
 outcomeOf (command.Off a) before called = quietOutcome (called .answer)
 outcomeOf (command.Restart a) before called = quietOutcome (called .answer)
 outcomeOf (command.Slot lost missed jobs) before called = slotOutcome lost before (called .table) (called .answer)
@@ -61,7 +61,7 @@ outcomeOf (command.Look lost) before called = slotOutcome lost before (called .t
 
 -- Pairs are told of slots alone.
 abbrev pub pairsOf : Command → Table → Called → ℕ
-pairsOf (command.SetUp cable) before called = 0
+pairsOf (command.SetUp choices) before called = 0
 pairsOf (command.Off a) before called = 0
 pairsOf (command.Restart a) before called = 0
 pairsOf (command.Slot lost missed jobs) before called = pairsTold before called
@@ -78,12 +78,12 @@ endedBy c before called = record {
   reply = record { outcome = outcomeOf c before called; pairs = pairsOf c before called };
 }
 
-unfoldable pub endedOf : Command → ℕ → Table → Ended
-endedOf c room t = endedBy c t (calledOf c room t)
+unfoldable pub endedOf : Command → List ℕ → ℕ → Table → Ended
+endedOf c slots room t = endedBy c t (calledOf c slots room t)
 
 -- The lent bytes after a call that came to this: no call but a slot changes one.
 abbrev pub bytesBy : Command → Table → Called → List ℕ → List ℕ
-bytesBy (command.SetUp cable) t called out = out
+bytesBy (command.SetUp choices) t called out = out
 bytesBy (command.Off a) t called out = out
 bytesBy (command.Restart a) t called out = out
 bytesBy (command.Slot lost missed jobs) t called out = slotBytes t called out

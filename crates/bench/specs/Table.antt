@@ -51,4 +51,4 @@ slotsOf t = recordOf t 1 .slots
 
 -- The next slot's sender.
 unfoldable pub speaker : Table → ℕ
-speaker t = sender (nodeCount t) (slotsOf t + 1)
+speaker t = sender (recordOf t 1 .cable) (slotsOf t + 1)

@@ -2,13 +2,13 @@
 // call does is specs/Calls, specs/Pairs and specs/Outcomes, and sequences of calls are specs/Runs. The
 // code is in `bench_calls`.
 use refusal::Refusal;
-use ring::Cable;
+use ring::Choices;
 
-// A call over the table: set-up with the cable's choices; off and restart of a node; a slot, whose
+// A call over the table: set-up with the cable's choices, beside which the slot table is lent; off and restart of a node; a slot, whose
 // message is lost or not, which these nodes miss, and with the sender's job byte; a look, which changes
 // nothing and tells of the next slot's message, lost or not.
 pub enum Command {
-    SetUp(Cable),
+    SetUp(Choices),
     Off(u32),
     Restart(u32),
     Slot(bool, u32, u8),

@@ -22,11 +22,11 @@ abbrev pub ended : ℕ → Rows → Ended → Ran
 ended n rows e = record { rows = e .table ++ drop n rows; outcome = e .reply .outcome; pairs = e .reply .pairs }
 
 -- A call where so many bytes are lent for the pairs, and neither ledger nor counts are kept.
-unfoldable pub callOf : ℕ → Command → ℕ → Rows → Ran
-callOf n c room rows = ended n rows (endedOf c room (tableOf n rows))
+unfoldable pub callOf : ℕ → Command → List ℕ → ℕ → Rows → Ran
+callOf n c slots room rows = ended n rows (endedOf c slots room (tableOf n rows))
 
 -- A call with a ledger and counts: the rows, the answer, and ledger and counts after it.
-unfoldable pub callWith : ℕ → Command → ℕ → Ledger → List Counts → Rows → Ran × Ledger × List Counts
-callWith n c room ledger counts rows =
-    let k = keptOf c room ledger counts (tableOf n rows) in
+unfoldable pub callWith : ℕ → Command → List ℕ → ℕ → Ledger → List Counts → Rows → Ran × Ledger × List Counts
+callWith n c slots room ledger counts rows =
+    let k = keptOf c slots room ledger counts (tableOf n rows) in
     (ended n rows (record { table = k .table; reply = k .reply }), k .ledger, k .counts)

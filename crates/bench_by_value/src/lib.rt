@@ -36,20 +36,21 @@ fn told(rows: [Node; 32], reply: Reply) -> Ran
     }
 }
 
-// Carries a call out on the first n rows, with the lent ledger and counts; a slot's pairs go to the lent
-// bytes.
+// Carries a call out on the first n rows, with the lent ledger, counts and slot table; a slot's pairs go
+// to the lent bytes.
 pub fn call(
     ledger: &mut [[u64; 3]],
     counts: &mut [[[u64; 8]; 32]],
     pairs: &mut [u8],
+    slots: &[u8],
     mut rows: [Node; 32],
     n: u32,
     command: Command,
 ) -> Ran
-    ensures { λ r. ⌜ ((r, now (ledger .exit), now (counts .exit)) ≡ callWith n command (length (now (pairs .entry))) (now (ledger .entry)) (now (counts .entry)) rows)
-        × (now (pairs .exit) ≡ bytesWith command (now (ledger .entry)) (now (counts .entry)) (tableOf n rows) (now (pairs .entry))) ⌝ }
+    ensures { λ r. ⌜ ((r, now (ledger .exit), now (counts .exit)) ≡ callWith n command (now (slots .entry)) (length (now (pairs .entry))) (now (ledger .entry)) (now (counts .entry)) rows)
+        × (now (pairs .exit) ≡ bytesWith command (now (slots .entry)) (now (ledger .entry)) (now (counts .entry)) (tableOf n rows) (now (pairs .entry))) ⌝ }
 {
     let size = size(n);
-    let reply = bench_calls::call(&mut rows[..size], ledger, counts, pairs, command);
+    let reply = bench_calls::call(&mut rows[..size], ledger, counts, pairs, slots, command);
     told(rows, reply)
 }

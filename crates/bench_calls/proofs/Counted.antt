@@ -19,8 +19,8 @@ use Rattle.nodeset.proofs.Tests.{both, all}
 use Rattle.nodeset.proofs.Bits.{has-none}
 use Rattle.nodeset.proofs.Laws.{has-without, has-without-other}
 use Rattle.nodeset.proofs.Subsets.{has-minus}
-use Rattle.ring.specs.declared.Cable.{Cable}
-use Rattle.ring.specs.Ring.{cableFits, nodeNumber, sender}
+use Rattle.ring.specs.declared.Choices.{Choices}
+use Rattle.ring.specs.Ring.{cableWith, maySetUp, nodeNumber}
 use Rattle.ring.specs.Answers.{faultOf}
 use Rattle.ring.proofs.Ranges.{ring-size}
 use Rattle.bench.proofs.Reports.{next-sender}
@@ -44,6 +44,7 @@ use Rattle.bench.specs.Kept.{reportsWith}
 use Rattle.bench.proofs.Places.{sound-placed}
 use Rattle.bench_walks.specs.declared.Order.{Order}
 use Rattle.bench_walks.specs.declared.Order.the-variants as order
+use Rattle.bench_walks.specs.declared.Beside.{Beside}
 use Rattle.bench_walks.specs.declared.Turn.{Turn}
 use Rattle.bench_walks.specs.declared.Survey.{Survey}
 use Rattle.bench_walks.specs.Survey.{surveyOf, fineTable}
@@ -146,66 +147,73 @@ slot-reported lost missed jobs t counts ok named l =
 
 -- ---- each call
 
-abbrev Reported : Command → Table → List Counts → Order → Type 0
-Reported c t counts o = reportedBy o c (surveyOf t) counts ≡ reportsWith c t (calledBy o t) counts
+abbrev Reported : Beside → Command → Table → List Counts → Order → Type 0
+Reported fits c t counts o = reportedBy o c (surveyOf t) counts ≡ reportsWith c t (calledBy fits o t) counts
 
-reported-if : (c : Command) (t : Table) (counts : List Counts) (b : Bool) (cause : Refusal) (o : Order) → (b ≡ true → Reported c t counts o) → Reported c t counts (ifGood b cause o)
-reported-if c t counts true cause o h = h refl
-reported-if (command.SetUp cable) t counts false cause o h = nobody-hears _ _ counts
-reported-if (command.Off a) t counts false cause o h = nobody-hears _ _ counts
-reported-if (command.Restart a) t counts false cause o h = nobody-hears _ _ counts
-reported-if (command.Slot lost missed jobs) t counts false cause o h = nobody-hears _ _ counts
-reported-if (command.Look lost) t counts false cause o h = nobody-hears _ _ counts
+reported-if : (fits : Beside) (c : Command) (t : Table) (counts : List Counts) (b : Bool) (cause : Refusal) (o : Order) → (b ≡ true → Reported fits c t counts o) → Reported fits c t counts (ifGood b cause o)
+reported-if fits c t counts true cause o h = h refl
+reported-if fits (command.SetUp choices) t counts false cause o h = nobody-hears _ _ counts
+reported-if fits (command.Off a) t counts false cause o h = nobody-hears _ _ counts
+reported-if fits (command.Restart a) t counts false cause o h = nobody-hears _ _ counts
+reported-if fits (command.Slot lost missed jobs) t counts false cause o h = nobody-hears _ _ counts
+reported-if fits (command.Look lost) t counts false cause o h = nobody-hears _ _ counts
 
-module _ (room : ℕ) (fits : Bool) (t : Table) (counts : List Counts) where
+module _ (slots : List ℕ) (room : ℕ) (fits : Bool) (t : Table) (counts : List Counts) where
+  abbrev lent : Command → Beside
+  lent c = besideBy c slots (surveyOf t) fits counts
+
   abbrev ordered : Command → Order
-  ordered c = orderFor c room (besideBy c (surveyOf t) fits counts) t
+  ordered c = orderFor c room (lent c) t
 
-  set-up-reported : (cable : Cable) → Reported (command.SetUp cable) t counts (ordered (command.SetUp cable))
+  abbrev Told : Command → Type 0
+  Told c = Reported (lent c) c t counts (ordered c)
+
+  set-up-reported : (choices : Choices) → Told (command.SetUp choices)
   unfolding orderFor
-  set-up-reported cable =
-      let c : Command = command.SetUp cable in
-      reported-if c t counts (cableFits cable) (cause (faultOf cable)) _ (λ _.
-      reported-if c t counts (eqb (length counts) (cable .n)) Unsound _ (λ _.
-      reported-if c t counts (eqb (length t) (cable .n)) Unsound (order.Start cable) (λ _. ap (λ (l : List Counts). noReportsAt (length l)) (nobody-hears _ _ counts))))
+  set-up-reported choices =
+      let c : Command = command.SetUp choices in
+      let cable = cableWith choices slots in
+      reported-if (lent c) c t counts (maySetUp cable (length slots)) (cause (faultOf cable (length slots))) _ (λ _.
+      reported-if (lent c) c t counts (eqb (length counts) (choices .n)) Unsound _ (λ _.
+      reported-if (lent c) c t counts (eqb (length t) (choices .n)) Unsound order.Start (λ _. ap (λ (l : List Counts). noReportsAt (length l)) (nobody-hears _ _ counts))))
 
-  off-reported : (a : ℕ) → Reported (command.Off a) t counts (ordered (command.Off a))
+  off-reported : (a : ℕ) → Told (command.Off a)
   unfolding orderFor
   off-reported a =
       let c : Command = command.Off a in
-      reported-if c t counts (fineTable (surveyOf t) (length t)) Unsound _ (λ _.
-      reported-if c t counts (nodeNumber (surveyOf t .cable .n) a) NodeNumber _ (λ _.
-      reported-if c t counts fits LedgerUnfit (order.Off a) (λ _. nobody-hears _ _ counts)))
+      reported-if (lent c) c t counts (fineTable (surveyOf t) (length t)) Unsound _ (λ _.
+      reported-if (lent c) c t counts (nodeNumber (surveyOf t .cable .n) a) NodeNumber _ (λ _.
+      reported-if (lent c) c t counts fits LedgerUnfit (order.Off a) (λ _. nobody-hears _ _ counts)))
 
-  restart-reported : (a : ℕ) → Reported (command.Restart a) t counts (ordered (command.Restart a))
+  restart-reported : (a : ℕ) → Told (command.Restart a)
   unfolding orderFor
   restart-reported a =
       let c : Command = command.Restart a in
-      reported-if c t counts (fineTable (surveyOf t) (length t)) Unsound _ (λ _.
-      reported-if c t counts (nodeNumber (surveyOf t .cable .n) a) NodeNumber _ (λ _.
-      reported-if c t counts (has (surveyOf t .out) a) NotOut (order.Restart a) (λ _. nobody-hears _ _ counts)))
+      reported-if (lent c) c t counts (fineTable (surveyOf t) (length t)) Unsound _ (λ _.
+      reported-if (lent c) c t counts (nodeNumber (surveyOf t .cable .n) a) NodeNumber _ (λ _.
+      reported-if (lent c) c t counts (has (surveyOf t .out) a) NotOut (order.Restart a) (λ _. nobody-hears _ _ counts)))
 
-  slot-told : (lost : Bool) (missed jobs : ℕ) → Reported (command.Slot lost missed jobs) t counts (ordered (command.Slot lost missed jobs))
+  slot-told : (lost : Bool) (missed jobs : ℕ) → Told (command.Slot lost missed jobs)
   unfolding orderFor
   slot-told lost missed jobs =
       let c : Command = command.Slot lost missed jobs in
-      reported-if c t counts (fineTable (surveyOf t) (length t)) Unsound _ (λ fine.
+      reported-if (lent c) c t counts (fineTable (surveyOf t) (length t)) Unsound _ (λ fine.
       let ok = sym (fine-table t) ∙ fine in
-      reported-if c t counts (eqb (length counts) (surveyOf t .cable .n) && leb (greatestOf counts) (surveyOf t .slots)) Unsound _ (λ reports.
+      reported-if (lent c) c t counts (eqb (length counts) (surveyOf t .cable .n) && leb (greatestOf counts) (surveyOf t .slots)) Unsound _ (λ reports.
       let one-each = eqb-true (length counts) (surveyOf t .cable .n) (both _ _ reports .0) ∙ said t ok .n in
-      reported-if c t counts (within (surveyOf t .cable .n) missed) NodeNumber _ (λ named.
-      reported-if c t counts fits LedgerUnfit _ (λ _.
-      reported-if c t counts (ltb (surveyOf t .slots) limit) SlotLimit _ (λ _.
-      reported-if c t counts (jobsWithin (surveyOf t .cable .m) jobs) SpareBit _ (λ _.
-      reported-if c t counts (leb 64 room) OutputShort (order.Slot (turnOf lost missed (surveyOf t))) (λ _. slot-reported lost missed jobs t counts ok named one-each)))))))
+      reported-if (lent c) c t counts (within (surveyOf t .cable .n) missed) NodeNumber _ (λ named.
+      reported-if (lent c) c t counts fits LedgerUnfit _ (λ _.
+      reported-if (lent c) c t counts (ltb (surveyOf t .slots) limit) SlotLimit _ (λ _.
+      reported-if (lent c) c t counts (jobsWithin (surveyOf t .cable .m) jobs) SpareBit _ (λ _.
+      reported-if (lent c) c t counts (leb 64 room) OutputShort (order.Slot (turnOf lost missed (surveyOf t))) (λ _. slot-reported lost missed jobs t counts ok named one-each)))))))
 
-  look-reported : (lost : Bool) → Reported (command.Look lost) t counts (ordered (command.Look lost))
+  look-reported : (lost : Bool) → Told (command.Look lost)
   unfolding orderFor
   look-reported lost =
-      reported-if (command.Look lost) t counts (fineTable (surveyOf t) (length t)) Unsound (order.Look (surveyOf t .slots) (surveyOf t .sender) (fateBy lost (surveyOf t .speaker))) (λ _. nobody-hears _ _ counts)
+      reported-if (lent (command.Look lost)) (command.Look lost) t counts (fineTable (surveyOf t) (length t)) Unsound (order.Look (surveyOf t .slots) (surveyOf t .sender) (fateBy lost (surveyOf t .speaker))) (λ _. nobody-hears _ _ counts)
 
-  pub reported-told : (c : Command) → Reported c t counts (ordered c)
-  reported-told (command.SetUp cable) = set-up-reported cable
+  pub reported-told : (c : Command) → Told c
+  reported-told (command.SetUp choices) = set-up-reported choices
   reported-told (command.Off a) = off-reported a
   reported-told (command.Restart a) = restart-reported a
   reported-told (command.Slot lost missed jobs) = slot-told lost missed jobs

@@ -18,7 +18,7 @@ use Rattle.bench.specs.Pairs.{sameState}
 use Rattle.bench.specs.Ledger.{isLeaving, isJoining}
 use Rattle.bench.proofs.Places.{record-from}
 use Rattle.ledger.specs.Entered.{nodesWhere, leavers, joiners}
-use Rattle.bench_walks.specs.declared.Order.{Order}
+use Rattle.bench_walks.specs.declared.Errand.{Errand}
 use Rattle.bench_walks.specs.declared.Moves.{Moves}
 use Rattle.bench_walks.specs.declared.Notes.{Notes}
 use Rattle.bench_walks.specs.Survey.{foldFrom}
@@ -79,15 +79,15 @@ one-moved a b l j own =
 
 -- ---- the records one after the other
 
-abbrev movesFrom : Order → Moves → ℕ → Table → Moves
+abbrev movesFrom : Errand → Moves → ℕ → Table → Moves
 movesFrom o m i t = foldFrom (λ m i v. movesWith m v (carried o i v)) m i t
 
-moves-part : (o : Order) (m : Notes) (i : ℕ) (t : Table) → noticedFrom o m i t .moves ≡ movesFrom o (m .moves) i t
+moves-part : (o : Errand) (m : Notes) (i : ℕ) (t : Table) → noticedFrom o m i t .moves ≡ movesFrom o (m .moves) i t
 unfolding foldFrom noticed
 moves-part o m i [] = refl
 moves-part o m i (v ∷ t) = moves-part o (noticed m v (carried o i v)) (suc i) t
 
-module _ (o : Order) (whole : Table) where
+module _ (o : Errand) (whole : Table) where
   abbrev after : Table
   after = carriedFrom o 0 whole
 
@@ -133,7 +133,7 @@ module _ (o : Order) (whole : Table) where
       ap (λ (m : Moves). movesFrom o m (suc i) t) (next i v (omega arith) (is 0 (omega arith) ∙ ap (λ (j : ℕ). getD whole j noNode) first) (p .own))
       ∙ moved-from cable slots (suc i) t (p .rest) (λ j h. let z : i + suc j ≡ suc i + j = omega arith in is (suc j) (omega (arith, h)) ∙ ap (λ (k : ℕ). getD whole k noNode) z) (omega arith)
 
-pub moved : (o : Order) (t : Table) → tableSound t ≡ true → notesOf o t .moves ≡ moves (leavers t (carriedFrom o 0 t)) (joiners t (carriedFrom o 0 t))
+pub moved : (o : Errand) (t : Table) → tableSound t ≡ true → notesOf o t .moves ≡ moves (leavers t (carriedFrom o 0 t)) (joiners t (carriedFrom o 0 t))
 unfolding notesOf noNotes nodesWhere
 moved o t ok =
     let z : (j : ℕ) → j ≡ 0 + j = λ j. omega arith in

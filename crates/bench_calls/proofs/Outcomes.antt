@@ -16,10 +16,10 @@ use Rattle.nodeset.specs.Sets.{has, within, distance}
 use Rattle.nodeset.specs.Sums.{num}
 use Rattle.nodeset.proofs.Tests.{by-cases, both, all, chosen, otherwise}
 use Rattle.nodeset.proofs.Counts.{distance-same}
-use Rattle.ring.specs.Ring.{cableFits, nodeNumber}
+use Rattle.ring.specs.Ring.{maySetUp, nodeNumber}
 use Rattle.ring.specs.Answers.{faultOf}
 use Rattle.ring.proofs.Ranges.{ring-size}
-use Rattle.ring.specs.declared.Cable.{Cable}
+use Rattle.ring.specs.declared.Choices.{Choices}
 use Rattle.message.specs.Message.{jobsWithin}
 use Rattle.bench_walks.specs.declared.Beside.{Beside}
 use Rattle.node_record.specs.declared.Node.{Node}
@@ -34,6 +34,7 @@ use Rattle.bench.specs.declared.Outcome.{Outcome}
 use Rattle.bench.specs.declared.Outcome.the-variants as outcome
 use Rattle.bench_walks.specs.declared.Order.{Order}
 use Rattle.bench_walks.specs.declared.Order.the-variants as order
+use Rattle.bench_walks.specs.declared.Errand.{Errand}
 use Rattle.bench_walks.specs.declared.Lists.{Lists}
 use Rattle.bench_walks.specs.declared.Notes.{Notes}
 use Rattle.bench.specs.Table.{Table, recordOf, eachFrom, tableSound, slotsOf, speaker}
@@ -44,7 +45,7 @@ use Rattle.bench.proofs.Places.{Placed, sound-placed, placed-sound, slots-of-pl
 use Rattle.bench.proofs.Accepted.{is-slot, slot-done}
 use Rattle.bench.proofs.Runs.{placed-call}
 use Rattle.bench_walks.specs.Survey.{foldFrom, surveyOf, fineTable, noMembers, membersOf}
-use Rattle.bench_walks.specs.Orders.{ifGood, fateBy, turnOf, orderFor, carried, carriedFrom, listWith, sameWith, listsWith, noLists, noticed, noNotes, noticedFrom, notesOf, answerTo, reachOf, outcomeBy, replyBy}
+use Rattle.bench_walks.specs.Orders.{ifGood, fateBy, turnOf, orderFor, errandOf, carried, carriedFrom, listWith, sameWith, listsWith, noLists, noticed, noNotes, noticedFrom, notesOf, answerTo, reachOf, outcomeBy, replyBy}
 use Rattle.bench_walks.proofs.Partly.{take-least}
 use Rattle.bench_calls.proofs.Surveys.{fine-table, said}
 use Rattle.bench_calls.proofs.Works.{calledFit, calledBy, slot-table, look-table, called-by}
@@ -74,7 +75,7 @@ listsFrom s [] = s
 listsFrom s (v ∷ t) = listsFrom (listsWith s v) t
 
 -- the notes' part of it, over the records after the order
-lists-part : (o : Order) (m : Notes) (i : ℕ) (t : Table) → noticedFrom o m i t .lists ≡ listsFrom (m .lists) (eachFrom (carried o) i t)
+lists-part : (o : Errand) (m : Notes) (i : ℕ) (t : Table) → noticedFrom o m i t .lists ≡ listsFrom (m .lists) (eachFrom (carried o) i t)
 unfolding foldFrom noticed eachFrom
 lists-part o m i [] = refl
 lists-part o m i (v ∷ t) = lists-part o (noticed m v (carried o i v)) (suc i) t
@@ -133,7 +134,7 @@ same-none n (v ∷ t) e = go (isMember (v .state)) (same-none n t) e
 -- ---- what is told of the table that an order leaves, if that is sound
 
 -- the distance that is looked for
-abbrev apartBy : Order → Table → ℕ
+abbrev apartBy : Errand → Table → ℕ
 apartBy o t = membersOf (take (reachOf (notesOf o t)) (carriedFrom o 0 t)) .greatest
 
 no-members : (t : Table) → membersOf (take 0 t) .greatest ≡ 0
@@ -151,7 +152,7 @@ reached : (b : Bool) (u : Table) → tableSound u ≡ true → (b ≡ true → g
 reached true u ok h = no-members u ∙ sym (h refl)
 reached false u ok h = ap (λ (w : Table). membersOf w .greatest) (all-taken u ok) ∙ of-sound u ok
 
-module _ (o : Order) (t : Table) where
+module _ (o : Errand) (t : Table) where
   seen-is : notesOf o t .lists ≡ listsFrom noLists (carriedFrom o 0 t)
   unfolding notesOf noNotes
   seen-is = lists-part o noNotes 0 t
@@ -173,22 +174,22 @@ figures {a} {a′} {b} {b′} {e} {e′} {f} {f′} {l} {l′} p q r s u =
 
 -- ---- a slot, refused or not
 
-abbrev Ends : Bool → Table → Order → Type 0
-Ends lost t o = outcomeBy o (notesOf o t .lists .list) (apartBy o t) ≡ slotOutcome lost t (carriedFrom o 0 t) (answerTo o)
+abbrev Ends : Beside → Bool → Table → Order → Type 0
+Ends fits lost t o = let e = errandOf o fits in outcomeBy o (notesOf e t .lists .list) (apartBy e t) ≡ slotOutcome lost t (carriedFrom e 0 t) (answerTo o)
 
-ends-if : (lost : Bool) (t : Table) (b : Bool) (cause : Refusal) (o : Order) → (b ≡ true → Ends lost t o) → Ends lost t (ifGood b cause o)
-ends-if lost t true cause o h = h refl
-ends-if lost t false cause o h = refl
+ends-if : (fits : Beside) (lost : Bool) (t : Table) (b : Bool) (cause : Refusal) (o : Order) → (b ≡ true → Ends fits lost t o) → Ends fits lost t (ifGood b cause o)
+ends-if fits lost t true cause o h = h refl
+ends-if fits lost t false cause o h = refl
 
-module _ (lost : Bool) (missed room : ℕ) (t : Table) (ok : tableSound t ≡ true) (named : within (length t) missed ≡ true) (below : ltb (slotsOf t) limit ≡ true) (fits : leb 64 room ≡ true) where
-  abbrev ran : Order
-  ran = order.Slot (turnOf lost missed (surveyOf t))
+module _ (beside : Beside) (lost : Bool) (missed room : ℕ) (t : Table) (ok : tableSound t ≡ true) (named : within (length t) missed ≡ true) (below : ltb (slotsOf t) limit ≡ true) (fits : leb 64 room ≡ true) where
+  abbrev ran : Errand
+  ran = errandOf (order.Slot (turnOf lost missed (surveyOf t))) beside
 
   abbrev after : Table
   after = carriedFrom ran 0 t
 
   table-is : after ≡ tableAfterSlot lost missed t
-  table-is = slot-table lost missed t ok (ltb-true (slotsOf t) limit below)
+  table-is = slot-table lost missed beside t ok (ltb-true (slotsOf t) limit below)
 
   runs : isSlot (slot lost missed room) t ≡ true
   runs = is-slot lost missed room t ok ∙ all named (all below fits)
@@ -202,39 +203,39 @@ module _ (lost : Bool) (missed room : ℕ) (t : Table) (ok : tableSound t ≡ tr
       subst (λ (u : Table). Placed (recordOf t 1 .cable) (slotsOf t + 1) u) (slot-done lost missed room t runs ∙ sym table-is)
       (subst (λ (b : Bool). Placed (recordOf t 1 .cable) (slotsOf t + num b) (callOf (slot lost missed room) t .table)) runs p)
 
-  slot-ran : Ends lost t ran
+  slot-ran : Ends beside lost t (order.Slot (turnOf lost missed (surveyOf t)))
   slot-ran =
       let s = said t ok in
       figures (ap (λ (m : ℕ). m + 1) (s .slots) ∙ sym (slots-of-placed (recordOf t 1 .cable) (slotsOf t + 1) after pos placed-after)) (s .sender)
       (ap (fateBy lost) (s .spoken) ∙ fate-read lost t) (list-is ran t) (apart-is ran t (placed-sound (recordOf t 1 .cable) (slotsOf t + 1) after pos placed-after))
 
-slot-ends : (lost : Bool) (missed jobs room : ℕ) (fits : Beside) (t : Table) → Ends lost t (orderFor (command.Slot lost missed jobs) room fits t)
+slot-ends : (lost : Bool) (missed jobs room : ℕ) (fits : Beside) (t : Table) → Ends fits lost t (orderFor (command.Slot lost missed jobs) room fits t)
 unfolding orderFor
 slot-ends lost missed jobs room fits t =
-    ends-if lost t (fineTable (surveyOf t) (length t)) Unsound _ (λ fine.
+    ends-if fits lost t (fineTable (surveyOf t) (length t)) Unsound _ (λ fine.
     let ok = sym (fine-table t) ∙ fine in
     let s = said t ok in
-    ends-if lost t (fits .reports) Unsound _ (λ _.
-    ends-if lost t (within (surveyOf t .cable .n) missed) NodeNumber _ (λ h.
-    ends-if lost t (fits .ledger) LedgerUnfit _ (λ _.
-    ends-if lost t (ltb (surveyOf t .slots) limit) SlotLimit _ (λ l.
-    ends-if lost t (jobsWithin (surveyOf t .cable .m) jobs) SpareBit _ (λ _.
-    ends-if lost t (leb 64 room) OutputShort (order.Slot (turnOf lost missed (surveyOf t))) (λ r.
-    slot-ran lost missed room t ok (sym (ap (λ (m : ℕ). within m missed) (s .n)) ∙ h) (sym (ap (λ (m : ℕ). ltb m limit) (s .slots)) ∙ l) r)))))))
+    ends-if fits lost t (fits .reports) Unsound _ (λ _.
+    ends-if fits lost t (within (surveyOf t .cable .n) missed) NodeNumber _ (λ h.
+    ends-if fits lost t (fits .ledger) LedgerUnfit _ (λ _.
+    ends-if fits lost t (ltb (surveyOf t .slots) limit) SlotLimit _ (λ l.
+    ends-if fits lost t (jobsWithin (surveyOf t .cable .m) jobs) SpareBit _ (λ _.
+    ends-if fits lost t (leb 64 room) OutputShort (order.Slot (turnOf lost missed (surveyOf t))) (λ r.
+    slot-ran fits lost missed room t ok (sym (ap (λ (m : ℕ). within m missed) (s .n)) ∙ h) (sym (ap (λ (m : ℕ). ltb m limit) (s .slots)) ∙ l) r)))))))
 
 -- ---- a look: the table is as it was
 
-look-ends : (lost : Bool) (room : ℕ) (fits : Beside) (t : Table) → Ends lost t (orderFor (command.Look lost) room fits t)
+look-ends : (lost : Bool) (room : ℕ) (fits : Beside) (t : Table) → Ends fits lost t (orderFor (command.Look lost) room fits t)
 unfolding orderFor
 look-ends lost room fits t =
-    ends-if lost t (fineTable (surveyOf t) (length t)) Unsound looking (λ fine.
+    ends-if fits lost t (fineTable (surveyOf t) (length t)) Unsound (looking .order) (λ fine.
     let ok = sym (fine-table t) ∙ fine in
     let s = said t ok in
-    let same : carriedFrom looking 0 t ≡ t = look-table (surveyOf t .slots) (surveyOf t .sender) (fateBy lost (surveyOf t .speaker)) t in
+    let same : carriedFrom looking 0 t ≡ t = look-table (surveyOf t .slots) (surveyOf t .sender) (fateBy lost (surveyOf t .speaker)) fits t in
     figures (s .slots ∙ ap slotsOf (sym same)) (s .sender) (ap (fateBy lost) (s .spoken) ∙ fate-read lost t) (list-is looking t) (apart-is looking t (ap tableSound same ∙ ok)))
   where
-    looking : Order
-    looking = order.Look (surveyOf t .slots) (surveyOf t .sender) (fateBy lost (surveyOf t .speaker))
+    looking : Errand
+    looking = errandOf (order.Look (surveyOf t .slots) (surveyOf t .sender) (fateBy lost (surveyOf t .speaker))) fits
 
 -- ---- a call of which nothing is printed but its refusal
 
@@ -245,12 +246,12 @@ quiet-if : (b : Bool) (cause : Refusal) (o : Order) → Quiet o → Quiet (ifGoo
 quiet-if true cause o h list apart = h list apart
 quiet-if false cause o h list apart = refl
 
-set-up-quiet : (cable : Cable) (room : ℕ) (fits : Beside) (t : Table) → Quiet (orderFor (command.SetUp cable) room fits t)
+set-up-quiet : (choices : Choices) (room : ℕ) (fits : Beside) (t : Table) → Quiet (orderFor (command.SetUp choices) room fits t)
 unfolding orderFor
-set-up-quiet cable room fits t =
-    quiet-if (cableFits cable) (cause (faultOf cable)) _
+set-up-quiet choices room fits t =
+    quiet-if (maySetUp (fits .cable) (fits .places)) (cause (faultOf (fits .cable) (fits .places))) _
     (quiet-if (fits .reports) Unsound _
-    (quiet-if (eqb (length t) (cable .n)) Unsound (order.Start cable) (λ list apart. refl)))
+    (quiet-if (eqb (length t) (fits .cable .n)) Unsound order.Start (λ list apart. refl)))
 
 off-quiet : (a room : ℕ) (fits : Beside) (t : Table) → Quiet (orderFor (command.Off a) room fits t)
 unfolding orderFor
@@ -264,19 +265,19 @@ restart-quiet a room fits t =
 
 -- ---- each call
 
-outcome-told : (c : Command) (room : ℕ) (fits : Beside) (t : Table) → let o = orderFor c room fits t in outcomeBy o (notesOf o t .lists .list) (apartBy o t) ≡ outcomeOf c t (calledBy o t)
-outcome-told (command.SetUp cable) room fits t = set-up-quiet cable room fits t _ _
+outcome-told : (c : Command) (room : ℕ) (fits : Beside) (t : Table) → let o = orderFor c room fits t in let e = errandOf o fits in outcomeBy o (notesOf e t .lists .list) (apartBy e t) ≡ outcomeOf c t (calledBy fits o t)
+outcome-told (command.SetUp choices) room fits t = set-up-quiet choices room fits t _ _
 outcome-told (command.Off a) room fits t = off-quiet a room fits t _ _
 outcome-told (command.Restart a) room fits t = restart-quiet a room fits t _ _
 outcome-told (command.Slot lost missed jobs) room fits t = slot-ends lost missed jobs room fits t
 outcome-told (command.Look lost) room fits t = look-ends lost room fits t
 
 -- what an order leaves, and what is answered
-abbrev pub done-by : Order → Table → Ended
-done-by o t = record { table = carriedFrom o 0 t; reply = replyBy o (notesOf o t) (membersOf (take (reachOf (notesOf o t)) (carriedFrom o 0 t))) }
+abbrev pub done-by : Errand → Table → Ended
+done-by e t = record { table = carriedFrom e 0 t; reply = replyBy (e .order) (notesOf e t) (membersOf (take (reachOf (notesOf e t)) (carriedFrom e 0 t))) }
 
-pub is-ended : (c : Command) (fits : Beside) (t : Table) (out : List ℕ) → done-by (orderFor c (length out) fits t) t ≡ endedBy c t (calledFit c (length out) fits t)
+pub is-ended : (c : Command) (fits : Beside) (t : Table) (out : List ℕ) → done-by (errandOf (orderFor c (length out) fits t) fits) t ≡ endedBy c t (calledFit c (length out) fits t)
 is-ended c fits t out =
-    let o = orderFor c (length out) fits t in
-    ap₂ (λ (x : Outcome) (y : ℕ). record { table = carriedFrom o 0 t; reply = record { outcome = x; pairs = y } }) (outcome-told c (length out) fits t) (pairs-told c fits t out)
+    let e = errandOf (orderFor c (length out) fits t) fits in
+    ap₂ (λ (x : Outcome) (y : ℕ). record { table = carriedFrom e 0 t; reply = record { outcome = x; pairs = y } }) (outcome-told c (length out) fits t) (pairs-told c fits t out)
     ∙ ap (endedBy c t) (called-by c (length out) fits t)

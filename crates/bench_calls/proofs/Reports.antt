@@ -15,8 +15,9 @@ use Rattle.refusal.specs.declared.Refusal.the-variants.{NodeNumber, Unsound, Sl
 use Rattle.refusal.specs.Causes.{cause}
 use Rattle.nodeset.specs.Sets.{has, within}
 use Rattle.nodeset.proofs.Tests.{by-cases, all, chosen}
+use Rattle.ring.specs.declared.Choices.{Choices}
 use Rattle.ring.specs.declared.Cable.{Cable}
-use Rattle.ring.specs.Ring.{cableFits, nodeNumber}
+use Rattle.ring.specs.Ring.{maySetUp, nodeNumber}
 use Rattle.ring.specs.Answers.{faultOf}
 use Rattle.ring.proofs.Ranges.{ring-size}
 use Rattle.message.specs.Message.{jobsWithin}
@@ -28,6 +29,7 @@ use Rattle.bench.specs.declared.Command.{Command}
 use Rattle.bench.specs.declared.Command.the-variants as command
 use Rattle.bench_walks.specs.declared.Order.{Order}
 use Rattle.bench_walks.specs.declared.Order.the-variants as order
+use Rattle.bench_walks.specs.declared.Errand.{Errand}
 use Rattle.bench_walks.specs.declared.Pairs.{Pairs}
 use Rattle.bench_walks.specs.declared.Notes.{Notes}
 use Rattle.bench.specs.Table.{Table, recordOf, eachFrom, placedFrom, tableSound, slotsOf}
@@ -35,7 +37,7 @@ use Rattle.bench.specs.Calls.{Called}
 use Rattle.bench.specs.Outcomes.{pairsOf, bytesBy}
 use Rattle.bench.specs.Pairs.{sameState, kindFrom, Pair, pairBytes, leaves, changesElse, groupFrom, pairsIn, pairsTold, slotBytes}
 use Rattle.bench_walks.specs.Survey.{foldFrom, surveyOf, fineTable}
-use Rattle.bench_walks.specs.Orders.{ifGood, fateBy, turnOf, orderFor, carried, pushed, withPair, noPairs, inGroup, withOne, groupedTo, ordered, noticed, noNotes, noticedFrom, notesOf, pairsBy, bytesTold, puts, writtenBy}
+use Rattle.bench_walks.specs.Orders.{ifGood, fateBy, turnOf, orderFor, errandOf, carried, pushed, withPair, noPairs, inGroup, withOne, groupedTo, ordered, noticed, noNotes, noticedFrom, notesOf, pairsBy, bytesTold, puts, writtenBy}
 use Rattle.bench_calls.proofs.Surveys.{placed, fine-table, said}
 use Rattle.bench_calls.proofs.Works.{calledFit, calledBy, called-by}
 
@@ -69,17 +71,17 @@ none-written b out = ap (λ (j : ℕ). puts b j out) (go (leb 0 32 && leb 64 (le
 
 -- ---- the pairs of an order, in rising order of nodes
 
-abbrev same : Order → ℕ → Node → Bool
+abbrev same : Errand → ℕ → Node → Bool
 same o i v = sameState (v .state) (carried o i v .state)
 
-abbrev kind : Order → ℕ → Node → ℕ
+abbrev kind : Errand → ℕ → Node → ℕ
 kind o i v = kindFrom (v .state) (carried o i v .state)
 
-abbrev changesOf : Order → ℕ → Table → List Pair
+abbrev changesOf : Errand → ℕ → Table → List Pair
 changesOf o i [] = []
 changesOf o i (v ∷ t) = cond (same o i v) (changesOf o (suc i) t) ((v .own, kind o i v) ∷ changesOf o (suc i) t)
 
-few : (o : Order) (i : ℕ) (t : Table) → length (changesOf o i t) ≤ length t
+few : (o : Errand) (i : ℕ) (t : Table) → length (changesOf o i t) ≤ length t
 few o i [] = omega arith
 few o i (v ∷ t) = go (few o (suc i) t) (same o i v)
   where
@@ -88,10 +90,10 @@ few o i (v ∷ t) = go (few o (suc i) t) (same o i v)
     go h false = omega (arith, h)
 
 -- the notes' part of the pairs
-abbrev notedFrom : Order → Pairs → ℕ → Table → Pairs
+abbrev notedFrom : Errand → Pairs → ℕ → Table → Pairs
 notedFrom o p i t = foldFrom (λ p i v. withPair p v (carried o i v)) p i t
 
-told-part : (o : Order) (m : Notes) (i : ℕ) (t : Table) → noticedFrom o m i t .pairs ≡ notedFrom o (m .pairs) i t
+told-part : (o : Errand) (m : Notes) (i : ℕ) (t : Table) → noticedFrom o m i t .pairs ≡ notedFrom o (m .pairs) i t
 unfolding foldFrom noticed
 told-part o m i [] = refl
 told-part o m i (v ∷ t) = told-part o (noticed m v (carried o i v)) (suc i) t
@@ -113,7 +115,7 @@ push-bytes p x k l h =
 push-size : (p : Pairs) (x k : ℕ) → length (p .bytes) ≡ 64 → length (pushed p x k .bytes) ≡ 64
 push-size p x k h = length-set (set (p .bytes) (p .count * 2) x) (p .count * 2 + 1) k ∙ length-set (p .bytes) (p .count * 2) x ∙ h
 
-notes : (cable : Cable) (slots : ℕ) (o : Order) (p : Pairs) (i : ℕ) (t : Table) → placedFrom cable slots (suc i) t ≡ true → p .count ≤ i → i + length t ≤ 32 → length (p .bytes) ≡ 64
+notes : (cable : Cable) (slots : ℕ) (o : Errand) (p : Pairs) (i : ℕ) (t : Table) → placedFrom cable slots (suc i) t ≡ true → p .count ≤ i → i + length t ≤ 32 → length (p .bytes) ≡ 64
     → Noted p (notedFrom o p i t) (changesOf o i t)
 unfolding foldFrom withPair pairBytes
 notes cable slots o p i [] e l m h = record { count = omega arith; size = h; bytes = sym (append-nil (take (p .count * 2) (p .bytes))) }
@@ -264,7 +266,7 @@ module _ (left : Bool) (bytes : List ℕ) (ps : List Pair) (are : take (length p
 
 -- ---- the groups of the changes are those of the two tables
 
-module _ (cable : Cable) (slots : ℕ) (o : Order) (left : Bool) (group : State → State → Bool)
+module _ (cable : Cable) (slots : ℕ) (o : Errand) (left : Bool) (group : State → State → Bool)
     (says : (a b : State) → group a b ≡ (not (sameState a b) && inGroup left (kindFrom a b))) where
   group-is : (i : ℕ) (t : Table) → placedFrom cable slots (suc i) t ≡ true → groupOf left (changesOf o i t) ≡ groupFrom group (suc i) t (eachFrom (carried o) i t)
   unfolding groupFrom eachFrom
@@ -287,19 +289,19 @@ module _ (cable : Cable) (slots : ℕ) (o : Order) (left : Bool) (group : State 
 
 -- ---- the whole table
 
-abbrev after : Order → Table → Table
+abbrev after : Errand → Table → Table
 after o t = eachFrom (carried o) 0 t
 
-pairs-are : (cable : Cable) (slots : ℕ) (o : Order) (t : Table) → placedFrom cable slots 1 t ≡ true
+pairs-are : (cable : Cable) (slots : ℕ) (o : Errand) (t : Table) → placedFrom cable slots 1 t ≡ true
     → groupOf true (changesOf o 0 t) ++ groupOf false (changesOf o 0 t) ≡ pairsIn t (after o t)
 unfolding pairsIn
 pairs-are cable slots o t e =
     ap₂ _++_ (group-is cable slots o true leaves (λ a b. refl) 0 t e) (group-is cable slots o false changesElse (λ a b. refl) 0 t e)
 
-abbrev noted-of : Order → Table → Pairs
+abbrev noted-of : Errand → Table → Pairs
 noted-of o t = notesOf o t .pairs
 
-noted-is : (o : Order) (t : Table) → noted-of o t ≡ notedFrom o noPairs 0 t
+noted-is : (o : Errand) (t : Table) → noted-of o t ≡ notedFrom o noPairs 0 t
 unfolding notesOf noNotes
 noted-is o t = told-part o noNotes 0 t
 
@@ -334,7 +336,7 @@ ordered-noted p ps n few =
     subst (λ (m : ℕ). Noted noPairs (groupedTo false (p .bytes) m (groupedTo true (p .bytes) m noPairs)) (groupOf true ps ++ groupOf false ps)) (sym most)
     (both-noted noPairs q (groupedTo false (p .bytes) (length ps) q) (groupOf true ps) (groupOf false ps) left-ones others)
 
-done-told : (o : Order) (t : Table) (out : List ℕ) → (tableSound t ≡ true) × (64 ≤ length out)
+done-told : (o : Errand) (t : Table) (out : List ℕ) → (tableSound t ≡ true) × (64 ≤ length out)
     → (noted-of o t .count ≡ length (pairsIn t (after o t))) × (written (noted-of o t) out ≡ (pairBytes (pairsIn t (after o t)) ++ drop (length (pairBytes (pairsIn t (after o t)))) out))
 done-told o t out (sound, room) =
     let s = said t sound in
@@ -363,24 +365,24 @@ done-told o t out (sound, room) =
 -- ---- a slot: its pairs are those of its changes
 
 -- the answer and the bytes of an order that a slot gives
-abbrev SlotTold : Order → Table → List ℕ → Type 0
-SlotTold o t out = (pairsBy o (notesOf o t) ≡ pairsTold t (calledBy o t)) × (writtenBy o (notesOf o t) out ≡ slotBytes t (calledBy o t) out)
+abbrev SlotTold : Beside → Order → Table → List ℕ → Type 0
+SlotTold fits o t out = let m = notesOf (errandOf o fits) t in (pairsBy o m ≡ pairsTold t (calledBy fits o t)) × (writtenBy o m out ≡ slotBytes t (calledBy fits o t) out)
 
-told-if : (b : Bool) (cause : Refusal) (o : Order) (t : Table) (out : List ℕ) → (b ≡ true → SlotTold o t out) → SlotTold (ifGood b cause o) t out
-told-if true cause o t out h = h refl
-told-if false cause o t out h = (refl, none-written (ordered (notesOf (order.Refuse cause) t .pairs) .bytes) out)
+told-if : (fits : Beside) (b : Bool) (cause : Refusal) (o : Order) (t : Table) (out : List ℕ) → (b ≡ true → SlotTold fits o t out) → SlotTold fits (ifGood b cause o) t out
+told-if fits true cause o t out h = h refl
+told-if fits false cause o t out h = (refl, none-written (ordered (notesOf (errandOf (order.Refuse cause) fits) t .pairs) .bytes) out)
 
-pub slot-told : (lost : Bool) (missed jobs : ℕ) (fits : Beside) (t : Table) (out : List ℕ) → SlotTold (orderFor (command.Slot lost missed jobs) (length out) fits t) t out
+pub slot-told : (lost : Bool) (missed jobs : ℕ) (fits : Beside) (t : Table) (out : List ℕ) → SlotTold fits (orderFor (command.Slot lost missed jobs) (length out) fits t) t out
 unfolding orderFor
 slot-told lost missed jobs fits t out =
-    told-if (fineTable (surveyOf t) (length t)) Unsound _ t out (λ ok.
-    told-if (fits .reports) Unsound _ t out (λ _.
-    told-if (within (surveyOf t .cable .n) missed) NodeNumber _ t out (λ h.
-    told-if (fits .ledger) LedgerUnfit _ t out (λ _.
-    told-if (ltb (surveyOf t .slots) limit) SlotLimit _ t out (λ l.
-    told-if (jobsWithin (surveyOf t .cable .m) jobs) SpareBit _ t out (λ _.
-    told-if (leb 64 (length out)) OutputShort (order.Slot (turnOf lost missed (surveyOf t))) t out (λ r.
-    done-told (order.Slot (turnOf lost missed (surveyOf t))) t out (sym (fine-table t) ∙ ok, leb-true 64 (length out) r))))))))
+    told-if fits (fineTable (surveyOf t) (length t)) Unsound _ t out (λ ok.
+    told-if fits (fits .reports) Unsound _ t out (λ _.
+    told-if fits (within (surveyOf t .cable .n) missed) NodeNumber _ t out (λ h.
+    told-if fits (fits .ledger) LedgerUnfit _ t out (λ _.
+    told-if fits (ltb (surveyOf t .slots) limit) SlotLimit _ t out (λ l.
+    told-if fits (jobsWithin (surveyOf t .cable .m) jobs) SpareBit _ t out (λ _.
+    told-if fits (leb 64 (length out)) OutputShort (order.Slot (turnOf lost missed (surveyOf t))) t out (λ r.
+    done-told (errandOf (order.Slot (turnOf lost missed (surveyOf t))) fits) t out (sym (fine-table t) ∙ ok, leb-true 64 (length out) r))))))))
 
 -- ---- the other calls: no pairs
 
@@ -391,17 +393,17 @@ silent-if : (b : Bool) (cause : Refusal) (o : Order) → Silent o → Silent (if
 silent-if true cause o h m = h m
 silent-if false cause o h m = refl
 
-silent-written : (c : Command) (fits : Beside) (t : Table) (out : List ℕ) → let o = orderFor c (length out) fits t in Silent o → writtenBy o (notesOf o t) out ≡ out
+silent-written : (c : Command) (fits : Beside) (t : Table) (out : List ℕ) → let o = orderFor c (length out) fits t in Silent o → writtenBy o (notesOf (errandOf o fits) t) out ≡ out
 silent-written c fits t out h =
-    let m = notesOf (orderFor c (length out) fits t) t in
+    let m = notesOf (errandOf (orderFor c (length out) fits t) fits) t in
     ap (λ (k : ℕ). puts (ordered (m .pairs) .bytes) (bytesTold k (length out)) out) (h m) ∙ none-written (ordered (m .pairs) .bytes) out
 
-set-up-silent : (cable : Cable) (room : ℕ) (fits : Beside) (t : Table) → Silent (orderFor (command.SetUp cable) room fits t)
+set-up-silent : (choices : Choices) (room : ℕ) (fits : Beside) (t : Table) → Silent (orderFor (command.SetUp choices) room fits t)
 unfolding orderFor
-set-up-silent cable room fits t =
-    silent-if (cableFits cable) (cause (faultOf cable)) _
+set-up-silent choices room fits t =
+    silent-if (maySetUp (fits .cable) (fits .places)) (cause (faultOf (fits .cable) (fits .places))) _
     (silent-if (fits .reports) Unsound _
-    (silent-if (eqb (length t) (cable .n)) Unsound (order.Start cable) (λ m. refl)))
+    (silent-if (eqb (length t) (fits .cable .n)) Unsound order.Start (λ m. refl)))
 
 off-silent : (a room : ℕ) (fits : Beside) (t : Table) → Silent (orderFor (command.Off a) room fits t)
 unfolding orderFor
@@ -419,15 +421,15 @@ look-silent lost room fits t = silent-if (fineTable (surveyOf t) (length t)) Uns
 
 -- ---- each call
 
-pub pairs-told : (c : Command) (fits : Beside) (t : Table) (out : List ℕ) → let o = orderFor c (length out) fits t in pairsBy o (notesOf o t) ≡ pairsOf c t (calledBy o t)
-pairs-told (command.SetUp cable) fits t out = set-up-silent cable (length out) fits t _
+pub pairs-told : (c : Command) (fits : Beside) (t : Table) (out : List ℕ) → let o = orderFor c (length out) fits t in pairsBy o (notesOf (errandOf o fits) t) ≡ pairsOf c t (calledBy fits o t)
+pairs-told (command.SetUp choices) fits t out = set-up-silent choices (length out) fits t _
 pairs-told (command.Off a) fits t out = off-silent a (length out) fits t _
 pairs-told (command.Restart a) fits t out = restart-silent a (length out) fits t _
 pairs-told (command.Slot lost missed jobs) fits t out = slot-told lost missed jobs fits t out .0
 pairs-told (command.Look lost) fits t out = look-silent lost (length out) fits t _
 
-pub bytes-told : (c : Command) (fits : Beside) (t : Table) (out : List ℕ) → let o = orderFor c (length out) fits t in writtenBy o (notesOf o t) out ≡ bytesBy c t (calledFit c (length out) fits t) out
-bytes-told (command.SetUp cable) fits t out = silent-written (command.SetUp cable) fits t out (set-up-silent cable (length out) fits t)
+pub bytes-told : (c : Command) (fits : Beside) (t : Table) (out : List ℕ) → let o = orderFor c (length out) fits t in writtenBy o (notesOf (errandOf o fits) t) out ≡ bytesBy c t (calledFit c (length out) fits t) out
+bytes-told (command.SetUp choices) fits t out = silent-written (command.SetUp choices) fits t out (set-up-silent choices (length out) fits t)
 bytes-told (command.Off a) fits t out = silent-written (command.Off a) fits t out (off-silent a (length out) fits t)
 bytes-told (command.Restart a) fits t out = silent-written (command.Restart a) fits t out (restart-silent a (length out) fits t)
 bytes-told (command.Slot lost missed jobs) fits t out =

@@ -16,7 +16,7 @@ use Rattle.nodeset.proofs.Laws.{has-with, has-with-other}
 use Rattle.ring.specs.declared.Cable.{Cable}
 use Rattle.ring.specs.Ring.{ringSize, nodeNumber, sender}
 use Rattle.ring.proofs.Ranges.{ring-size, node-number}
-use Rattle.ring.proofs.Senders.{sender-range}
+use Rattle.ring.proofs.Senders.{turns-of, sender-range}
 use Rattle.bench.specs.Reports.{jobsOn}
 use Rattle.node_record.specs.declared.Node.{Node}
 use Rattle.node_record.specs.States.{isOut}
@@ -190,7 +190,7 @@ pub record Said (t : Table) : Type 0 where
   pub listers : (a : ℕ) → nodeNumber (length t) a ≡ true → has (surveyOf t .listers) a ≡ has (recordOf t a .set) (speaker t)
 
 -- the sender of a record of a ring
-pub sender-after : (v : Node) → ringSize (v .cable .n) ≡ true → senderAfter v ≡ sender (v .cable .n) (v .slots + 1)
+pub sender-after : (v : Node) → ringSize (v .cable .n) ≡ true → senderAfter v ≡ sender (v .cable) (v .slots + 1)
 unfolding senderAfter
 sender-after v e = ap nodeIn (chosen _ _ e)
 
@@ -215,12 +215,12 @@ said (v ∷ t) e =
     let n-is′ : v .cable .n ≡ suc (length t) = eqb-true (v .cable .n) (suc (length t)) (c .0) in
     let p = placed (v .cable) (v .slots) 1 v t (c .1) in
     let ring-v : ringSize (v .cable .n) ≡ true = clauses v (p .good) .choices .ring in
-    let range = sender-range (v .cable .n) (omega (arith, ring-size (v .cable .n) ring-v .0)) (v .slots + 1) in
+    let range = sender-range (v .cable) (turns-of (v .cable) (clauses v (p .good) .choices)) (v .slots + 1) in
     let first = first-is v t in
     let noted : (g : Node → Bool) (a : ℕ) → nodeNumber (suc (length t)) a ≡ true → has (notedFrom g 0 (v ∷ t)) a ≡ g (recordOf (v ∷ t) a)
     = λ g a h. let m = node-number (suc (length t)) a h in
     noted-at g (v .cable) (v .slots) 1 a 0 (v ∷ t) (c .1) (omega arith) (m .0) (omega (arith, m .1)) (omega (arith, m .1, ring-size (v .cable .n) ring-v .1, n-is′)) (has-none a) ∙ ap g (there-is (v ∷ t) a) in
-    let speaks : sender (v .cable .n) (v .slots + 1) ≡ sender (suc (length t)) (recordOf (v ∷ t) 1 .slots + 1) = ap₂ (λ (m s : ℕ). sender m (s + 1)) n-is′ (sym (ap (λ (w : Node). w .slots) first)) in
+    let speaks : sender (v .cable) (v .slots + 1) ≡ sender (recordOf (v ∷ t) 1 .cable) (recordOf (v ∷ t) 1 .slots + 1) = ap (λ (w : Node). sender (w .cable) (w .slots + 1)) (sym first) in
     record {
       ring = subst (λ (m : ℕ). ringSize m ≡ true) n-is′ ring-v;
       count = ap (λ (w : Node). w .cable .n) first ∙ n-is′;

@@ -6,6 +6,7 @@ use bench::Listed;
 use bench::Outcome;
 use bench::Reply;
 use bench_walks::Beside;
+use bench_walks::Errand;
 use bench_walks::Members;
 use bench_walks::Notes;
 use bench_walks::Order;
@@ -13,13 +14,16 @@ use bench_walks::Survey;
 use bench_walks::Turn;
 use message::Reading;
 use node_record::Node;
+use ring::Cable;
+use ring::Choices;
 ghost use mathlib.Core.Path.{_≡_};
 ghost use Prim.Native.Nat.{_≤_};
 ghost use lib.ListN.{length};
 ghost use Rattle.bench.specs.Ledger.{ledgerFits};
 ghost use Rattle.bench.specs.Kept.{keptOf, bytesWith};
+ghost use Rattle.ring.specs.Ring.{cableWith};
 ghost use Rattle.node_steps.specs.Steps.{isHeard};
-ghost use Rattle.bench_calls.specs.Work.{workOf, dateBy, enteredBy, reportsFitBy, besideBy, hearersIn, hearersBy, jobsBy, isStart, reportedBy};
+ghost use Rattle.bench_calls.specs.Work.{workOf, dateBy, enteredBy, reportsFitBy, choicesIn, besideWith, hearersIn, hearersBy, jobsBy, isStart, reportedBy};
 ghost use Rattle.bench_walks.specs.Orders.{carriedFrom, reachOf, outcomeBy, pairsBy, replyBy, bytesTold, puts, writtenBy};
 
 // How many records are to be looked through for the distance.
@@ -39,7 +43,7 @@ fn outcome_by(order: Order, list: Listed, apart: u32) -> Outcome
 {
     match order {
         Order::Refuse(cause) => Outcome::Refused(cause),
-        Order::Start(_) => Outcome::Quiet,
+        Order::Start => Outcome::Quiet,
         Order::Off(_) => Outcome::Quiet,
         Order::Restart(_) => Outcome::Quiet,
         Order::Slot(turn) => {
@@ -57,7 +61,7 @@ fn pairs_by(order: Order, notes: Notes) -> u32
     let told = notes.pairs;
     match order {
         Order::Refuse(_) => 0,
-        Order::Start(_) => 0,
+        Order::Start => 0,
         Order::Off(_) => 0,
         Order::Restart(_) => 0,
         Order::Slot(_) => told.count,
@@ -116,10 +120,10 @@ pub fn reply_of(order: Order, work: Work) -> Reply
 }
 
 // Inner: has each record of any table do what is ordered. Nothing is tested.
-pub fn carry(table: &mut [Node], order: Order) -> Work
-    ensures { λ r. ⌜ (now (table .exit) ≡ carriedFrom order 0 (now (table .entry))) × (r ≡ workOf order (now (table .entry))) ⌝ }
+pub fn carry(table: &mut [Node], errand: Errand) -> Work
+    ensures { λ r. ⌜ (now (table .exit) ≡ carriedFrom errand 0 (now (table .entry))) × (r ≡ workOf errand (now (table .entry))) ⌝ }
 {
-    let notes = bench_walks::carry_out(table, order);
+    let notes = bench_walks::carry_out(table, errand);
     let reach = reach_of(notes);
     let members = bench_walks::look_through(table, reach);
     worked(notes, members)
@@ -139,7 +143,7 @@ fn date_of(order: Order, slots: u64) -> u64
     let next = ledger::one_more(slots);
     match order {
         Order::Refuse(_) => slots,
-        Order::Start(_) => slots,
+        Order::Start => slots,
         Order::Off(_) => slots,
         Order::Restart(_) => slots,
         Order::Slot(_) => next,
@@ -153,7 +157,7 @@ fn reports_fit(command: Command, s: Survey, arrays: usize, greatest: u64) -> boo
     ensures { λ r. ⌜ r ≡ reportsFitBy command s arrays greatest ⌝ }
 {
     match command {
-        Command::SetUp(cable) => arrays == cable.n as usize,
+        Command::SetUp(choices) => arrays == choices.n as usize,
         Command::Off(_) => true,
         Command::Restart(_) => true,
         Command::Slot(_, _, _) => (arrays == s.cable.n as usize) & (greatest <= s.slots),
@@ -161,15 +165,52 @@ fn reports_fit(command: Command, s: Survey, arrays: usize, greatest: u64) -> boo
     }
 }
 
-// Whether ledger and counts fit, where the ledger does or not.
-fn beside(counts: &[[[u64; 8]; 32]], s: Survey, command: Command, fits: bool) -> Beside
-    ensures { λ r. ⌜ r ≡ besideBy command s fits (now (counts .entry)) ⌝ }
+// The choices that set-up is asked for; those of no cable where nothing is set up.
+fn choices_in(command: Command) -> Choices
+    ensures { λ r. ⌜ r ≡ choicesIn command ⌝ }
+{
+    match command {
+        Command::SetUp(choices) => choices,
+        Command::Off(_) => NO_CHOICES,
+        Command::Restart(_) => NO_CHOICES,
+        Command::Slot(_, _, _) => NO_CHOICES,
+        Command::Look(_) => NO_CHOICES,
+    }
+}
+
+const NO_CHOICES: Choices = Choices {
+    n: 0,
+    k: 0,
+    m: 0,
+    lag: 0,
+};
+
+// The cable that set-up is asked for, with the slot table as it is lent.
+fn cable_in(slots: &[u8], command: Command) -> Cable
+    ensures { λ r. ⌜ r ≡ cableWith (choicesIn command) (now (slots .entry)) ⌝ }
+{
+    ring::cable_with(choices_in(command), slots)
+}
+
+// What is lent beside the table, where the ledger fits or not, and this cable is asked for, whose slot
+// table was lent with so many places.
+fn beside(
+    counts: &[[[u64; 8]; 32]],
+    s: Survey,
+    command: Command,
+    fits: bool,
+    cable: Cable,
+    places: usize,
+) -> Beside
+    ensures { λ r. ⌜ r ≡ besideWith command s fits (now (counts .entry)) cable places ⌝ }
 {
     let greatest = node_reports::greatest(counts);
     let reports = reports_fit(command, s, counts.len(), greatest);
     Beside {
         ledger: fits,
         reports,
+        cable,
+        places,
     }
 }
 
@@ -182,7 +223,7 @@ fn enter(ledger: &mut [[u64; 3]], s: Survey, order: Order, work: Work)
     let moves = notes.moves;
     match order {
         Order::Refuse(_) => {}
-        Order::Start(_) => {}
+        Order::Start => {}
         Order::Off(_) => ledger::enter(ledger, moves.left, moves.joined, date),
         Order::Restart(_) => {}
         Order::Slot(_) => ledger::enter(ledger, moves.left, moves.joined, date),
@@ -223,7 +264,7 @@ fn hearers_of(order: Order, listers: u32) -> u32
 {
     match order {
         Order::Refuse(_) => NOBODY,
-        Order::Start(_) => NOBODY,
+        Order::Start => NOBODY,
         Order::Off(_) => NOBODY,
         Order::Restart(_) => NOBODY,
         Order::Slot(turn) => hearers_in(turn, listers),
@@ -250,7 +291,7 @@ fn is_start(order: Order) -> bool
 {
     match order {
         Order::Refuse(_) => false,
-        Order::Start(_) => true,
+        Order::Start => true,
         Order::Off(_) => false,
         Order::Restart(_) => false,
         Order::Slot(_) => false,
@@ -287,24 +328,27 @@ fn tell(pairs: &mut [u8], order: Order, work: Work) -> Reply
 // the kind of its change; who left or joined in an off or a slot is entered in `ledger`; the reports heard in
 // a slot are counted in `counts`, which set-up clears. The table is tested once; sets are compared only where
 // two members hold different ones.
-// Set-up refuses by 1, 2, 14 and 4, off by 4, 3 and 13, restart by 4, 3 and 11, a slot by 4, 3, 13, 5, 8 and
+// Set-up, to which the slot table is lent in `slots`, refuses by 1, 16, 2, 14, 17, 18 and 4, off by 4, 3 and 13, restart by 4, 3 and 11, a slot by 4, 3, 13, 5, 8 and
 // 9, a look by 4.
 pub fn call(
     table: &mut [Node],
     ledger: &mut [[u64; 3]],
     counts: &mut [[[u64; 8]; 32]],
     pairs: &mut [u8],
+    slots: &[u8],
     command: Command,
 ) -> Reply
-    ensures { λ r. ⌜ (record { table = now (table .exit); ledger = now (ledger .exit); counts = now (counts .exit); reply = r } ≡ keptOf command (length (now (pairs .entry))) (now (ledger .entry)) (now (counts .entry)) (now (table .entry)))
-        × (now (pairs .exit) ≡ bytesWith command (now (ledger .entry)) (now (counts .entry)) (now (table .entry)) (now (pairs .entry))) ⌝ }
+    ensures { λ r. ⌜ (record { table = now (table .exit); ledger = now (ledger .exit); counts = now (counts .exit); reply = r } ≡ keptOf command (now (slots .entry)) (length (now (pairs .entry))) (now (ledger .entry)) (now (counts .entry)) (now (table .entry)))
+        × (now (pairs .exit) ≡ bytesWith command (now (slots .entry)) (now (ledger .entry)) (now (counts .entry)) (now (table .entry)) (now (pairs .entry))) ⌝ }
 {
     let size = table.len();
+    let cable = cable_in(slots, command);
     let survey = bench_walks::look_over(table, size);
     let fit = fits(ledger, survey);
-    let beside = beside(counts, survey, command, fit);
+    let beside = beside(counts, survey, command, fit, cable, slots.len());
     let order = bench_walks::order_of(command, survey, size, pairs.len(), beside);
-    let work = carry(table, order);
+    let errand = bench_walks::sent_with(order, beside);
+    let work = carry(table, errand);
     enter(ledger, survey, order, work);
     report(counts, survey, order, command);
     tell(pairs, order, work)

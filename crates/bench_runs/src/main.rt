@@ -1,9 +1,9 @@
 // Runs calls of the bench for a test. Commands from standard input act on 32 rows, the first of which
-// are the table, on 33 entries, the first of which are the ledger, and on 33 arrays of 32 rows of 8
-// counts, the first of which are the counts lent; the answers go to standard output. Each command is a
-// letter, a byte and further bytes. Numbers have four bytes, figures and counts eight, lowest first;
-// `lost` is a byte, 1 for yes; `row`, `job` and `jobs` are a byte each; input that ends within a command
-// counts as followed by zeros.
+// are the table, on 33 entries, the first of which are the ledger, on 33 arrays of 32 rows of 8 counts,
+// the first of which are the counts lent, and on a slot table; the answers go to standard output. Each
+// command is a letter, a byte and further bytes. Numbers have four bytes, figures and counts eight,
+// lowest first; `lost` is a byte, 1 for yes; `row`, `job` and `jobs` are a byte each; input that ends
+// within a command counts as followed by zeros.
 //
 //   N size                      the table is the first `size` rows, all if fewer; no answer
 //   L row record                row 0 to 31 becomes this record; no answer
@@ -13,6 +13,7 @@
 //   C array row job count       this count becomes that; arrays are 0 to 32, rows 0 to 31, jobs 0 to 7,
 //                               and any other leaves all counts; no answer
 //   K array                     the counts of array 0 to 32; any other number stands for array 0
+//   O places slots              the slot table lent has so many places, a byte each; no answer
 //   U room n k m lag            set-up
 //   F room a                    off
 //   R room a                    restart
@@ -23,7 +24,8 @@
 // refusal's number; by 26 bytes of what it tells (`answers`); by the whole buffer; by all 32 rows; and
 // by all 33 entries, three figures each. K is answered by the array's 2048 bytes, row by row. Any other
 // letter ends the run. Before the first command the table has no row, and a row is of no node; the
-// ledger has no entry, and all figures are 0; no array is lent, and all counts are 0.
+// ledger has no entry, and all figures are 0; no array is lent, and all counts are 0; the slot table has
+// no place.
 mod answers;
 mod arrays;
 mod entries;
@@ -33,7 +35,7 @@ use bench_by_value::Ran;
 use node_bytes::bytes;
 use node_bytes::rows;
 use node_record::Node;
-use ring::Cable;
+use ring::Choices;
 use run_io::block;
 use run_io::block::Block;
 use run_io::input;
@@ -42,30 +44,33 @@ use run_io::input::Unread;
 use run_io::output;
 
 // What there is from one command to the next beside the entries and the arrays: the rows, how many are
-// the table, how many entries are the ledger, how many arrays are lent, and the number of bytes that wait
-// in the output.
+// the table, how many entries are the ledger, how many arrays are lent, the slot table and how many places
+// it has, and the number of bytes that wait in the output.
 struct Held {
     rows: [Node; 32],
     size: u32,
     entries: usize,
     arrays: usize,
+    slots: Block,
+    places: usize,
     held: usize,
 }
 
 fn is_command(letter: u8) -> bool {
     match letter {
-        b'N' | b'L' | b'M' | b'G' | b'A' | b'C' | b'K' => true,
+        b'N' | b'L' | b'M' | b'G' | b'A' | b'C' | b'K' | b'O' => true,
         b'U' | b'F' | b'R' | b'S' | b'Q' => true,
         _ => false,
     }
 }
 
 // How many bytes follow the letter and the byte after it.
-fn body(letter: u8) -> u8 {
+fn body(letter: u8, byte: u8) -> u8 {
     match letter {
         b'L' => bytes::RECORD,
         b'G' => 24,
         b'C' => 10,
+        b'O' => byte,
         b'U' => 16,
         b'F' | b'R' => 4,
         b'S' => 6,
@@ -77,11 +82,11 @@ fn body(letter: u8) -> u8 {
 // A whole command; its further bytes go into the start of `block`.
 fn read(input: &mut [u8; 4096], left: Unread, block: &mut Block) -> Head {
     let head = input::read_head(input, left);
-    input::fill_after(input, head, block, body(head.letter))
+    input::fill_after(input, head, block, body(head.letter, head.byte))
 }
 
-fn cable_of(block: &Block) -> Cable {
-    Cable {
+fn choices_of(block: &Block) -> Choices {
+    Choices {
         n: block::word(block, 0),
         k: block::word(block, 4),
         m: block::word(block, 8),
@@ -91,7 +96,7 @@ fn cable_of(block: &Block) -> Cable {
 
 fn command_of(letter: u8, block: &Block) -> Command {
     match letter {
-        b'U' => Command::SetUp(cable_of(block)),
+        b'U' => Command::SetUp(choices_of(block)),
         b'F' => Command::Off(block::word(block, 0)),
         b'R' => Command::Restart(block::word(block, 0)),
         b'S' => Command::Slot(block[0] == 1, block::word(block, 1), block[5]),
@@ -99,7 +104,7 @@ fn command_of(letter: u8, block: &Block) -> Command {
     }
 }
 
-// Lends the first `room` bytes.
+// Lends the first `room` bytes, and the slot table.
 fn call(
     ledger: &mut [[u64; 3]],
     counts: &mut [[[u64; 8]; 32]],
@@ -110,10 +115,20 @@ fn call(
 ) -> Ran {
     let rows = state.rows;
     let n = state.size;
+    let table = state.slots;
+    let slots = bytes::between(&table, 0, state.places);
     if room <= buffer.len() {
-        bench_by_value::call(ledger, counts, &mut buffer[0..room], rows, n, command)
+        bench_by_value::call(
+            ledger,
+            counts,
+            &mut buffer[0..room],
+            slots,
+            rows,
+            n,
+            command,
+        )
     } else {
-        bench_by_value::call(ledger, counts, buffer, rows, n, command)
+        bench_by_value::call(ledger, counts, buffer, slots, rows, n, command)
     }
 }
 
@@ -195,7 +210,7 @@ fn run_counts(
     next
 }
 
-// The commands that say what the table, the ledger and the counts lent are.
+// The commands that say what the table, the ledger, the counts lent and the slot table are.
 fn prepared(entries: &mut [[u64; 3]; 33], state: Held, head: Head, block: &Block) -> Held {
     let mut next = state;
     let letter = head.letter;
@@ -209,6 +224,11 @@ fn prepared(entries: &mut [[u64; 3]; 33], state: Held, head: Head, block: &Block
         }
         b'A' => {
             next.arrays = byte as usize;
+        }
+        b'O' => {
+            let table = *block;
+            next.slots = table;
+            next.places = byte as usize;
         }
         b'L' => {
             let rows = state.rows;
@@ -232,7 +252,7 @@ fn run(
 ) -> Held {
     let letter = head.letter;
     match letter {
-        b'N' | b'L' | b'M' | b'G' | b'A' => prepared(entries, state, head, block),
+        b'N' | b'L' | b'M' | b'G' | b'A' | b'O' => prepared(entries, state, head, block),
         b'C' | b'K' => run_counts(output, arrays, state, head, block),
         _ => run_call(
             output,
@@ -255,6 +275,8 @@ fn run_all(input: &mut [u8; 4096], output: &mut [u8; 4096]) -> usize {
         size: 0,
         entries: 0,
         arrays: 0,
+        slots: [0; 255],
+        places: 0,
         held: 0,
     };
     let mut turns = u64::MAX;

@@ -320,6 +320,31 @@ module _ {M : Type 1} {𝓤 : URA M} {H : Heap 𝓤} {A : Atoms 𝓤} {K : Type 
       subst (λ (m : ℕ). ((ν : ℕ) (δ : GName) (i : Item 𝓤) (j : Item 𝓤) → Opds K W (i ∷ j ∷ Γ) E xs (sliceVal (b, o) m ∷ flat (typesAt ss (ν ∷ [], tt)) (spelled 𝓤 H A (typesAt ss (ν ∷ [], tt)) (ps (ν ∷ [], tt)) (a (ν ∷ [], tt))))) → ((κs : Lfts 1) (r : typeAt s κs .Denot) → Is (typeAt s κs) r (p κs .val r ∷ []) → φ κs r → Seq K W (‵ (MutSlice (named 0) κ R .own (at R b o ys γ) (sliceVal (b, o) m ∷ [])) ∷ ‵ (flft κ sh) ∷ put 𝓤 H A n (‵ (fat fullShare (p κs .mir) bd od (p κs .val r))) Γ) (runs C Λ E rest q)) → Seq K W (‵ (MutSlice (named 0) κ R .own (at R b o ys γ) (sliceVal (b, o) m ∷ [])) ∷ ‵ (flft κ sh) ∷ Γ) (runs C Λ E (seq (call f xs d) rest) q)) (sym len)
       (λ os′ k′. calls-sharing t fm R ss ks s c met κ sh γ b o ys room ps a gs g needs φ says os′ p fd n rm k′) os k
 
+  -- a `&` slice that the caller holds is handed on for its own lifetime, and not asked for again
+  pub hands : K → FmC 𝓤 H (W .laws) C → {rest : Body} (R : RattleType) (ss : List (Slot 1)) (ks : Kepts ss) (s : Slot 1) (c : Clauses 𝓤 (by-slice (of-shr R) ss ks s)) → Triple 𝓤 (C f) (tripleOf 𝓤 H A (by-slice (of-shr R) ss ks s .signature) (closing 𝓤 H A (by-slice (of-shr R) ss ks s) c))
+      → (κ : Lft) (sh : Share) (γ : GName) (b o : ℕ) (ys : List (R .Denot))
+      → (ps : Plains 𝓤 H A (typesAt ss (κ, tt))) (a : Denots (typesAt ss (κ, tt))) → Are (typesAt ss (κ, tt)) (Ises (typesAt ss (κ, tt))) a (spelled 𝓤 H A (typesAt ss (κ, tt)) ps a)
+      → (g : c (κ, tt) (at R b o ys γ, a) .ghost) → ent 𝓤 (emp 𝓤) (c (κ, tt) (at R b o ys γ, a) .requires g)
+      → (φ : typeAt s (κ, tt) .Denot → Type 0)
+      → ((r : typeAt s (κ, tt) .Denot) (ws : Lasts (by-slice (of-shr R) ss ks s) (κ, tt) (at R b o ys γ, a))
+      → ent 𝓤 (c (κ, tt) (at R b o ys γ, a) .ensures g r (atExit (by-slice (of-shr R) ss ks s) (κ, tt) (at R b o ys γ, a) ws)) (fact 𝓤 (φ r)))
+      → ((i : Item 𝓤) → Opds K W (i ∷ Γ) E xs (sliceVal (b, o) (length ys) ∷ flat (typesAt ss (κ, tt)) (spelled 𝓤 H A (typesAt ss (κ, tt)) ps a)))
+      → (p : Plain 𝓤 H A (typeAt s (κ, tt))) {bd od : ℕ} → ((Δ : List (Item 𝓤)) → Finds K W Δ E d (p .mir, bd, od)) → (n : ℕ) → nth 𝓤 H A n Γ ≡ ‵ (froom (p .mir) bd od)
+      → ((r : typeAt s (κ, tt) .Denot) → Is (typeAt s (κ, tt)) r (p .val r ∷ []) → φ r → Seq K W (‵ (flft κ sh) ∷ put 𝓤 H A n (‵ (fat fullShare (p .mir) bd od (p .val r))) Γ) (runs C Λ E rest q))
+      → Seq K W (‵ (flft κ sh) ∷ ‵ (ShrSlice (named 0) κ R .own (at R b o ys γ) (sliceVal (b, o) (length ys) ∷ [])) ∷ Γ) (runs C Λ E (seq (call f xs d) rest) q)
+  hands t fm {rest} R ss ks s c met κ sh γ b o ys ps a gs g needs φ says os p fd n rm k =
+      let Q : RattleType = typeAt s (κ, tt) in
+      let x : RefT (List (R .Denot)) = at R b o ys γ in
+      let F : Ended = by-slice (of-shr R) ss ks s in
+      let y : tripleOf 𝓤 H A (F .signature) (closing 𝓤 H A F c) .Ghost = (bound 𝓤 H A (of-shr R) ss ks s κ sh x (sliceVal (b, o) (length ys) ∷ []) a (spelled 𝓤 H A (typesAt ss (κ, tt)) ps a), g) in
+      use2 W (raw (tripleOf 𝓤 H A (F .signature) (closing 𝓤 H A F c) .pre y)) (slice-entry 𝓤 H A (ShrSlice (named 0) κ R) (typesAt ss (κ, tt)) ps (A .lft κ sh) _ x (sliceVal (b, o) (length ys) ∷ []) a gs needs) $
+      calls-by t fm F c met y (λ r ws. φ r) says (os _) (λ v r ws h.
+      use1 W (‵ (flft κ sh) ⊛ ‵ ftrue) (id⊢ 𝓤 _) $ split t $ move t (2 ∷ []) $
+      peeks t Q (Is Q) (shows 𝓤 H A Q) r (v ∷ []) (λ gr. drop t $ move t (1 ∷ 2 ∷ []) $ drop t $ drop t $
+      let is : Is Q r (p .val r ∷ []) = subst (Is Q r) (p .tells r (v ∷ []) gr) gr in
+      subst (λ (vs : List Val). Seq K W (‵ (flft κ sh) ∷ Γ) (lands C Λ E d (only vs) rest q)) (sym (p .tells r (v ∷ []) gr))
+      (land t (fd _) (init t (suc n) rm (p .typed r is)) $ k r is h)))
+
 -- ---- from a walk to the contract
 -- what is left to show beside P, of nothing
 pub keeping : {M : Type 1} {𝓤 : URA M} {H : Heap 𝓤} {A : Atoms 𝓤} {K : Type 0} {W : Given 𝓤 H A} {Γ : List (Item 𝓤)} → K → {P Q : SProp 𝓤} → ent 𝓤 (emp 𝓤) Q → Step K W Γ (prop P) Γ (prop (sep 𝓤 P Q))

@@ -37,7 +37,7 @@ slice m = sliceTy (tyRef (named 0) m (pointee (T.the-row .written)))
 
 -- The bytes of a record.
 abbrev pub rowBytes : ℕ
-rowBytes = 72
+rowBytes = 104
 
 pub bytes : (n i : ℕ) → n * rowBytes < 2 ^ 63 → i < n → i * rowBytes < 2 ^ 64
 bytes n i h l = omega (arith, h, l)

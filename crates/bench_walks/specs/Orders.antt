@@ -10,7 +10,7 @@ use Rattle.refusal.specs.declared.Refusal.the-variants.{NodeNumber, Unsound, Sl
 use Rattle.refusal.specs.Causes.{cause}
 use Rattle.nodeset.specs.Sets.{has, within, withIf}
 use Rattle.ring.specs.declared.Cable.{Cable}
-use Rattle.ring.specs.Ring.{cableFits, nodeNumber}
+use Rattle.ring.specs.Ring.{maySetUp, nodeNumber}
 use Rattle.ring.specs.Answers.{faultOf}
 use Rattle.message.specs.declared.Reading.{Reading}
 use Rattle.message.specs.declared.Reading.the-variants as reading
@@ -30,6 +30,7 @@ use Rattle.bench.specs.declared.Command.the-variants as command
 use Rattle.bench_walks.specs.declared.Order.{Order}
 use Rattle.bench_walks.specs.declared.Order.the-variants as order
 use Rattle.bench_walks.specs.declared.Beside.{Beside}
+use Rattle.bench_walks.specs.declared.Errand.{Errand}
 use Rattle.bench_walks.specs.declared.Turn.{Turn}
 use Rattle.bench_walks.specs.declared.Pairs.{Pairs}
 use Rattle.bench_walks.specs.declared.Moves.{Moves}
@@ -55,12 +56,12 @@ use Rattle.bench_walks.specs.Survey.{foldFrom, surveyOf, fineTable}
 abbrev pub ifGood : Bool → Refusal → Order → Order
 ifGood good cause o = cond good o (order.Refuse cause)
 
-abbrev pub setUpOrder : Cable → ℕ → Bool → Order
-setUpOrder cable size reports =
-    ifGood (cableFits cable) (cause (faultOf cable))
-    (ifGood reports Unsound
-    (ifGood (eqb size (cable .n)) Unsound
-    (order.Start cable)))
+abbrev pub setUpOrder : ℕ → Beside → Order
+setUpOrder size beside =
+    ifGood (maySetUp (beside .cable) (beside .places)) (cause (faultOf (beside .cable) (beside .places)))
+    (ifGood (beside .reports) Unsound
+    (ifGood (eqb size (beside .cable .n)) Unsound
+    order.Start))
 
 abbrev pub offOrder : ℕ → Survey → ℕ → Bool → Order
 offOrder a s size fits =
@@ -104,7 +105,7 @@ abbrev pub lookOrder : Bool → Survey → ℕ → Order
 lookOrder lost s size = ifGood (fineTable s size) Unsound (order.Look (s .slots) (s .sender) (fateBy lost (s .speaker)))
 
 abbrev pub orderOf : Command → Survey → ℕ → ℕ → Beside → Order
-orderOf (command.SetUp cable) s size room beside = setUpOrder cable size (beside .reports)
+orderOf (command.SetUp choices) s size room beside = setUpOrder size beside
 orderOf (command.Off a) s size room beside = offOrder a s size (beside .ledger)
 orderOf (command.Restart a) s size room beside = restartOrder a s size
 orderOf (command.Slot lost missed jobs) s size room beside = slotOrder lost missed jobs room s size beside
@@ -113,9 +114,12 @@ orderOf (command.Look lost) s size room beside = lookOrder lost s size
 unfoldable pub orderFor : Command → ℕ → Beside → Table → Order
 orderFor c room beside t = orderOf c (surveyOf t) (length t) room beside
 
--- Nothing lent beside the table is amiss.
-abbrev pub allFit : Beside
-allFit = record { ledger = true; reports = true }
+-- Nothing lent beside the table is amiss, and this cable is asked for, with so many places.
+abbrev pub allFit : Cable → ℕ → Beside
+allFit cable places = record { ledger = true; reports = true; cable = cable; places = places }
+
+abbrev pub errandOf : Order → Beside → Errand
+errandOf o beside = record { order = o; cable = beside .cable }
 
 -- ---- carrying an order out
 
@@ -136,16 +140,19 @@ heardAt turn v = cond (has (turn .missed) (v .own)) unheard (turn .heard)
 abbrev pub stepAt : Turn → Node → Node
 stepAt turn v = afterBy (turn .digest) (turn .sender) (heardAt turn v) (numbered (turn .slot) v)
 
-unfoldable pub carried : Order → ℕ → Node → Node
-carried (order.Refuse cause) i v = v
-carried (order.Start cable) i v = starting cable (placeOf i)
-carried (order.Off a) i v = offAt a v
-carried (order.Restart a) i v = restartAt a v
-carried (order.Slot turn) i v = stepAt turn v
-carried (order.Look slots sender fate) i v = v
+unfoldable pub carriedBy : Order → Cable → ℕ → Node → Node
+carriedBy (order.Refuse cause) cable i v = v
+carriedBy order.Start cable i v = starting cable (placeOf i)
+carriedBy (order.Off a) cable i v = offAt a v
+carriedBy (order.Restart a) cable i v = restartAt a v
+carriedBy (order.Slot turn) cable i v = stepAt turn v
+carriedBy (order.Look slots sender fate) cable i v = v
 
-abbrev pub carriedFrom : Order → ℕ → Table → Table
-carriedFrom o i t = eachFrom (carried o) i t
+abbrev pub carried : Errand → ℕ → Node → Node
+carried e i v = carriedBy (e .order) (e .cable) i v
+
+abbrev pub carriedFrom : Errand → ℕ → Table → Table
+carriedFrom e i t = eachFrom (carried e) i t
 
 -- ---- the pairs, in rising order of nodes as they are noted
 
@@ -210,17 +217,17 @@ noticed m before after = record { pairs = withPair (m .pairs) before after; move
 unfoldable pub noNotes : Notes
 noNotes = record { pairs = noPairs; moves = noMoves; lists = noLists }
 
-abbrev pub noticedFrom : Order → Notes → ℕ → Table → Notes
+abbrev pub noticedFrom : Errand → Notes → ℕ → Table → Notes
 noticedFrom o m i t = foldFrom (λ m i v. noticed m v (carried o i v)) m i t
 
-unfoldable pub notesOf : Order → Table → Notes
+unfoldable pub notesOf : Errand → Table → Notes
 notesOf o t = noticedFrom o noNotes 0 t
 
 -- ---- what is answered
 
 abbrev pub answerTo : Order → Answer
 answerTo (order.Refuse cause) = answer.Refused cause
-answerTo (order.Start cable) = answer.Done
+answerTo order.Start = answer.Done
 answerTo (order.Off a) = answer.Done
 answerTo (order.Restart a) = answer.Done
 answerTo (order.Slot turn) = answer.Done
@@ -233,7 +240,7 @@ reachOf m = cond (m .lists .same) 0 32
 -- What there is to print.
 abbrev pub outcomeBy : Order → Listed → ℕ → Outcome
 outcomeBy (order.Refuse cause) list apart = outcome.Refused cause
-outcomeBy (order.Start cable) list apart = outcome.Quiet
+outcomeBy order.Start list apart = outcome.Quiet
 outcomeBy (order.Off a) list apart = outcome.Quiet
 outcomeBy (order.Restart a) list apart = outcome.Quiet
 outcomeBy (order.Slot turn) list apart = outcome.Slot (turn .slot) (turn .sender) (turn .fate) list apart
@@ -242,7 +249,7 @@ outcomeBy (order.Look slots sender fate) list apart = outcome.Slot slots sender 
 -- Pairs are told of a slot alone.
 abbrev pub pairsBy : Order → Notes → ℕ
 pairsBy (order.Refuse cause) m = 0
-pairsBy (order.Start cable) m = 0
+pairsBy order.Start m = 0
 pairsBy (order.Off a) m = 0
 pairsBy (order.Restart a) m = 0
 pairsBy (order.Slot turn) m = m .pairs .count

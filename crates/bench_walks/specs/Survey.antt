@@ -26,7 +26,7 @@ nodeIn (speaker.Node x) = x
 nodeIn (speaker.Refused cause) = 0
 
 unfoldable pub senderAfter : Node → ℕ
-senderAfter v = nodeIn (senderOf (v .cable .n) (v .slots + 1))
+senderAfter v = nodeIn (senderOf (v .cable) (v .slots + 1))
 
 -- Before any record is seen: cable and slots are those of v.
 abbrev pub begun : Bool → Node → Survey

@@ -34,7 +34,7 @@ ghost use mathlib.Core.Path.{_≡_};
 ghost use Prim.Native.Nat.{_<_, _≤_, max, min};
 ghost use lib.ListN.{length, take};
 ghost use Rattle.bench_walks.specs.Survey.{glimpseOf, surveyed, unseen, surveyOf, fineTable, farFrom, memberSeen, gathered, noMembers, membersOf};
-ghost use Rattle.bench_walks.specs.Orders.{orderOf, carried, carriedFrom, pushed, withPair, noPairs, inGroup, withOne, groupedTo, ordered, movesWith, listWith, sameWith, listsWith, noticed, noNotes, notesOf};
+ghost use Rattle.bench_walks.specs.Orders.{orderOf, errandOf, carried, carriedFrom, pushed, withPair, noPairs, inGroup, withOne, groupedTo, ordered, movesWith, listWith, sameWith, listsWith, noticed, noNotes, notesOf};
 
 // What a look over a table finds: whether each record stands in its place; the cable and slots of
 // the first; the next sender's number and record; the nodes that are out; those whose set has the sender.
@@ -48,10 +48,13 @@ pub struct Survey {
     pub listers: u32,
 }
 
-// Whether what is lent beside the table fits: the ledger, and the counts of failure reports.
+// What is lent beside the table: whether the ledger and the counts of failure reports fit; the cable that
+// set-up is asked for, and how many places its slot table was given with.
 pub struct Beside {
     pub ledger: bool,
     pub reports: bool,
+    pub cable: Cable,
+    pub places: usize,
 }
 
 // The sets of the members, and the greatest distance of two of them.
@@ -76,11 +79,17 @@ pub struct Turn {
 // slots before it, its sender, what comes of its message.
 pub enum Order {
     Refuse(Refusal),
-    Start(Cable),
+    Start,
     Off(u32),
     Restart(u32),
     Slot(Turn),
     Look(u64, u32, Fate),
+}
+
+// An order, and the cable that set-up is asked for: an enum holds no array.
+pub struct Errand {
+    pub order: Order,
+    pub cable: Cable,
 }
 
 // Pairs of a node and a kind.
@@ -138,7 +147,7 @@ pub fn order_of(command: Command, s: Survey, size: usize, room: usize, beside: B
     ensures { λ r. ⌜ r ≡ orderOf command s size room beside ⌝ }
 {
     match command {
-        Command::SetUp(cable) => set_up_order(cable, size, beside.reports),
+        Command::SetUp(_) => set_up_order(size, beside),
         Command::Off(a) => off_order(a, s, size, beside.ledger),
         Command::Restart(a) => restart_order(a, s, size),
         Command::Slot(lost, missed, jobs) => slot_order(lost, missed, jobs, room, s, size, beside),
@@ -146,13 +155,23 @@ pub fn order_of(command: Command, s: Survey, size: usize, room: usize, beside: B
     }
 }
 
-// The record at index i after an order.
-fn carried(order: Order, i: usize, v: Node) -> Node
-    ensures { λ r. ⌜ r ≡ carried order i v ⌝ }
+// An order with the cable that is lent beside the table.
+pub fn sent_with(order: Order, beside: Beside) -> Errand
+    ensures { λ r. ⌜ r ≡ errandOf order beside ⌝ }
 {
+    let cable = beside.cable;
+    Errand { order, cable }
+}
+
+// The record at index i after an order.
+fn carried(errand: Errand, i: usize, v: Node) -> Node
+    ensures { λ r. ⌜ r ≡ carried errand i v ⌝ }
+{
+    let order = errand.order;
+    let cable = errand.cable;
     match order {
         Order::Refuse(_) => v,
-        Order::Start(cable) => node_changes::starting(cable, place_of(i)),
+        Order::Start => node_changes::starting(cable, place_of(i)),
         Order::Off(a) => off_at(a, v),
         Order::Restart(a) => restart_at(a, v),
         Order::Slot(turn) => step_at(turn, v),
@@ -439,14 +458,14 @@ pub fn look_through(table: &[Node], reach: usize) -> Members
 }
 
 // Has each record do what is ordered, and notes what comes of it.
-pub fn carry_out(table: &mut [Node], order: Order) -> Notes
-    ensures { λ r. ⌜ (now (table .exit) ≡ carriedFrom order 0 (now (table .entry))) × (r ≡ notesOf order (now (table .entry))) ⌝ }
+pub fn carry_out(table: &mut [Node], errand: Errand) -> Notes
+    ensures { λ r. ⌜ (now (table .exit) ≡ carriedFrom errand 0 (now (table .entry))) × (r ≡ notesOf errand (now (table .entry))) ⌝ }
 {
     let mut notes = no_notes();
     let mut i = 0;
     while i < table.len() {
         let before = table[i];
-        let after = carried(order, i, before);
+        let after = carried(errand, i, before);
         notes = noticed(notes, before, after);
         table[i] = after;
         i += 1;

@@ -8,25 +8,25 @@ use bench::Fate;
 use message::Reading;
 use node_record::Node;
 use refusal::Refusal;
-use ring::Cable;
 ghost use mathlib.Core.Path.{_≡_};
 ghost use Prim.Native.Nat.{_<_, _^_, _-_};
 ghost use Rattle.bench_walks.specs.Orders.{setUpOrder, offOrder, restartOrder, spokenBy, fateBy, turnOf, slotOrder, lookOrder};
 
-pub fn set_up_order(cable: Cable, size: usize, reports: bool) -> Order
-    ensures { λ r. ⌜ r ≡ setUpOrder cable size reports ⌝ }
+pub fn set_up_order(size: usize, beside: Beside) -> Order
+    ensures { λ r. ⌜ r ≡ setUpOrder size beside ⌝ }
 {
-    if !ring::cable_fits(cable) {
-        let cause = ring::fault(cable);
+    let cable = beside.cable;
+    if !ring::may_set_up(cable, beside.places) {
+        let cause = ring::fault(cable, beside.places);
         return Order::Refuse(cause);
     }
-    if !reports {
+    if !beside.reports {
         return Order::Refuse(Refusal::Unsound);
     }
     if size != cable.n as usize {
         return Order::Refuse(Refusal::Unsound);
     }
-    Order::Start(cable)
+    Order::Start
 }
 
 pub fn off_order(a: u32, s: Survey, size: usize, fits: bool) -> Order

@@ -12,7 +12,8 @@ ghost use Rattle.bench_walks.specs.Survey.{senderAfter, begun, glimpsed,
 pub fn sender_after(v: Node) -> u32
     ensures { λ r. ⌜ r ≡ senderAfter v ⌝ }
 {
-    let speaker = ring::sender(v.cable.n, v.slots);
+    let cable = v.cable;
+    let speaker = ring::sender(cable, v.slots);
     match speaker {
         Speaker::Node(s) => s,
         Speaker::Refused(_) => 0,

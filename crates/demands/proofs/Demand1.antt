@@ -15,7 +15,7 @@ use Rattle.ring.specs.declared.Found.{Found}
 use Rattle.ring.specs.declared.Lookup.{Lookup}
 use Rattle.ring.specs.Answers.{faultOf, beforeOf, onCable}
 use Rattle.ring.proofs.Ranges.{fault-by}
-use Rattle.ring.specs.Ring.{ringSize, nodeNumber, lagFits, sponsorCount, jobCount, cableFits, sponsored, decided}
+use Rattle.ring.specs.Ring.{cableWith, ringSize, nodeNumber, lagFits, sponsorCount, jobCount, cableFits, maySetUp, sponsored, decided}
 use Rattle.bench.specs.Reports.{reportsFit, jobsOn}
 use Rattle.node.specs.declared.Answer.{Answer}
 use Rattle.node_reports.specs.Reports.{Counts, countsWithin}
@@ -73,8 +73,8 @@ either-passed P false number p q = q
 abbrev Ends : List ℕ → Lookup → Type 0
 Ends numbers a = EndsBy numbers (ofLookup a)
 
-finds-before : (n set x j : ℕ) → Ends (1 ∷ 3 ∷ []) (beforeOf n set x j)
-finds-before n set x j = let P = Ends (1 ∷ 3 ∷ []) in either P (ringSize n) (either P (nodeNumber n x) tt refl) refl
+finds-before : (cable : Cable) (set x j : ℕ) → Ends (1 ∷ 3 ∷ []) (beforeOf cable set x j)
+finds-before cable set x j = let P = Ends (1 ∷ 3 ∷ []) in either P (ringSize (cable .n)) (either P (nodeNumber (cable .n) x) tt refl) refl
 
 finds-on : (cable : Cable) (x : ℕ) (f : Found) → Ends (1 ∷ 16 ∷ 2 ∷ 3 ∷ []) (onCable cable x f)
 finds-on cable x f =
@@ -172,11 +172,11 @@ to-two k bytes out =
 
 -- ---- the node record
 
-sets-up : (cable : Cable) (own : ℕ) → EndsBy (1 ∷ 16 ∷ 2 ∷ 14 ∷ 3 ∷ []) (ofAnswer (setUpOf cable own .answer))
+sets-up : (cable : Cable) (places own : ℕ) → EndsBy (1 ∷ 16 ∷ 2 ∷ 14 ∷ 17 ∷ 18 ∷ 3 ∷ []) (ofAnswer (setUpOf cable places own .answer))
 unfolding setUpOf
-sets-up cable own =
-    let P : Stepped → Type 0 = λ s. EndsBy (1 ∷ 16 ∷ 2 ∷ 14 ∷ 3 ∷ []) (ofAnswer (s .answer)) in
-    either P (cableFits cable) (either P (nodeNumber (cable .n) own) tt refl) (fault-by (λ number. P (refused number noNode)) cable refl refl refl refl)
+sets-up cable places own =
+    let P : Stepped → Type 0 = λ s. EndsBy (1 ∷ 16 ∷ 2 ∷ 14 ∷ 17 ∷ 18 ∷ 3 ∷ []) (ofAnswer (s .answer)) in
+    either P (maySetUp cable places) (either P (nodeNumber (cable .n) own) tt refl) (fault-by (λ number. P (refused number noNode)) cable places refl refl refl refl refl refl)
 
 steps : (heard : Reading) (v : Node) → StepsBy (4 ∷ 5 ∷ []) v (stepOf heard v)
 unfolding stepOf
@@ -231,17 +231,20 @@ abbrev Runs : Command → Table → Ledger → List Counts → List ℕ → benc
 Runs c t ledger counts out called =
     RunsBy (numbersFor c) (outcomeOf c t called) (t, ledger, counts, out) (called .table, ledgerWith c t called ledger, reportsWith c t called counts, bytesBy c t called out)
 
-runs : (c : Command) (t : Table) (ledger : Ledger) (counts : List Counts) (out : List ℕ) → Runs c t ledger counts out (calledWith c (length out) ledger counts t)
-unfolding bench.setUpOf bench.slotOf bench.offOf bench.restartOf bench.lookOf setUpWith slotWith offWith slotGiven
-runs (command.SetUp cable) t ledger counts out =
-    let P = Runs (command.SetUp cable) t ledger counts out in
-    let fault : P (record { table = t; answer = answer.Refused (cause (faultOf cable)) })
-    = fault-by (λ number. P (record { table = t; answer = answer.Refused (cause number) })) cable (refl, refl) (refl, refl) (refl, refl) (refl, refl) in
-    either-passed P (cableFits cable) (faultOf cable)
+runs : (c : Command) (slots : List ℕ) (t : Table) (ledger : Ledger) (counts : List Counts) (out : List ℕ) → Runs c t ledger counts out (calledWith c slots (length out) ledger counts t)
+unfolding bench.setUpOf bench.setUpGiven bench.slotOf bench.offOf bench.restartOf bench.lookOf setUpWith slotWith offWith slotGiven
+runs (command.SetUp choices) slots t ledger counts out =
+    let P = Runs (command.SetUp choices) t ledger counts out in
+    let cable = cableWith choices slots in
+    let places = length slots in
+    let fault : (m : ℕ) → P (record { table = t; answer = answer.Refused (cause (faultOf cable m)) })
+    = λ m. fault-by (λ number. P (record { table = t; answer = answer.Refused (cause number) })) cable m (refl, refl) (refl, refl) (refl, refl) (refl, refl) (refl, refl) (refl, refl) in
+    either-passed P (maySetUp cable places) (faultOf cable places)
     (either-passed P (eqb (length counts) (cable .n)) 4
-    (either-passed P (cableFits cable) (faultOf cable)
-    (either-passed P (eqb (length t) (cable .n)) 4 (tt, tt) (refl, refl)) fault) (refl, refl)) fault
-runs (command.Slot lost missed jobs) t ledger counts out =
+    (either-passed P (maySetUp cable places) (faultOf cable places)
+    (either-passed P (cableFits cable) (faultOf cable (cable .n))
+    (either-passed P (eqb (length t) (cable .n)) 4 (tt, tt) (refl, refl)) (fault (cable .n))) (fault places)) (refl, refl)) (fault places)
+runs (command.Slot lost missed jobs) slots t ledger counts out =
     let P = Runs (command.Slot lost missed jobs) t ledger counts out in
     either-passed P (tableSound t) 4
     (either-passed P (reportsFit t counts) 4
@@ -255,18 +258,18 @@ runs (command.Slot lost missed jobs) t ledger counts out =
     (either-passed P (within (nodeCount t) missed) 3
     (either-passed P (ltb (slotsOf t) limit) 5
     (either-passed P (leb 64 (length out)) 9 (tt, tt) (refl, refl)) (refl, refl)) (refl, refl)) (refl, refl)) (refl, refl)) (refl, refl)) (refl, refl)) (refl, refl)) (refl, refl)) (refl, refl)) (refl, refl)) (refl, refl)
-runs (command.Off a) t ledger counts out =
+runs (command.Off a) slots t ledger counts out =
     let P = Runs (command.Off a) t ledger counts out in
     either-passed P (tableSound t) 4
     (either-passed P (nodeNumber (nodeCount t) a) 3
     (either-passed P (ledgerFits (nodeCount t) (slotsOf t) ledger) 13
     (either-passed P (tableSound t) 4 (either-passed P (nodeNumber (nodeCount t) a) 3 (tt, tt) (refl, refl)) (refl, refl)) (refl, refl)) (refl, refl)) (refl, refl)
-runs (command.Restart a) t ledger counts out =
+runs (command.Restart a) slots t ledger counts out =
     let P = Runs (command.Restart a) t ledger counts out in
     either-passed P (tableSound t) 4
     (either-passed P (nodeNumber (nodeCount t) a) 3
     (either-passed P (isOut (recordOf t a .state)) 11 (tt, tt) (refl, refl)) (refl, refl)) (refl, refl)
-runs (command.Look lost) t ledger counts out =
+runs (command.Look lost) slots t ledger counts out =
     either-passed (Runs (command.Look lost) t ledger counts out) (tableSound t) 4 (tt, tt) (refl, refl)
 
 -- ---- plan texts
@@ -303,7 +306,7 @@ finishes-recorded r out = either (Prints out) (leb (0 + 80) (length out)) (tt, t
 pub demand1 : Demand1
 unfolding keptOf
 demand1 = record {
-  sender = λ n s. either (λ (a : Speaker). EndsBy (1 ∷ []) (ofSpeaker a)) (ringSize n) tt refl;
+  sender = λ cable s. either (λ (a : Speaker). EndsBy (1 ∷ []) (ofSpeaker a)) (ringSize (cable .n)) tt refl;
   before = finds-before;
   sponsored = λ cable set x j. finds-on cable x (sponsored cable set x j);
   decided = λ cable set x. finds-on cable x (decided cable set x);
@@ -313,7 +316,7 @@ demand1 = record {
   write-two = λ k a b out. writes-two _ refl refl refl k a b out;
   to-three = to-three;
   to-two = to-two;
-  set-up = sets-up;
+  set-up = λ choices slots own. sets-up (cableWith choices slots) (length slots) own;
   slot = λ bytes v held. counted (readOf (v .cable .k) (v .cable .m) bytes) v held;
   step = counted;
   send = sends;

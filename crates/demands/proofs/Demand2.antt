@@ -1,5 +1,5 @@
 -- Demand 2 holds. Assumes nothing.
-use Prim.Native.Nat.{ℕ, suc, _+_, _≤_, _<_, _-_}
+use Prim.Native.Nat.{ℕ, _+_, _≤_, _<_, _-_}
 use mathlib.Core.Path.{_≡_, refl, sym, ap, _∙_, ap₂}
 use mathlib.Core.Bool.{Bool, true, false, true≢false, _&&_}
 use mathlib.Core.List.{List, [], _∷_}
@@ -11,7 +11,8 @@ use Rattle.nodeset.specs.Sets.{within}
 use Rattle.nodeset.proofs.Tests.{all, both, by-cases}
 use Rattle.ring.specs.declared.Cable.{Cable}
 use Rattle.ring.specs.Ring.{sender}
-use Rattle.ring.proofs.Senders.{sender-range}
+use Rattle.ring.proofs.Senders.{turns-of, sender-range}
+use Rattle.node_record.proofs.Facts.{clauses}
 use Rattle.bench.proofs.Reports.{counts-at}
 use Rattle.bench.specs.Outcomes.{slotGiven}
 use Rattle.bench.specs.Reports.{reportsFit, jobsOn, receivedBy}
@@ -71,12 +72,12 @@ passed : (b : Bool) (number : ℕ) (t : Table) (c : bench.Called) → bench.ifPa
 passed true number t c e = (refl, e)
 passed false number t c e = let z : _≡_ {A = ℕ} 0 1 = cc in absurd (omega arith)
 
-each-steps : (lost : Bool) (missed jobs room : ℕ) (ledger : Ledger) (counts : List Counts) (t : Table) → slotWith lost missed jobs room ledger counts t .answer ≡ Done
+each-steps : (lost : Bool) (missed jobs : ℕ) (slots : List ℕ) (room : ℕ) (ledger : Ledger) (counts : List Counts) (t : Table) → slotWith lost missed jobs room ledger counts t .answer ≡ Done
     → (i : ℕ) → 1 ≤ i → i ≤ nodeCount t
-    → let kept = keptOf (Slot lost missed jobs) room ledger counts t in
+    → let kept = keptOf (Slot lost missed jobs) slots room ledger counts t in
     countedOf (receivedBy lost missed jobs t i) (recordOf t i) (getD counts (i - 1) []) ≡ withCounts (done (recordOf (kept .table) i)) (getD (kept .counts) (i - 1) [])
 unfolding bench.slotOf slotGiven slotWith keptOf reportsFit
-each-steps lost missed jobs room ledger counts t e i low high =
+each-steps lost missed jobs slots room ledger counts t e i low high =
     let p₁ = passed (tableSound t) 4 t _ e in
     let fit = passed (eqb (length counts) (nodeCount t) && allWithin (slotsOf t) counts) 4 t _ (p₁ .1) in
     let p₂ = passed (within (nodeCount t) missed) 3 t _ (fit .1) in
@@ -113,10 +114,11 @@ unfolding speaker tableSound
 speaks [] e = absurd (true≢false (sym e))
 speaks (w ∷ t) e =
     let P = sound-placed (w ∷ t) e in
-    let range = sender-range (suc (length t)) (omega arith) (slotsOf (w ∷ t) + 1) in
-    let place = P .at (speaker (w ∷ t)) (range .0) (omega (arith, range .1, P .length-is)) in
-    let n-is : recordOf (w ∷ t) (speaker (w ∷ t)) .cable .n ≡ suc (length t) = ap (λ (c : Cable). c .n) (place .cable-is) ∙ sym (P .length-is) in
-    eq-eqb _ _ (ap (λ (n : ℕ). sender n (recordOf (w ∷ t) (speaker (w ∷ t)) .slots + 1)) n-is ∙ ap (λ (s : ℕ). sender (suc (length t)) (s + 1)) (place .slots-is) ∙ sym (place .own-is))
+    let c = recordOf (w ∷ t) 1 .cable in
+    let first = P .at 1 (omega arith) (omega (arith, P .length-is)) in
+    let range = sender-range c (turns-of c (clauses (recordOf (w ∷ t) 1) (first .is-sound) .choices)) (slotsOf (w ∷ t) + 1) in
+    let place = P .at (speaker (w ∷ t)) (range .0) (range .1) in
+    eq-eqb _ _ (ap₂ (λ (d : Cable) (s : ℕ). sender d (s + 1)) (place .cable-is) (place .slots-is) ∙ sym (place .own-is))
 
 silent-unheard : (t : Table) (jobs : ℕ) (out : List ℕ) → tableSound t ≡ true → sendOf (recordOf t (speaker t)) jobs out ≡ unsent 10 out → bench.spoken t ≡ bench.unheard
 unfolding bench.spoken bench.transmits

@@ -6,6 +6,7 @@ use mathlib.Core.List.{List, [], _∷_, _++_}
 use native.Mathlib.Omega.{arith}
 use lib.ListN.{length, length-replicate, length-take}
 use Rattle.nodeset.proofs.Tests.{by-cases}
+use Rattle.slot_table.specs.Order.{numbersFrom}
 use Rattle.ring.specs.declared.Cable.{Cable}
 use Rattle.ring.specs.Ring.{cableOf}
 use Rattle.ring.proofs.Ranges.{ring-size, fitting}
@@ -14,7 +15,7 @@ use Rattle.node.specs.declared.Answer.{Answer}
 use Rattle.node.specs.declared.Answer.the-variants.{Done, Refused}
 use Rattle.bench.specs.Table.{Table}
 use Rattle.bench.specs.declared.Command.the-variants.{Slot}
-use Rattle.bench.specs.Calls.{offOf, restartOf, setUpOf}
+use Rattle.bench.specs.Calls.{offOf, restartOf, setUpGiven}
 use Rattle.bench.specs.Outcomes.{endedOf, quietOutcome, slotOutcome, slotGiven}
 use Rattle.bench.specs.Runs.{Call}
 use Rattle.agreement.specs.Demand.{AtEach, EverySequence}
@@ -26,7 +27,7 @@ use Rattle.bench_by_value.specs.ByValue.{tableOf}
 use Rattle.plan_line.specs.declared.Line.{Line}
 use Rattle.plan_line.specs.declared.Line.the-variants as lines
 use Rattle.plan_line.specs.Plan.{lineOf}
-use Rattle.plan_run.specs.Run.{actOf, noRows, ranBy}
+use Rattle.plan_run.specs.Run.{actOf, choicesOf, noRows, ranBy}
 use Rattle.plan_program.specs.declared.Plan.{Plan}
 use Rattle.plan_program.specs.Program.{afterLine, noPlan}
 use Rattle.plan_program.specs.Tables.{callsIn, callsOf, madeBy, startOf, Opens}
@@ -38,8 +39,8 @@ quiet-tells : (a : Answer) → NoOtherDistance (quietOutcome a)
 quiet-tells Done = tt
 quiet-tells (Refused cause) = tt
 
-slot-tells : (lost : Bool) (missed : ℕ) (t : Table) → (isDone (slotGiven lost missed 0 64 t .answer) ≡ true → calls.NoDistance (endedOf (Slot lost missed 0) 64 t .reply .outcome))
-    → NoOtherDistance (endedOf (Slot lost missed 0) 64 t .reply .outcome)
+slot-tells : (lost : Bool) (missed : ℕ) (t : Table) → (isDone (slotGiven lost missed 0 64 t .answer) ≡ true → calls.NoDistance (endedOf (Slot lost missed 0) [] 64 t .reply .outcome))
+    → NoOtherDistance (endedOf (Slot lost missed 0) [] 64 t .reply .outcome)
 unfolding endedOf
 slot-tells lost missed t h = go (slotGiven lost missed 0 64 t .answer) h
   where
@@ -50,9 +51,9 @@ slot-tells lost missed t h = go (slotGiven lost missed 0 64 t .answer) h
 module _ (cable : Cable) (start : Table) (p : Plan) (l : List ℕ) (cs : List Call) (r : Reached start p cs) where
   said-tells : (said : Line) → AtEach (SlotTells cable start) (madeBy said ++ cs) → NoOtherDistance (ranBy (p .n) (p .rows) (actOf said) .outcome)
   unfolding AtEach by-value.callOf endedOf
-  said-tells lines.Ok tells = slot-tells false 0 (tableOf (p .n) (p .rows)) (rw (r .table) (tells .1 0))
-  said-tells lines.Lost tells = slot-tells true 0 (tableOf (p .n) (p .rows)) (rw (r .table) (tells .1 0))
-  said-tells (lines.Miss missed) tells = slot-tells false missed (tableOf (p .n) (p .rows)) (rw (r .table) (tells .1 0))
+  said-tells lines.Ok tells = slot-tells false 0 (tableOf (p .n) (p .rows)) (rw (r .table) (tells .1 0 []))
+  said-tells lines.Lost tells = slot-tells true 0 (tableOf (p .n) (p .rows)) (rw (r .table) (tells .1 0 []))
+  said-tells (lines.Miss missed) tells = slot-tells false missed (tableOf (p .n) (p .rows)) (rw (r .table) (tells .1 0 []))
   said-tells (lines.Off a) tells = quiet-tells (offOf a (tableOf (p .n) (p .rows)) .answer)
   said-tells (lines.On a) tells = quiet-tells (restartOf a (tableOf (p .n) (p .rows)) .answer)
   said-tells (lines.Refused cause) tells = tt
@@ -86,7 +87,7 @@ each cable start p cs (l ∷ more) r tells =
 
 first-tells : (n k : ℕ) (first : List ℕ) → Opens n k first → NoOtherDistance (afterLine noPlan first .outcome)
 unfolding by-value.callOf endedOf
-first-tells n k first opens = rw (begun n k first opens) (quiet-tells (setUpOf (cableOf n k) (tableOf n noRows) .answer))
+first-tells n k first opens = rw (begun n k first opens) (quiet-tells (setUpGiven (choicesOf n k) (numbersFrom n 1) (tableOf n noRows) .answer))
 
 pub no-distance-printed : NoDistancePrinted
 unfolding AtEachLine EverySequence

@@ -10,6 +10,7 @@ use lib.ListN.{length}
 use Rattle.refusal.specs.declared.Refusal.{Refusal}
 use Rattle.refusal.specs.Causes.{numberOf}
 use Rattle.ring.specs.declared.Cable.{Cable}
+use Rattle.ring.specs.declared.Choices.{Choices}
 use Rattle.ring.specs.declared.Speaker.{Speaker}
 use Rattle.ring.specs.declared.Speaker.the-variants as speaker
 use Rattle.ring.specs.declared.Lookup.{Lookup}
@@ -123,7 +124,7 @@ ConvertsBy numbers r out f = EndsBy numbers (ofText (f .written)) × Keeps {A = 
 
 -- By which numbers a call of the bench may be refused, in the order of its tests.
 abbrev pub numbersFor : Command → List ℕ
-numbersFor (command.SetUp cable) = 1 ∷ 16 ∷ 2 ∷ 14 ∷ 4 ∷ []
+numbersFor (command.SetUp choices) = 1 ∷ 16 ∷ 2 ∷ 14 ∷ 17 ∷ 18 ∷ 4 ∷ []
 numbersFor (command.Slot lost missed jobs) = 4 ∷ 3 ∷ 13 ∷ 5 ∷ 8 ∷ 9 ∷ []
 numbersFor (command.Off a) = 4 ∷ 3 ∷ 13 ∷ []
 numbersFor (command.Restart a) = 4 ∷ 3 ∷ 11 ∷ []
@@ -133,8 +134,8 @@ numbersFor (command.Look lost) = 4 ∷ []
 
 pub record Demand1 : Type 0 where
   -- the ring
-  pub sender : (n s : ℕ) → EndsBy (1 ∷ []) (ofSpeaker (senderOf n s))
-  pub before : (n set x j : ℕ) → EndsBy (1 ∷ 3 ∷ []) (ofLookup (beforeOf n set x j))
+  pub sender : (cable : Cable) (s : ℕ) → EndsBy (1 ∷ []) (ofSpeaker (senderOf cable s))
+  pub before : (cable : Cable) (set x j : ℕ) → EndsBy (1 ∷ 3 ∷ []) (ofLookup (beforeOf cable set x j))
   pub sponsored : (cable : Cable) (set x j : ℕ) → EndsBy (1 ∷ 16 ∷ 2 ∷ 3 ∷ []) (ofLookup (sponsoredOf cable set x j))
   pub decided : (cable : Cable) (set x : ℕ) → EndsBy (1 ∷ 16 ∷ 2 ∷ 3 ∷ []) (ofLookup (decidedOf cable set x))
   -- the message; the reader writes to no byte
@@ -147,16 +148,16 @@ pub record Demand1 : Type 0 where
   pub to-three : (k : ℕ) (bytes out : List ℕ) → WritesBy (2 ∷ 6 ∷ 7 ∷ 8 ∷ 9 ∷ []) out (toThreeOf k bytes out)
   pub to-two : (k : ℕ) (bytes out : List ℕ) → WritesBy (2 ∷ 6 ∷ 7 ∷ 8 ∷ 15 ∷ 9 ∷ []) out (toTwoOf k bytes out)
   -- the node record; set-up is given none, and sending returns none
-  pub set-up : (cable : Cable) (own : ℕ) → EndsBy (1 ∷ 16 ∷ 2 ∷ 14 ∷ 3 ∷ []) (ofAnswer (startOf cable own .stepped .answer))
+  pub set-up : (choices : Choices) (slots : List ℕ) (own : ℕ) → EndsBy (1 ∷ 16 ∷ 2 ∷ 14 ∷ 17 ∷ 18 ∷ 3 ∷ []) (ofAnswer (startOf choices slots own .stepped .answer))
   pub slot : (bytes : List ℕ) (v : Node) (counts : Counts) → CountsBy (4 ∷ 5 ∷ []) v counts (slotOf bytes v counts)
   pub step : (received : Received) (v : Node) (counts : Counts) → CountsBy (4 ∷ 5 ∷ []) v counts (countedOf received v counts)
   pub send : (v : Node) (jobs : ℕ) (out : List ℕ) → WritesBy (4 ∷ 5 ∷ 8 ∷ 10 ∷ 9 ∷ []) out (sendOf v jobs out)
   pub off : (v : Node) → StepsBy (4 ∷ []) v (offOf v)
   pub restart : (v : Node) → StepsBy (4 ∷ 11 ∷ []) v (restartOf v)
-  -- the bench: set-up, slot, off, restart and a look; `out` are the lent bytes
-  pub bench : (c : Command) (t : Table) (ledger : Ledger) (counts : List Counts) (out : List ℕ)
-      → let kept = keptOf c (length out) ledger counts t in
-      RunsBy (numbersFor c) (kept .reply .outcome) (t, ledger, counts, out) (kept .table, kept .ledger, kept .counts, bytesWith c ledger counts t out)
+  -- the bench: set-up, slot, off, restart and a look; `slots` is the slot table that is lent, `out` are the lent bytes
+  pub bench : (c : Command) (slots : List ℕ) (t : Table) (ledger : Ledger) (counts : List Counts) (out : List ℕ)
+      → let kept = keptOf c slots (length out) ledger counts t in
+      RunsBy (numbersFor c) (kept .reply .outcome) (t, ledger, counts, out) (kept .table, kept .ledger, kept .counts, bytesWith c slots ledger counts t out)
   -- plan texts: a whole one; a piece of one, where this part of the next line has come; and the end
   pub print-plan : (input out : List ℕ) → PrintsBy (9 ∷ []) out (printedIn input out)
   pub feed : (p : Plan) (part : Part) (input out : List ℕ) → FeedsBy (4 ∷ 9 ∷ []) p part out (fedOf p part input out)

@@ -27,7 +27,7 @@ use Rattle.bench.specs.Kept.{slotWith, keptOf}
 
 -- The sender of a record's next slot.
 abbrev pub nextSender : Node → ℕ
-nextSender v = sender (v .cable .n) (v .slots + 1)
+nextSender v = sender (v .cable) (v .slots + 1)
 
 pub record Demand2 : Type 0 where
   -- "every slot changes a node's record exactly as document 01 says": a sound record below the limit counts the slot and follows the rules of its state, which
@@ -45,9 +45,9 @@ pub record Demand2 : Type 0 where
   -- what is heard is what the reader finds in the bytes that are handed over
   pub by-bytes : (bytes : List ℕ) (v : Node) (held : Counts) → slotOf bytes v held ≡ countedOf (readOf (v .cable .k) (v .cable .m) bytes) v held
   -- a slot that runs on the bench is this slot of each record and its counts, and none is refused
-  pub on-bench : (lost : Bool) (missed jobs room : ℕ) (ledger : Ledger) (counts : List Counts) (t : Table) → slotWith lost missed jobs room ledger counts t .answer ≡ Done
+  pub on-bench : (lost : Bool) (missed jobs : ℕ) (slots : List ℕ) (room : ℕ) (ledger : Ledger) (counts : List Counts) (t : Table) → slotWith lost missed jobs room ledger counts t .answer ≡ Done
       → (i : ℕ) → 1 ≤ i → i ≤ nodeCount t
-      → let kept = keptOf (Slot lost missed jobs) room ledger counts t in
+      → let kept = keptOf (Slot lost missed jobs) slots room ledger counts t in
       countedOf (receivedBy lost missed jobs t i) (recordOf t i) (getD counts (i - 1) []) ≡ withCounts (done (recordOf (kept .table) i)) (getD (kept .counts) (i - 1) [])
   -- and what its message is heard as there is what the reader finds in the bytes that the sender sends, with the job byte that it is given
   pub heard-on-bench : (t : Table) (jobs : ℕ) (out : List ℕ) (count : ℕ) (after : List ℕ) → sendOf (recordOf t (speaker t)) jobs out ≡ (Bytes count, after)

@@ -15,8 +15,8 @@ use Rattle.nodeset.specs.Sets.{has, within}
 use Rattle.nodeset.proofs.Tests.{by-cases, chosen, otherwise, all}
 use Rattle.ring.specs.declared.Cable.{Cable}
 use Rattle.ring.specs.Ring.{sender, nodeNumber, cableFits}
-use Rattle.ring.proofs.Ranges.{ring-size, fitting}
-use Rattle.ring.proofs.Senders.{sender-range}
+use Rattle.ring.proofs.Ranges.{Fits, ring-size, fitting}
+use Rattle.ring.proofs.Senders.{turns-of, sender-range}
 use Rattle.node_reports.specs.Reports.{Row, Counts, noReports, noReportsAt, countsWithin, allWithin, countsWith}
 use Rattle.node_reports.proofs.Laws.{counts-each, nodes-each, nodes-all, within-more, none-within-all, heard-within}
 use Rattle.message.specs.declared.Received.{Received}
@@ -35,7 +35,7 @@ use Rattle.bench.specs.Outcomes.{slotGiven}
 use Rattle.bench.specs.Ledger.{Ledger, ledgerFits}
 use Rattle.bench.specs.Kept.{slotWith, offWith, ifDone, reportsWith, keptOf}
 use Rattle.bench.specs.Runs.{Call, slot, off, restart, callOf, tableAfter, isSlot}
-use Rattle.bench.proofs.Places.{Placed}
+use Rattle.bench.proofs.Places.{Placed, sound-placed}
 use Rattle.bench.proofs.Reports.{counts-at, counts-length, next-sender}
 use Rattle.bench.proofs.Runs.{start-placed, never-unsound, placed-run, run-length, slots-next}
 use Rattle.ledger.specs.Runs.{Given, commanded, calledBy}
@@ -73,7 +73,7 @@ when-refused : {A : Type 0} (a : Answer) (x y : A) → isDone a ≡ false → if
 when-refused Done x y e = absurd (true≢false e)
 when-refused (Refused r) x y e = refl
 
-module _ (s : ℕ) (low : 1 ≤ s) (high : s ≤ 32) (received : Received) (v : Node) (is : sender (v .cable .n) (v .slots + 1) ≡ s) (counts : Counts) (shape : Shaped counts) where
+module _ (s : ℕ) (low : 1 ≤ s) (high : s ≤ 32) (received : Received) (v : Node) (is : sender (v .cable) (v .slots + 1) ≡ s) (counts : Counts) (shape : Shaped counts) where
   abbrev hears : Bool
   hears = hearsReport s (received .reading) v
 
@@ -221,12 +221,17 @@ module _ (cable : Cable) (fits : cableFits cable ≡ true) (lent : Table) (one-e
           at : getD after (i - 1) [] ≡ countsAfter received (recordOf t i) held
           at = ap (λ (c : List Counts). getD c (i - 1) []) counts-are ∙ counts-at lost missed (a .jobs) t (b .counts) i low (omega (arith, k .size))
 
-          sender-is : sender (recordOf t i .cable .n) (recordOf t i .slots + 1) ≡ speaker t
+          sender-is : sender (recordOf t i .cable) (recordOf t i .slots + 1) ≡ speaker t
           sender-is = next-sender t (in-order cs) i low (omega (arith, long cs))
 
           speaker-in : (1 ≤ speaker t) × (speaker t ≤ 32)
           unfolding speaker
-          speaker-in = let r = sender-range (nodeCount t) (omega (arith, long cs, in-ring)) (slotsOf t + 1) in (r .0, omega (arith, r .1, long cs, in-ring))
+          speaker-in =
+              let c = recordOf t 1 .cable in
+              let p = sound-placed t (in-order cs) in
+              let f : Fits c = clauses (recordOf t 1) (p .at 1 (omega arith) (omega (arith, p .length-is, long cs, in-ring)) .is-sound) .choices in
+              let r = sender-range c (turns-of c f) (slotsOf t + 1) in
+              (r .0, omega (arith, r .1, ring-size (c .n) (f .ring) .1))
 
           shape : Shaped held
           shape = k .shaped (i - 1) (omega arith)

@@ -32,15 +32,15 @@ roomOf (slot lost missed room) = room
 roomOf (off a) = 0
 roomOf (restart a) = 0
 
--- What a call makes of a table and a ledger.
+-- What a call makes of a table and a ledger. (No slot table is lent: only set-up looks at it.)
 abbrev pub commanded : Given → Command
 commanded g = commandOf (g .call) (g .jobs)
 
 abbrev pub calledBy : Given → Ledger → Table → Called
-calledBy g ledger t = calledWith (commanded g) (roomOf (g .call)) ledger (g .counts) t
+calledBy g ledger t = calledWith (commanded g) [] (roomOf (g .call)) ledger (g .counts) t
 
 abbrev pub keptBy : Given → Ledger → Table → Kept
-keptBy g ledger t = keptOf (commanded g) (roomOf (g .call)) ledger (g .counts) t
+keptBy g ledger t = keptOf (commanded g) [] (roomOf (g .call)) ledger (g .counts) t
 
 -- The calls with one more, if it is made: a refused one is no slot, and changes nothing.
 abbrev pub withMade : Bool → Call → List Call → List Call

@@ -114,7 +114,7 @@ ends-well runOf claim k fits cs quiet i j two on-i on-j =
     at-end (Survives (cableOf 4 k) (runOf (four k))) cs (claim (cableOf 4 k) fits (noNode ∷ noNode ∷ noNode ∷ noNode ∷ []) refl cs
     (only-offs (cableOf 4 k) (runOf (four k)) cs quiet, record { a = i; b = j; first = on-i; second = on-j; two = two }))
 
-still-listed : has (recordOf (runBefore (four 3) (reverse lingers)) 3 .set) (sender 4 2) ≡ true
+still-listed : has (recordOf (runBefore (four 3) (reverse lingers)) 3 .set) (sender (cableOf 4 3) 2) ≡ true
 unfolding computed runBy
 still-listed = refl
 
@@ -127,7 +127,7 @@ unfolding computed runBy
 was-silent = refl
 
 pub needs-f : ManyDeadFor runBefore → ⊥
-unfolding every
+unfolding every computed
 needs-f claim =
     let cs = reverse lingers in
     let on = stays-on 4 3 (reverse lingers) (lit≤ tt) (lit≤ tt) refl in
@@ -139,7 +139,7 @@ unfolding computed runBy
 has-left = refl
 
 pub needs-e : ManyDeadFor runWithoutE → ⊥
-unfolding every
+unfolding every computed
 needs-e claim =
     let cs = reverse takenAlong in
     let on = stays-on 4 1 (reverse takenAlong) (lit≤ tt) (lit≤ tt) refl in

@@ -16,7 +16,7 @@ use Rattle.nodeset.proofs.Counts.{size-le}
 use Rattle.ring.specs.declared.Cable.{Cable}
 use Rattle.ring.specs.Ring.{nodeNumber, sender, sponsors, sponsored, cableFits}
 use Rattle.ring.proofs.Ranges.{ring-size, lag-fits, sponsor-count, fitting}
-use Rattle.ring.proofs.Senders.{sender-range, sender-period, its-slot}
+use Rattle.ring.proofs.Senders.{Turns, turns-of, sender-range, sender-period, its-slot}
 use Rattle.node.specs.Calls.{isDone}
 use Rattle.message.specs.declared.Reading.{Reading}
 use Rattle.message.specs.declared.Reading.the-variants as reading
@@ -91,21 +91,24 @@ off-is : (v : Node) → sound v ≡ true → node.offOf v .node ≡ outFor Switc
 unfolding node.offOf
 off-is v e = ap (λ (x : Stepped). x .node) (chosen _ _ e)
 
-module _ (cable : Cable) (n-pos : 1 ≤ cable .n) (n-most : cable .n ≤ 32) (k-pos : 1 ≤ cable .k) (bounds : (cable .k < cable .n) × (cable .lag ≤ 1)) where
+module _ (cable : Cable) (turns : Turns cable) (n-most : cable .n ≤ 32) (k-pos : 1 ≤ cable .k) (bounds : (cable .k < cable .n) × (cable .lag ≤ 1)) where
   open Cable cable using (n, k)
+
+  n-some : 1 ≤ cable .n
+  n-some = turns .some
 
   -- any node: a member like all others, or out
   pub record Stands (T L P i : ℕ) (v : Node) : Type 0 where
     pub cable-is : v .cable ≡ cable
     pub own-is : v .own ≡ i
     pub clock : v .slots ≡ T
-    pub alive : isMember (v .state) ≡ true → Alive cable n-pos n-most k-pos T L P i v
+    pub alive : isMember (v .state) ≡ true → Alive cable turns n-most k-pos T L P i v
     pub gone : isMember (v .state) ≡ false → isOut (v .state) ≡ true
 
   pub record TableInv (S : ℕ → Bool) (N T L P : ℕ) (t : Table) : Type 0 where
     pub len : length t ≡ n
     pub at : T + n ≡ N
-    pub lists : Lists cable n-pos n-most k-pos S N L P
+    pub lists : Lists cable turns n-most k-pos S N L P
     pub nodes : (i : ℕ) → 1 ≤ i → i ≤ n → Stands T L P i (recordOf t i)
 
   pub record MemberOf (t : Table) (a : ℕ) : Type 0 where
@@ -113,12 +116,12 @@ module _ (cable : Cable) (n-pos : 1 ≤ cable .n) (n-most : cable .n ≤ 32) (k-
     pub le : a ≤ n
     pub member : isMember (recordOf t a .state) ≡ true
 
-  from-alive : (T L P i : ℕ) (v : Node) → Alive cable n-pos n-most k-pos T L P i v → Stands T L P i v
+  from-alive : (T L P i : ℕ) (v : Node) → Alive cable turns n-most k-pos T L P i v → Stands T L P i v
   from-alive T L P i v a = record { cable-is = a .cable-is; own-is = a .own-is; clock = a .clock; alive = λ _. a; gone = λ f. absurd (no-both (a .member) f) }
 
   slots-at : (S : ℕ → Bool) (N T L P : ℕ) (t : Table) → TableInv S N T L P t → slotsOf t ≡ T
   unfolding slotsOf
-  slots-at S N T L P t inv = inv .nodes 1 (omega arith) n-pos .clock
+  slots-at S N T L P t inv = inv .nodes 1 (omega arith) n-some .clock
 
   sponsors-most : (L : ℕ) → sponsors cable L ≤ k
   unfolding sponsors
@@ -132,23 +135,23 @@ module _ (cable : Cable) (n-pos : 1 ≤ cable .n) (n-most : cable .n ≤ 32) (k-
       (a b : ℕ) (ma : MemberOf t a) (mb : MemberOf t b) (ab : a ≢ b)
       (good : (i : ℕ) → 1 ≤ i → i ≤ n → sound (recordOf t i) ≡ true) (below : slotsOf t < limit) where
     abbrev s : ℕ
-    s = sender n (suc N)
+    s = sender cable (suc N)
 
-    s-pos : 1 ≤ sender n (suc N)
-    s-pos = sender-range n n-pos (suc N) .0
+    s-pos : 1 ≤ sender cable (suc N)
+    s-pos = sender-range cable turns (suc N) .0
 
-    s-le : sender n (suc N) ≤ n
-    s-le = sender-range n n-pos (suc N) .1
+    s-le : sender cable (suc N) ≤ n
+    s-le = sender-range cable turns (suc N) .1
 
     -- the slot that the count T comes to
-    turn : sender n (T + 1) ≡ sender n (suc N)
-    turn = let z : T + 1 + n ≡ suc N = omega (arith, inv .at) in sym (sender-period n n-pos (T + 1) (omega arith)) ∙ ap (sender n) z
+    turn : sender cable (T + 1) ≡ sender cable (suc N)
+    turn = let z : T + 1 + n ≡ suc N = omega (arith, inv .at) in sym (sender-period cable turns (T + 1) (omega arith)) ∙ ap (sender cable) z
 
-    speaker-is : speaker t ≡ sender n (suc N)
+    speaker-is : speaker t ≡ sender cable (suc N)
     unfolding speaker
-    speaker-is = ap₂ (λ (x y : ℕ). sender x (y + 1)) (inv .len) (slots-at S N T L P t inv) ∙ turn
+    speaker-is = ap₂ (λ (c : Cable) (y : ℕ). sender c (y + 1)) (inv .nodes 1 (omega arith) n-some .cable-is) (slots-at S N T L P t inv) ∙ turn
 
-    transmits-is : transmits t ≡ isMember (recordOf t (sender n (suc N)) .state)
+    transmits-is : transmits t ≡ isMember (recordOf t (sender cable (suc N)) .state)
     unfolding transmits
     transmits-is =
         ap (λ (x : ℕ). sends (recordOf t x)) speaker-is
@@ -159,30 +162,30 @@ module _ (cable : Cable) (n-pos : 1 ≤ cable .n) (n-most : cable .n ≤ 32) (k-
         (λ e. sent-is ∙ ap (λ (y : Bool). transmits t && not y) (calm e .0) ∙ ap (λ (x : Bool). x && true) e ∙ sym e)
         (λ e. sent-is ∙ ap (λ (x : Bool). x && not lost) e ∙ sym e)
 
-    sent-member : S (suc N) ≡ isMember (recordOf t (sender n (suc N)) .state)
+    sent-member : S (suc N) ≡ isMember (recordOf t (sender cable (suc N)) .state)
     sent-member = sent-transmits ∙ transmits-is
 
     abbrev hd : ℕ → Reading
     hd i = readOf s lost missed t i
 
-    alive-of : (i : ℕ) → MemberOf t i → Alive cable n-pos n-most k-pos T L P i (recordOf t i)
+    alive-of : (i : ℕ) → MemberOf t i → Alive cable turns n-most k-pos T L P i (recordOf t i)
     alive-of i mi = inv .nodes i (mi .pos) (mi .le) .alive (mi .member)
 
     heard-is : (i : ℕ) → isHeard (hd i) ≡ ((transmits t && (not lost && not (has missed i))) && not (eqb s (recordOf t i .own)))
     heard-is i = hear (eqb s (recordOf t i .own)) lost (has missed i) (transmits t) (reading.Heard (bitsSent (recordOf t s)) (returnSent (recordOf t s))) refl
 
-    message-is : (i : ℕ) → isHeard (hd i) ≡ true → hd i ≡ reading.Heard (bitsSent (recordOf t (sender n (suc N)))) (returnSent (recordOf t (sender n (suc N))))
+    message-is : (i : ℕ) → isHeard (hd i) ≡ true → hd i ≡ reading.Heard (bitsSent (recordOf t (sender cable (suc N)))) (returnSent (recordOf t (sender cable (suc N))))
     message-is i e = hear-message (eqb s (recordOf t i .own)) lost (has missed i) (transmits t) (reading.Heard (bitsSent (recordOf t s)) (returnSent (recordOf t s))) e
 
     -- whoever hears anything hears a member
-    speaks : (i : ℕ) → isHeard (hd i) ≡ true → MemberOf t (sender n (suc N))
+    speaks : (i : ℕ) → isHeard (hd i) ≡ true → MemberOf t (sender cable (suc N))
     speaks i e = record { pos = s-pos; le = s-le; member = sym transmits-is ∙ first (transmits t) _ _ (sym (heard-is i) ∙ e) }
       where
         first : (x y z : Bool) → ((x && y) && z) ≡ true → x ≡ true
         first true y z q = refl
         first false y z q = absurd (false≢true q)
 
-    gets : (i : ℕ) → MemberOf t i → Gets cable n-pos n-most k-pos L P (sender n (suc N)) i (S (suc N)) (hd i)
+    gets : (i : ℕ) → MemberOf t i → Gets cable turns n-most k-pos L P (sender cable (suc N)) i (S (suc N)) (hd i)
     unfolding misses
     gets i mi = record {
       own = λ e. sent-member ∙ ap (λ (x : ℕ). isMember (recordOf t x .state)) e ∙ mi .member;
@@ -212,7 +215,7 @@ module _ (cable : Cable) (n-pos : 1 ≤ cable .n) (n-most : cable .n ≤ 32) (k-
         unnamed : s ≢ i → transmits t ≡ true → has missed i ≡ false
         unnamed ne e = un (isMember (recordOf t i .state)) (transmits t) lost (has missed i) (eqb i (speaker t)) (mi .member) e (calm e .0) (ne-eqb i (speaker t) (λ p. ne (sym (p ∙ speaker-is)))) (calm e .1 i (mi .pos) (mi .le))
 
-        quiet : Alive cable n-pos n-most k-pos T L P s (recordOf t s) → returnSent (recordOf t s) ≡ false
+        quiet : Alive cable turns n-most k-pos T L P s (recordOf t s) → returnSent (recordOf t s) ≡ false
         quiet al = let z : eqb (recordOf t s .returning) 0 ≡ true = eq-eqb (recordOf t s .returning) 0 (al .ret) in rw (al .member, z) refl
 
         unheard-return : (r : Reading) → isHeard r ≡ false → returnIn r ≡ false
@@ -220,22 +223,22 @@ module _ (cable : Cable) (n-pos : 1 ≤ cable .n) (n-most : cable .n ≤ 32) (k-
         unheard-return (reading.Refused c) e = refl
 
         sponsored-range : (j x : ℕ) → j < sponsors cable L → At x (sponsored cable L s (suc j)) → (1 ≤ x) × (x ≤ n)
-        sponsored-range j x l e = sponsored-node cable n-pos k-pos N L j x (inv .lists .late) l e
+        sponsored-range j x l e = sponsored-node cable turns k-pos N L j x (inv .lists .late) l e
 
     abbrev P′ : ℕ
     P′ = marksNext (S (suc N)) s P
 
     abbrev L′ : ℕ
-    L′ = shrunk cable n-pos k-pos n P′ s L
+    L′ = shrunk cable turns k-pos n P′ s L
 
-    alive-counted : (i : ℕ) → MemberOf t i → Alive cable n-pos n-most k-pos (suc T) L P i (counted (recordOf t i))
+    alive-counted : (i : ℕ) → MemberOf t i → Alive cable turns n-most k-pos (suc T) L P i (counted (recordOf t i))
     alive-counted i mi =
         let al = alive-of i mi in
         record { cable-is = al .cable-is; clock = omega (arith, al .clock); own-is = al .own-is; member = al .member; set-is = al .set-is; marks = al .marks; ret = al .ret; listed = al .listed; marked = al .marked }
 
     -- a member is marked after the slot
     marked-of : (i : ℕ) → MemberOf t i → has P′ i ≡ true
-    marked-of i mi = marked-next cable n-pos n-most k-pos N T L P i (inv .lists .late) (S (suc N)) (hd i) (recordOf t i) (alive-of i mi) (gets i mi) (mi .pos) (mi .le)
+    marked-of i mi = marked-next cable turns n-most k-pos N T L P i (inv .lists .late) (S (suc N)) (hd i) (recordOf t i) (alive-of i mi) (gets i mi) (mi .pos) (mi .le)
 
     -- another member
     record Another (i : ℕ) : Type 0 where
@@ -257,7 +260,7 @@ module _ (cable : Cable) (n-pos : 1 ≤ cable .n) (n-most : cable .n ≤ 32) (k-
     node-after i h l =
         let st = inv .nodes i h l in
         record-after s lost missed t i h (omega (arith, inv .len)) (good i h l) (omega (arith, st .clock, slots-at S N T L P t inv, below))
-        (ap₂ (λ (c : Cable) (x : ℕ). sender (c .n) (x + 1)) (st .cable-is) (st .clock) ∙ turn) speaker-is
+        (ap₂ (λ (c : Cable) (x : ℕ). sender c (x + 1)) (st .cable-is) (st .clock) ∙ turn) speaker-is
         ∙ ap (λ (c : Cable). readIn (c .n) (recordOf t i .state) s (hd i) (counted (recordOf t i))) (st .cable-is)
 
     -- a node that is out counts
@@ -267,28 +270,28 @@ module _ (cable : Cable) (n-pos : 1 ≤ cable .n) (n-most : cable .n ≤ 32) (k-
         subst (Stands (suc T) L₁ P₁ i) (sym (slot-out n (recordOf t i .state) s (hd i) (counted (recordOf t i)) (st .gone f)))
         (record { cable-is = st .cable-is; own-is = st .own-is; clock = omega (arith, st .clock); alive = λ e. absurd (no-both e f); gone = λ _. st .gone f })
 
-    alive-listed : has L s ≡ true → (i : ℕ) → MemberOf t i → Alive cable n-pos n-most k-pos (suc T) L′ P′ i (readIn n (recordOf t i .state) s (hd i) (counted (recordOf t i)))
-    alive-listed on i mi = subst (Alive cable n-pos n-most k-pos (suc T) L′ P′ i) (sym goes) (step (another i))
+    alive-listed : has L s ≡ true → (i : ℕ) → MemberOf t i → Alive cable turns n-most k-pos (suc T) L′ P′ i (readIn n (recordOf t i .state) s (hd i) (counted (recordOf t i)))
+    alive-listed on i mi = subst (Alive cable turns n-most k-pos (suc T) L′ P′ i) (sym goes) (step (another i))
       where
         goes : readIn n (recordOf t i .state) s (hd i) (counted (recordOf t i)) ≡ insideSlot n s (hd i) (counted (recordOf t i))
         goes = slot-member n (recordOf t i .state) s (hd i) (counted (recordOf t i)) (mi .member) ∙ slot-inside n s (hd i) (counted (recordOf t i)) (ap (λ (x : ℕ). has x s) (alive-of i mi .set-is) ∙ on)
 
-        step : Another i → Alive cable n-pos n-most k-pos (suc T) L′ P′ i (insideSlot n s (hd i) (counted (recordOf t i)))
-        step o = inside-alive cable n-pos n-most k-pos N (suc T) L P i (inv .lists .late) (S (suc N)) (hd i) (counted (recordOf t i)) (alive-counted i mi) (gets i mi) (mi .pos) (mi .le)
+        step : Another i → Alive cable turns n-most k-pos (suc T) L′ P′ i (insideSlot n s (hd i) (counted (recordOf t i)))
+        step o = inside-alive cable turns n-most k-pos N (suc T) L P i (inv .lists .late) (S (suc N)) (hd i) (counted (recordOf t i)) (alive-counted i mi) (gets i mi) (mi .pos) (mi .le)
             (o .c) (o .is .pos) (o .is .le) (o .other) (marked-of (o .c) (o .is))
 
     -- outside the list nothing is sent
     unsent : has L s ≡ false → S (suc N) ≡ false
     unsent f = sent-member ∙ not-true (isMember (recordOf t s .state)) (λ m. no-both (inv .nodes s s-pos s-le .alive m .listed) f)
 
-    alive-outside : has L s ≡ false → (i : ℕ) → MemberOf t i → Alive cable n-pos n-most k-pos (suc T) L P i (readIn n (recordOf t i .state) s (hd i) (counted (recordOf t i)))
-    alive-outside away i mi = subst (Alive cable n-pos n-most k-pos (suc T) L P i) (sym goes) (step (another i))
+    alive-outside : has L s ≡ false → (i : ℕ) → MemberOf t i → Alive cable turns n-most k-pos (suc T) L P i (readIn n (recordOf t i .state) s (hd i) (counted (recordOf t i)))
+    alive-outside away i mi = subst (Alive cable turns n-most k-pos (suc T) L P i) (sym goes) (step (another i))
       where
         goes : readIn n (recordOf t i .state) s (hd i) (counted (recordOf t i)) ≡ outsideSlot s (hd i) (counted (recordOf t i))
         goes = slot-member n (recordOf t i .state) s (hd i) (counted (recordOf t i)) (mi .member) ∙ slot-outside n s (hd i) (counted (recordOf t i)) (ap (λ (x : ℕ). has x s) (alive-of i mi .set-is) ∙ away)
 
-        step : Another i → Alive cable n-pos n-most k-pos (suc T) L P i (outsideSlot s (hd i) (counted (recordOf t i)))
-        step o = outside-alive cable n-pos n-most k-pos N (suc T) L P i (inv .lists .late) (S (suc N)) (hd i) (counted (recordOf t i)) (alive-counted i mi) (gets i mi) (mi .pos) (mi .le)
+        step : Another i → Alive cable turns n-most k-pos (suc T) L P i (outsideSlot s (hd i) (counted (recordOf t i)))
+        step o = outside-alive cable turns n-most k-pos N (suc T) L P i (inv .lists .late) (S (suc N)) (hd i) (counted (recordOf t i)) (alive-counted i mi) (gets i mi) (mi .pos) (mi .le)
             away (unsent away) (o .c) (o .is .pos) (o .is .le) (o .other) (alive-of (o .c) (o .is) .marked)
 
     -- a member that is not marked is another than the two that stay on
@@ -297,7 +300,7 @@ module _ (cable : Cable) (n-pos : 1 ≤ cable .n) (n-most : cable .n ≤ 32) (k-
         omega (arith, bounds .1, size-three n L′ a b x (ma .pos) (ma .le) (mb .pos) (mb .le) h l ab (other a ma) (other b mb) (stays a ma) (stays b mb) on)
       where
         stays : (i : ℕ) → MemberOf t i → has L′ i ≡ true
-        stays i mi = shrunk-keeps cable n-pos k-pos n P′ s L i (marked-of i mi) (alive-of i mi .listed)
+        stays i mi = shrunk-keeps cable turns k-pos n P′ s L i (marked-of i mi) (alive-of i mi .listed)
 
         other : (i : ℕ) → MemberOf t i → i ≢ x
         other i mi e = no-both (marked-of i mi) (ap (has P′) e ∙ unmarked)
@@ -311,11 +314,11 @@ module _ (cable : Cable) (n-pos : 1 ≤ cable .n) (n-most : cable .n ≤ 32) (k-
 
     pub slot-keeps : Next
     slot-keeps = by-cases (has L s)
-        (λ on. made L′ P′ (inside-lists cable n-pos n-most k-pos S N L P (inv .lists) on many-left (size-le n L)) (alive-listed on))
-        (λ away. made L P (outside-lists cable n-pos n-most k-pos S N L P (inv .lists) away (unsent away)) (alive-outside away))
+        (λ on. made L′ P′ (inside-lists cable turns n-most k-pos S N L P (inv .lists) on many-left (size-le n L)) (alive-listed on))
+        (λ away. made L P (outside-lists cable turns n-most k-pos S N L P (inv .lists) away (unsent away)) (alive-outside away))
       where
-        made : (L₁ P₁ : ℕ) → Lists cable n-pos n-most k-pos S (suc N) L₁ P₁
-            → ((i : ℕ) → MemberOf t i → Alive cable n-pos n-most k-pos (suc T) L₁ P₁ i (readIn n (recordOf t i .state) s (hd i) (counted (recordOf t i)))) → Next
+        made : (L₁ P₁ : ℕ) → Lists cable turns n-most k-pos S (suc N) L₁ P₁
+            → ((i : ℕ) → MemberOf t i → Alive cable turns n-most k-pos (suc T) L₁ P₁ i (readIn n (recordOf t i .state) s (hd i) (counted (recordOf t i)))) → Next
         made L₁ P₁ ls al = record {
           L₁ = L₁;
           P₁ = P₁;
@@ -334,7 +337,7 @@ module _ (cable : Cable) (n-pos : 1 ≤ cable .n) (n-most : cable .n ≤ 32) (k-
 
   -- only the slots up to now count
   same-slots : (S R : ℕ → Bool) (N T L P : ℕ) (t : Table) → ((q : ℕ) → q ≤ N → R q ≡ S q) → TableInv S N T L P t → TableInv R N T L P t
-  same-slots S R N T L P t h v = record { len = v .len; at = v .at; lists = lists-same cable n-pos n-most k-pos S R N L P h (v .lists); nodes = v .nodes }
+  same-slots S R N T L P t h v = record { len = v .len; at = v .at; lists = lists-same cable turns n-most k-pos S R N L P h (v .lists); nodes = v .nodes }
 
   off-keeps : (S : ℕ → Bool) (N T L P : ℕ) (t : Table) → TableInv S N T L P t → (x : ℕ) → ((i : ℕ) → 1 ≤ i → i ≤ n → sound (recordOf t i) ≡ true) → TableInv S N T L P (tableAfterOff x t)
   off-keeps S N T L P t v x good = record {
@@ -392,8 +395,11 @@ module _ (cable : Cable) (fits : cableFits cable ≡ true) (lent : Table) (one-e
   begins : Placed cable 0 start
   begins = start-placed cable fits lent one-each
 
+  turns : Turns cable
+  turns = turns-of cable (fitting cable fits)
+
   n-pos : 1 ≤ cable .n
-  n-pos = omega (arith, ring-size (cable .n) (fitting cable fits .ring))
+  n-pos = turns .some
 
   n-most : cable .n ≤ 32
   n-most = ring-size (cable .n) (fitting cable fits .ring) .1
@@ -414,7 +420,7 @@ module _ (cable : Cable) (fits : cableFits cable ≡ true) (lent : Table) (one-e
   record Run (cs : List Call) : Type 0 where
     L : ℕ
     P : ℕ
-    inv : TableInv cable n-pos n-most k-pos bounds (sentIn cs) (slotsOf (tableAfter start cs) + n) (slotsOf (tableAfter start cs)) L P (tableAfter start cs)
+    inv : TableInv cable turns n-most k-pos bounds (sentIn cs) (slotsOf (tableAfter start cs) + n) (slotsOf (tableAfter start cs)) L P (tableAfter start cs)
     on : (i : ℕ) → StaysOn n i cs → isMember (recordOf (tableAfter start cs) i .state) ≡ true
 
   sound-at : (cs : List Call) (i : ℕ) → 1 ≤ i → i ≤ n → sound (recordOf (tableAfter start cs) i) ≡ true
@@ -434,17 +440,17 @@ module _ (cable : Cable) (fits : cableFits cable ≡ true) (lent : Table) (one-e
 
   -- the invariant of another table, after the calls c ∷ cs
   moved : (c : Call) (cs : List Call) (N T L P : ℕ) (u : Table) → tableAfter start (c ∷ cs) ≡ u → slotsOf (tableAfter start (c ∷ cs)) ≡ T → T + n ≡ N
-      → TableInv cable n-pos n-most k-pos bounds (sentIn (c ∷ cs)) N T L P u
-      → TableInv cable n-pos n-most k-pos bounds (sentIn (c ∷ cs)) (slotsOf (tableAfter start (c ∷ cs)) + n) (slotsOf (tableAfter start (c ∷ cs))) L P (tableAfter start (c ∷ cs))
+      → TableInv cable turns n-most k-pos bounds (sentIn (c ∷ cs)) N T L P u
+      → TableInv cable turns n-most k-pos bounds (sentIn (c ∷ cs)) (slotsOf (tableAfter start (c ∷ cs)) + n) (slotsOf (tableAfter start (c ∷ cs))) L P (tableAfter start (c ∷ cs))
   moved c cs N T L P u e q z v =
       let y : slotsOf (tableAfter start (c ∷ cs)) + n ≡ N = omega arith in
-      subst (λ (x : ℕ). TableInv cable n-pos n-most k-pos bounds (sentIn (c ∷ cs)) x (slotsOf (tableAfter start (c ∷ cs))) L P (tableAfter start (c ∷ cs))) (sym y)
-      (subst (λ (x : ℕ). TableInv cable n-pos n-most k-pos bounds (sentIn (c ∷ cs)) N x L P (tableAfter start (c ∷ cs))) (sym q)
-      (subst (λ (x : Table). TableInv cable n-pos n-most k-pos bounds (sentIn (c ∷ cs)) N T L P x) (sym e) v))
+      subst (λ (x : ℕ). TableInv cable turns n-most k-pos bounds (sentIn (c ∷ cs)) x (slotsOf (tableAfter start (c ∷ cs))) L P (tableAfter start (c ∷ cs))) (sym y)
+      (subst (λ (x : ℕ). TableInv cable turns n-most k-pos bounds (sentIn (c ∷ cs)) N x L P (tableAfter start (c ∷ cs))) (sym q)
+      (subst (λ (x : Table). TableInv cable turns n-most k-pos bounds (sentIn (c ∷ cs)) N T L P x) (sym e) v))
 
   -- the same table, with the calls c ∷ cs counted
-  again : (c : Call) (cs : List Call) (r : Run cs) → TableInv cable n-pos n-most k-pos bounds (sentIn (c ∷ cs)) (slotsOf (tableAfter start cs) + n) (slotsOf (tableAfter start cs)) (r .L) (r .P) (tableAfter start cs)
-  again c cs r = same-slots cable n-pos n-most k-pos bounds (sentIn cs) (sentIn (c ∷ cs)) (slotsOf (t cs) + n) (slotsOf (t cs)) (r .L) (r .P) (t cs)
+  again : (c : Call) (cs : List Call) (r : Run cs) → TableInv cable turns n-most k-pos bounds (sentIn (c ∷ cs)) (slotsOf (tableAfter start cs) + n) (slotsOf (tableAfter start cs)) (r .L) (r .P) (tableAfter start cs)
+  again c cs r = same-slots cable turns n-most k-pos bounds (sentIn cs) (sentIn (c ∷ cs)) (slotsOf (t cs) + n) (slotsOf (t cs)) (r .L) (r .P) (t cs)
       (λ q h. ap (λ (e : Past). e .sent) (past-old start c cs (q - n) (omega arith))) (r .inv)
 
   same-table : (c : Call) (cs : List Call) → Run cs → isSlot c (tableAfter start cs) ≡ false → tableAfter start (c ∷ cs) ≡ tableAfter start cs → Run (c ∷ cs)
@@ -459,11 +465,11 @@ module _ (cable : Cable) (fits : cableFits cable ≡ true) (lent : Table) (one-e
   unfolding tableAfter
   one-more (slot lost missed room) cs un tw r = by-cases (isSlot (slot lost missed room) (t cs)) go (λ e. same-table (slot lost missed room) cs r e (slot-refused lost missed room (t cs) e))
     where
-      member-of : (i : ℕ) → StaysOn n i cs → MemberOf cable n-pos n-most k-pos bounds (tableAfter start cs) i
+      member-of : (i : ℕ) → StaysOn n i cs → MemberOf cable turns n-most k-pos bounds (tableAfter start cs) i
       member-of i o = record { pos = o .pos; le = o .le; member = r .on i o }
 
       go : isSlot (slot lost missed room) (tableAfter start cs) ≡ true → Run (slot lost missed room ∷ cs)
-      go e = made (slot-keeps cable n-pos n-most k-pos bounds (sentIn (slot lost missed room ∷ cs)) (slotsOf (t cs) + n) (slotsOf (t cs)) (r .L) (r .P) (t cs) (again (slot lost missed room) cs r) lost missed now (un e)
+      go e = made (slot-keeps cable turns n-most k-pos bounds (sentIn (slot lost missed room ∷ cs)) (slotsOf (t cs) + n) (slotsOf (t cs)) (r .L) (r .P) (t cs) (again (slot lost missed room) cs r) lost missed now (un e)
           (tw .a) (tw .b) (member-of (tw .a) (tw .first)) (member-of (tw .b) (tw .second)) (tw .two) (sound-at cs) (below-limit cable _ _ n-pos (placed-run cable n-pos start begins cs) lost missed room e))
         where
           now : sentIn (slot lost missed room ∷ cs) (suc (slotsOf (tableAfter start cs) + n)) ≡ (transmits (tableAfter start cs) && not lost)
@@ -474,7 +480,7 @@ module _ (cable : Cable) (fits : cableFits cable ≡ true) (lent : Table) (one-e
           table-is : tableAfter start (slot lost missed room ∷ cs) ≡ tableAfterSlot lost missed (tableAfter start cs)
           table-is = slot-done lost missed room (t cs) e
 
-          made : Next cable n-pos n-most k-pos bounds (sentIn (slot lost missed room ∷ cs)) (slotsOf (t cs) + n) (slotsOf (t cs)) (r .L) (r .P) (t cs) (again (slot lost missed room) cs r) lost missed now (un e)
+          made : Next cable turns n-most k-pos bounds (sentIn (slot lost missed room ∷ cs)) (slotsOf (t cs) + n) (slotsOf (t cs)) (r .L) (r .P) (t cs) (again (slot lost missed room) cs r) lost missed now (un e)
               (tw .a) (tw .b) (member-of (tw .a) (tw .first)) (member-of (tw .b) (tw .second)) (tw .two) (sound-at cs) (below-limit cable _ _ n-pos (placed-run cable n-pos start begins cs) lost missed room e) → Run (slot lost missed room ∷ cs)
           made x = record {
             L = x .L₁;
@@ -492,7 +498,7 @@ module _ (cable : Cable) (fits : cableFits cable ≡ true) (lent : Table) (one-e
         L = r .L;
         P = r .P;
         inv = moved (off x) cs (slotsOf (t cs) + n) (slotsOf (t cs)) (r .L) (r .P) (tableAfterOff x (t cs)) table-is (omega (arith, slots-next cable n-pos start begins (off x) cs, num-isnt (off-no-slot x (t cs)))) refl
-            (off-keeps cable n-pos n-most k-pos bounds (sentIn (off x ∷ cs)) (slotsOf (t cs) + n) (slotsOf (t cs)) (r .L) (r .P) (t cs) (again (off x) cs r) x (sound-at cs));
+            (off-keeps cable turns n-most k-pos bounds (sentIn (off x ∷ cs)) (slotsOf (t cs) + n) (slotsOf (t cs)) (r .L) (r .P) (t cs) (again (off x) cs r) x (sound-at cs));
         on = λ i o. ap (λ (y : Table). isMember (recordOf y i .state)) table-is
             ∙ ap (λ (v : Node). isMember (v .state)) (after-off-record x (t cs) i (o .pos) (omega (arith, o .le, run-length cable n-pos start begins cs)) ∙ otherwise _ _ (ne-eqb i x (λ p. spared x cs i o (sym p))))
             ∙ r .on i (earlier (off x) cs i o);
@@ -514,11 +520,11 @@ module _ (cable : Cable) (fits : cableFits cable ≡ true) (lent : Table) (one-e
   first = record {
     L = full n;
     P = full n;
-    inv = subst (λ (x : ℕ). TableInv cable n-pos n-most k-pos bounds (sentIn []) (x + n) x (full n) (full n) start) (sym none-yet) (record {
+    inv = subst (λ (x : ℕ). TableInv cable turns n-most k-pos bounds (sentIn []) (x + n) x (full n) (full n) start) (sym none-yet) (record {
       len = run-length cable n-pos start begins [];
       at = refl;
-      lists = let z : n ≡ 0 + n = omega arith in subst (λ (x : ℕ). Lists cable n-pos n-most k-pos (sentIn []) x (full n) (full n)) z (lists-start cable n-pos n-most k-pos (sentIn []) (λ q h. early [] q h));
-      nodes = λ i h l. subst (Stands cable n-pos n-most k-pos bounds 0 (full n) (full n) i) (sym (start-record cable fits lent one-each i h l)) (start-stands cable n-pos n-most k-pos bounds i h l);
+      lists = let z : n ≡ 0 + n = omega arith in subst (λ (x : ℕ). Lists cable turns n-most k-pos (sentIn []) x (full n) (full n)) z (lists-start cable turns n-most k-pos (sentIn []) (λ q h. early [] q h));
+      nodes = λ i h l. subst (Stands cable turns n-most k-pos bounds 0 (full n) (full n) i) (sym (start-record cable fits lent one-each i h l)) (start-stands cable turns n-most k-pos bounds i h l);
     });
     on = λ i o. ap (λ (v : Node). isMember (v .state)) (start-record cable fits lent one-each i (o .pos) (o .le));
   }
@@ -535,30 +541,30 @@ module _ (cable : Cable) (fits : cableFits cable ≡ true) (lent : Table) (one-e
     equal = λ i j oi oj. al i oi .set-is ∙ sym (al j oj .set-is);
     remain = r .on;
     listed = λ i j oi oj. ap (λ (x : ℕ). has x j) (al i oi .set-is) ∙ al j oj .listed;
-    not-before = λ x h l p i oi. ap (λ (y : ℕ). has y x) (al i oi .set-is) ∙ there x (its-slot n n-pos T x h l) p;
-    gone = λ s h w p i oi. ap (λ (y : ℕ). has y (sender n s)) (al i oi .set-is) ∙ away s h w p;
+    not-before = λ x h l p i oi. ap (λ (y : ℕ). has y x) (al i oi .set-is) ∙ there x (its-slot cable turns T x h l) p;
+    gone = λ s h w p i oi. ap (λ (y : ℕ). has y (sender cable s)) (al i oi .set-is) ∙ away s h w p;
   }
     where
       T : ℕ
       T = slotsOf (tableAfter start cs)
 
-      al : (i : ℕ) → StaysOn n i cs → Alive cable n-pos n-most k-pos (slotsOf (tableAfter start cs)) (r .L) (r .P) i (recordOf (tableAfter start cs) i)
+      al : (i : ℕ) → StaysOn n i cs → Alive cable turns n-most k-pos (slotsOf (tableAfter start cs)) (r .L) (r .P) i (recordOf (tableAfter start cs) i)
       al i o = r .inv .nodes i (o .pos) (o .le) .alive (r .on i o)
 
-      ls : Lists cable n-pos n-most k-pos (sentIn cs) (slotsOf (tableAfter start cs) + n) (r .L) (r .P)
+      ls : Lists cable turns n-most k-pos (sentIn cs) (slotsOf (tableAfter start cs) + n) (r .L) (r .P)
       ls = r .inv .lists
 
       -- slot u of the round before the start and since
-      real : (u : ℕ) → n < u → sender n (u - n) ≡ sender n u
-      real u h = let z : u - n + n ≡ u = omega arith in sym (sender-period n n-pos (u - n) (omega arith)) ∙ ap (sender n) z
+      real : (u : ℕ) → n < u → sender cable (u - n) ≡ sender cable u
+      real u h = let z : u - n + n ≡ u = omega arith in sym (sender-period cable turns (u - n) (omega arith)) ∙ ap (sender cable) z
 
-      there : (x : ℕ) → (u : ℕ) × (slotsOf (tableAfter start cs) < u) × (u ≤ slotsOf (tableAfter start cs) + n) × (sender n u ≡ x)
-          → ((s : ℕ) → 1 ≤ s → s < slotsOf (tableAfter start cs) → sender n s ≡ x → entry start cs s .sent ≡ true) → has (r .L) x ≡ true
+      there : (x : ℕ) → (u : ℕ) × (slotsOf (tableAfter start cs) < u) × (u ≤ slotsOf (tableAfter start cs) + n) × (sender cable u ≡ x)
+          → ((s : ℕ) → 1 ≤ s → s < slotsOf (tableAfter start cs) → sender cable s ≡ x → entry start cs s .sent ≡ true) → has (r .L) x ≡ true
       there x (u, a, b, e) p = by-cases (sentIn cs u)
           (λ q. ap (has (r .L)) (sym e) ∙ ls .spoke u (T + n - u) (omega arith) (omega arith) q)
           (λ q. silent q (ℕ-discrete u (slotsOf (tableAfter start cs) + n)))
         where
-          sent-before : (w : ℕ) → w < slotsOf (tableAfter start cs) + n → sender n w ≡ x → sentIn cs w ≡ true
+          sent-before : (w : ℕ) → w < slotsOf (tableAfter start cs) + n → sender cable w ≡ x → sentIn cs w ≡ true
           sent-before w h y = go (decLe w n)
             where
               go : Dec (w ≤ n) → sentIn cs w ≡ true
@@ -572,14 +578,14 @@ module _ (cable : Cable) (fits : cableFits cable ≡ true) (lent : Table) (one-e
               go : Dec (n < u) → has (r .L) x ≡ true
               go (no h) = absurd (no-both (early cs u (omega arith)) q)
               go (yes h) =
-                  let d : sender n (slotsOf (tableAfter start cs)) ≡ x = (let y : slotsOf (tableAfter start cs) ≡ u - n = omega arith in ap (sender n) y ∙ real u h ∙ e) in
-                  ap (has (r .L)) (sym (ap (sender n) (sym z) ∙ e)) ∙ ls .waits (slotsOf (tableAfter start cs)) refl (sent-before (slotsOf (tableAfter start cs)) (omega (arith, n-pos)) d)
+                  let d : sender cable (slotsOf (tableAfter start cs)) ≡ x = (let y : slotsOf (tableAfter start cs) ≡ u - n = omega arith in ap (sender cable) y ∙ real u h ∙ e) in
+                  ap (has (r .L)) (sym (ap (sender cable) (sym z) ∙ e)) ∙ ls .waits (slotsOf (tableAfter start cs)) refl (sent-before (slotsOf (tableAfter start cs)) (omega (arith, n-pos)) d)
 
-      away : (s : ℕ) → 1 ≤ s → s + (n - 1) ≤ slotsOf (tableAfter start cs) → entry start cs s .sent ≡ false → has (r .L) (sender n s) ≡ false
+      away : (s : ℕ) → 1 ≤ s → s + (n - 1) ≤ slotsOf (tableAfter start cs) → entry start cs s .sent ≡ false → has (r .L) (sender cable s) ≡ false
       away s h w p =
           let z : s + n - n ≡ s = omega arith in
           let q : sentIn cs (s + n) ≡ false = ap (λ (x : ℕ). past start cs x .sent) z ∙ ap (λ (y : Entry). y .sent) (sym (entry-is start cs s)) ∙ p in
-          ap (has (r .L)) (sym (sender-period n n-pos s h)) ∙ ls .gone (s + n) (slotsOf (tableAfter start cs) + n - (s + n)) (omega arith) (omega (arith, n-pos)) q
+          ap (has (r .L)) (sym (sender-period cable turns s h)) ∙ ls .gone (s + n) (slotsOf (tableAfter start cs) + n - (s + n)) (omega arith) (omega (arith, n-pos)) q
 
   -- at the start and after each call
   each : (cs : List Call) → OnlyOffs cable (tableAfter start) cs → TwoStayOn n cs → AtEach (λ c before. Survives cable (tableAfter start) (c ∷ before)) cs

@@ -13,7 +13,7 @@ use Rattle.nodeset.proofs.Sums.{sum-le, sum-first, sum-next, sum-none}
 use Rattle.nodeset.proofs.Laws.{has-full, has-with, has-with-other, has-without, has-without-other}
 use Rattle.ring.specs.declared.Cable.{Cable}
 use Rattle.ring.specs.Ring.{sender, sponsors}
-use Rattle.ring.proofs.Senders.{sender-range, sender-once, sender-period}
+use Rattle.ring.proofs.Senders.{Turns, sender-range, sender-once, sender-period}
 use Rattle.ring.proofs.Walks as walks
 use Rattle.agreement.proofs.Backwards.{size-from}
 use Rattle.agreement.proofs.History.{sum-more, num-is, num-isnt}
@@ -24,25 +24,25 @@ use Rattle.many_dead.proofs.Shrinking.{member, decided-is, goes-by-othe
 abbrev pub marksNext : Bool → ℕ → ℕ → ℕ
 marksNext sent s P = cond sent (with P s) (without P s)
 
-module _ (cable : Cable) (n-pos : 1 ≤ cable .n) (n-most : cable .n ≤ 32) (k-pos : 1 ≤ cable .k) where
+module _ (cable : Cable) (turns : Turns cable) (n-most : cable .n ≤ 32) (k-pos : 1 ≤ cable .k) where
   open Cable cable using (n, k, lag)
 
   -- the members that spoke, or had their slot, in the e slots after slot u
   abbrev pub since : ℕ → ℕ → ℕ → ℕ
-  since L u e = sum (walks.member n n-pos L) (suc u) e
+  since L u e = sum (walks.member cable turns L) (suc u) e
 
   pub record Lists (S : ℕ → Bool) (N L P : ℕ) : Type 0 where
     pub late : n ≤ N
     -- a member is marked exactly if its last slot was sent
-    pub marks : (u e : ℕ) → u + e ≡ N → e < n → has L (sender n u) ≡ true → has P (sender n u) ≡ S u
+    pub marks : (u e : ℕ) → u + e ≡ N → e < n → has L (sender cable u) ≡ true → has P (sender cable u) ≡ S u
     -- who spoke in its last slot is a member
-    pub spoke : (u e : ℕ) → u + e ≡ N → e < n → S u ≡ true → has L (sender n u) ≡ true
+    pub spoke : (u e : ℕ) → u + e ≡ N → e < n → S u ≡ true → has L (sender cable u) ≡ true
     -- a member whose last slot was silent has had fewer than ks members, and the lag, speak since
-    pub soon : (u e : ℕ) → u + e ≡ N → e < n → has L (sender n u) ≡ true → S u ≡ false → (since L u e < k + lag) × (suc (since L u e) < size n L)
+    pub soon : (u e : ℕ) → u + e ≡ N → e < n → has L (sender cable u) ≡ true → S u ≡ false → (since L u e < k + lag) × (suc (since L u e) < size n L)
     -- who spoke a round ago is a member at the end of its slot
-    pub waits : (u : ℕ) → u + n ≡ N → S u ≡ true → has L (sender n N) ≡ true
+    pub waits : (u : ℕ) → u + n ≡ N → S u ≡ true → has L (sender cable N) ≡ true
     -- n - 1 slots after a silent one its node is gone
-    pub gone : (u e : ℕ) → u + e ≡ N → n ≤ suc e → S u ≡ false → has L (sender n u) ≡ false
+    pub gone : (u e : ℕ) → u + e ≡ N → n ≤ suc e → S u ≡ false → has L (sender cable u) ≡ false
 
   -- only the slots up to now count
   pub lists-same : (S R : ℕ → Bool) (N L P : ℕ) → ((q : ℕ) → q ≤ N → R q ≡ S q) → Lists S N L P → Lists R N L P
@@ -56,153 +56,153 @@ module _ (cable : Cable) (n-pos : 1 ≤ cable .n) (n-most : cable .n ≤ 32) (k-
   }
 
   -- the members of a part of a round
-  within-round : (L u e : ℕ) → 1 ≤ u → suc e ≤ n → has L (sender n u) ≡ true → suc (since L u e) ≤ size n L
+  within-round : (L u e : ℕ) → 1 ≤ u → suc e ≤ n → has L (sender cable u) ≡ true → suc (since L u e) ≤ size n L
   within-round L u e h l on =
-      let m : ℕ → ℕ = walks.member n n-pos L in
+      let m : ℕ → ℕ = walks.member cable turns L in
       let z : suc e + (n - suc e) ≡ n = omega arith in
-      omega (arith, sum-first m u e, num-is on, sum-more m u (suc e) (n - suc e), ap (sum m u) z, size-from n n-pos L u h)
+      omega (arith, sum-first m u e, num-is on, sum-more m u (suc e) (n - suc e), ap (sum m u) z, size-from cable turns L u h)
 
   -- within a round the silent one is gone
   in-time : (S : ℕ → Bool) (N L u e : ℕ) → n ≤ N → u + e ≡ N → suc e ≡ n
-      → (has L (sender n u) ≡ true → S u ≡ false → (since L u e < k + lag) × (suc (since L u e) < size n L))
-      → S u ≡ false → has L (sender n u) ≡ false
-  in-time S N L u e hn z w soon s = not-true (has L (sender n u)) (λ on.
-      let m : ℕ → ℕ = walks.member n n-pos L in
-      omega (arith, size-from n n-pos L u (omega arith), ap (sum m u) w, sum-first m u e, num-is on, soon on s .1))
+      → (has L (sender cable u) ≡ true → S u ≡ false → (since L u e < k + lag) × (suc (since L u e) < size n L))
+      → S u ≡ false → has L (sender cable u) ≡ false
+  in-time S N L u e hn z w soon s = not-true (has L (sender cable u)) (λ on.
+      let m : ℕ → ℕ = walks.member cable turns L in
+      omega (arith, size-from cable turns L u (omega arith), ap (sum m u) w, sum-first m u e, num-is on, soon on s .1))
 
-  other-sender : (N u e : ℕ) → n ≤ N → u + suc e ≡ suc N → suc e < n → sender n (suc N) ≢ sender n u
-  other-sender N u e hn z h p = sender-once n n-pos u (suc e) (omega arith) (omega arith) h (ap (sender n) z ∙ p)
+  other-sender : (N u e : ℕ) → n ≤ N → u + suc e ≡ suc N → suc e < n → sender cable (suc N) ≢ sender cable u
+  other-sender N u e hn z h p = sender-once cable turns u (suc e) (omega arith) (omega arith) h (ap (sender cable) z ∙ p)
 
   module _ (S : ℕ → Bool) (N L P : ℕ) (l : Lists S N L P) where
     abbrev s : ℕ
-    s = sender n (suc N)
+    s = sender cable (suc N)
 
     -- a slot outside the list
-    pub outside-lists : has L (sender n (suc N)) ≡ false → S (suc N) ≡ false → Lists S (suc N) L P
+    pub outside-lists : has L (sender cable (suc N)) ≡ false → S (suc N) ≡ false → Lists S (suc N) L P
     outside-lists off sil = record {
       late = omega (arith, l .late);
       marks = marks;
       spoke = spoke;
       soon = soon;
-      waits = λ u z p. absurd (no-both (l .spoke u (n - 1) (omega arith) (omega arith) p) (ap (has L) (sym (sender-period n n-pos u (omega (arith, l .late))) ∙ ap (sender n) z) ∙ off));
+      waits = λ u z p. absurd (no-both (l .spoke u (n - 1) (omega arith) (omega arith) p) (ap (has L) (sym (sender-period cable turns u (omega (arith, l .late))) ∙ ap (sender cable) z) ∙ off));
       gone = gone;
     }
       where
         here : (u : ℕ) → u + 0 ≡ suc N → u ≡ suc N
         here u z = omega arith
 
-        marks : (u e : ℕ) → u + e ≡ suc N → e < n → has L (sender n u) ≡ true → has P (sender n u) ≡ S u
-        marks u zero z w on = absurd (no-both on (ap (λ (x : ℕ). has L (sender n x)) (here u z) ∙ off))
+        marks : (u e : ℕ) → u + e ≡ suc N → e < n → has L (sender cable u) ≡ true → has P (sender cable u) ≡ S u
+        marks u zero z w on = absurd (no-both on (ap (λ (x : ℕ). has L (sender cable x)) (here u z) ∙ off))
         marks u (suc e) z w on = l .marks u e (omega arith) (omega arith) on
 
-        spoke : (u e : ℕ) → u + e ≡ suc N → e < n → S u ≡ true → has L (sender n u) ≡ true
+        spoke : (u e : ℕ) → u + e ≡ suc N → e < n → S u ≡ true → has L (sender cable u) ≡ true
         spoke u zero z w p = absurd (no-both p (ap S (here u z) ∙ sil))
         spoke u (suc e) z w p = l .spoke u e (omega arith) (omega arith) p
 
-        soon : (u e : ℕ) → u + e ≡ suc N → e < n → has L (sender n u) ≡ true → S u ≡ false → (since L u e < k + lag) × (suc (since L u e) < size n L)
-        soon u zero z w on p = absurd (no-both on (ap (λ (x : ℕ). has L (sender n x)) (here u z) ∙ off))
+        soon : (u e : ℕ) → u + e ≡ suc N → e < n → has L (sender cable u) ≡ true → S u ≡ false → (since L u e < k + lag) × (suc (since L u e) < size n L)
+        soon u zero z w on p = absurd (no-both on (ap (λ (x : ℕ). has L (sender cable x)) (here u z) ∙ off))
         soon u (suc e) z w on p =
-            let m : ℕ → ℕ = walks.member n n-pos L in
+            let m : ℕ → ℕ = walks.member cable turns L in
             let y : suc u + e ≡ suc N = omega arith in
             let b = l .soon u e (omega arith) (omega arith) on p in
             let c : m (suc u + e) ≡ 0 = ap m y ∙ num-isnt off in
             (omega (arith, b .0, sum-next m (suc u) e), omega (arith, b .1, sum-next m (suc u) e))
 
-        gone : (u e : ℕ) → u + e ≡ suc N → n ≤ suc e → S u ≡ false → has L (sender n u) ≡ false
-        gone u zero z w p = ap (λ (x : ℕ). has L (sender n x)) (here u z) ∙ off
+        gone : (u e : ℕ) → u + e ≡ suc N → n ≤ suc e → S u ≡ false → has L (sender cable u) ≡ false
+        gone u zero z w p = ap (λ (x : ℕ). has L (sender cable x)) (here u z) ∙ off
         gone u (suc e) z w p = go (ℕ-discrete (suc (suc e)) n)
           where
-            go : Dec (suc (suc e) ≡ n) → has L (sender n u) ≡ false
+            go : Dec (suc (suc e) ≡ n) → has L (sender cable u) ≡ false
             go (yes q) = in-time S (suc N) L u (suc e) (omega (arith, l .late)) z q (λ on t. soon u (suc e) z (omega arith) on t) p
             go (no q) = l .gone u e (omega arith) (omega arith) p
 
     -- a listed slot: marks for all alike, then the repeated departure
-    module _ (on : has L (sender n (suc N)) ≡ true) where
+    module _ (on : has L (sender cable (suc N)) ≡ true) where
       abbrev pub P′ : ℕ
-      P′ = marksNext (S (suc N)) (sender n (suc N)) P
+      P′ = marksNext (S (suc N)) (sender cable (suc N)) P
 
       abbrev pub L′ : ℕ
-      L′ = shrunk cable n-pos k-pos n P′ (sender n (suc N)) L
+      L′ = shrunk cable turns k-pos n P′ (sender cable (suc N)) L
 
-      mark-here : has P′ (sender n (suc N)) ≡ S (suc N)
+      mark-here : has P′ (sender cable (suc N)) ≡ S (suc N)
       mark-here = go (S (suc N)) refl
         where
-          go : (b : Bool) → S (suc N) ≡ b → has (marksNext b (sender n (suc N)) P) (sender n (suc N)) ≡ b
-          go true e = let r = sender-range n n-pos (suc N) in has-with P (sender n (suc N)) (r .0) (omega (arith, r .1, n-most))
-          go false e = has-without P (sender n (suc N))
+          go : (b : Bool) → S (suc N) ≡ b → has (marksNext b (sender cable (suc N)) P) (sender cable (suc N)) ≡ b
+          go true e = let r = sender-range cable turns (suc N) in has-with P (sender cable (suc N)) (r .0) (omega (arith, r .1, n-most))
+          go false e = has-without P (sender cable (suc N))
 
-      mark-other : (x : ℕ) → sender n (suc N) ≢ x → has P′ x ≡ has P x
+      mark-other : (x : ℕ) → sender cable (suc N) ≢ x → has P′ x ≡ has P x
       mark-other x ne = go (S (suc N))
         where
-          go : (b : Bool) → has (marksNext b (sender n (suc N)) P) x ≡ has P x
-          go true = has-with-other P (sender n (suc N)) x ne
-          go false = has-without-other P (sender n (suc N)) x ne
+          go : (b : Bool) → has (marksNext b (sender cable (suc N)) P) x ≡ has P x
+          go true = has-with-other P (sender cable (suc N)) x ne
+          go false = has-without-other P (sender cable (suc N)) x ne
 
       part : (x : ℕ) → has L′ x ≡ true → has L x ≡ true
-      part x h = shrunk-part cable n-pos k-pos n P′ (sender n (suc N)) L x h
+      part x h = shrunk-part cable turns k-pos n P′ (sender cable (suc N)) L x h
 
-      marks-in : (u e : ℕ) → u + e ≡ suc N → e < n → has L′ (sender n u) ≡ true → has P′ (sender n u) ≡ S u
+      marks-in : (u e : ℕ) → u + e ≡ suc N → e < n → has L′ (sender cable u) ≡ true → has P′ (sender cable u) ≡ S u
       marks-in u zero z w h = let y : u ≡ suc N = omega arith in rw y mark-here
-      marks-in u (suc e) z w h = mark-other (sender n u) (other-sender N u e (l .late) z w) ∙ l .marks u e (omega arith) (omega arith) (part (sender n u) h)
+      marks-in u (suc e) z w h = mark-other (sender cable u) (other-sender N u e (l .late) z w) ∙ l .marks u e (omega arith) (omega arith) (part (sender cable u) h)
 
-      spoke-in : (u e : ℕ) → u + e ≡ suc N → e < n → S u ≡ true → has L′ (sender n u) ≡ true
-      spoke-in u zero z w h = let y : u ≡ suc N = omega arith in rw y (shrunk-sender cable n-pos k-pos n P′ N L (l .late) on)
+      spoke-in : (u e : ℕ) → u + e ≡ suc N → e < n → S u ≡ true → has L′ (sender cable u) ≡ true
+      spoke-in u zero z w h = let y : u ≡ suc N = omega arith in rw y (shrunk-sender cable turns k-pos n P′ N L (l .late) on)
       spoke-in u (suc e) z w h =
-          let was : has L (sender n u) ≡ true = l .spoke u e (omega arith) (omega arith) h in
-          shrunk-keeps cable n-pos k-pos n P′ (sender n (suc N)) L (sender n u) (mark-other (sender n u) (other-sender N u e (l .late) z w) ∙ l .marks u e (omega arith) (omega arith) was ∙ h) was
+          let was : has L (sender cable u) ≡ true = l .spoke u e (omega arith) (omega arith) h in
+          shrunk-keeps cable turns k-pos n P′ (sender cable (suc N)) L (sender cable u) (mark-other (sender cable u) (other-sender N u e (l .late) z w) ∙ l .marks u e (omega arith) (omega arith) was ∙ h) was
 
-      fewer : (a m : ℕ) → sum (walks.member n n-pos L′) a m ≤ sum (walks.member n n-pos L) a m
-      fewer a m = sum-le (walks.member n n-pos L′) (walks.member n n-pos L) a m (λ q _ _. by-cases (has L′ (sender n q))
-          (λ e. omega (arith, num-is e, num-is (part (sender n q) e)))
+      fewer : (a m : ℕ) → sum (walks.member cable turns L′) a m ≤ sum (walks.member cable turns L) a m
+      fewer a m = sum-le (walks.member cable turns L′) (walks.member cable turns L) a m (λ q _ _. by-cases (has L′ (sender cable q))
+          (λ e. omega (arith, num-is e, num-is (part (sender cable q) e)))
           (λ e. omega (arith, num-isnt e)))
 
       -- with a member that is not marked the list has two more, and the lag
       module _ (many : (x : ℕ) → 1 ≤ x → x ≤ n → has L′ x ≡ true → has P′ x ≡ false → 2 + lag ≤ size n L′) (small : size n L ≤ n) where
-        many-at : (u e : ℕ) → u + e ≡ suc N → e < n → has L′ (sender n u) ≡ true → S u ≡ false → 2 + lag ≤ size n L′
-        many-at u e z w h p = let r = sender-range n n-pos u in many (sender n u) (r .0) (r .1) h (marks-in u e z w h ∙ p)
+        many-at : (u e : ℕ) → u + e ≡ suc N → e < n → has L′ (sender cable u) ≡ true → S u ≡ false → 2 + lag ≤ size n L′
+        many-at u e z w h p = let r = sender-range cable turns u in many (sender cable u) (r .0) (r .1) h (marks-in u e z w h ∙ p)
 
-        soon-in : (u e : ℕ) → u + e ≡ suc N → e < n → has L′ (sender n u) ≡ true → S u ≡ false → (since L′ u e < k + lag) × (suc (since L′ u e) < size n L′)
-        soon-in u zero z w h p = (omega (arith, sum-none (walks.member n n-pos L′) (suc u), k-pos), omega (arith, sum-none (walks.member n n-pos L′) (suc u), many-at u zero z w h p))
+        soon-in : (u e : ℕ) → u + e ≡ suc N → e < n → has L′ (sender cable u) ≡ true → S u ≡ false → (since L′ u e < k + lag) × (suc (since L′ u e) < size n L′)
+        soon-in u zero z w h p = (omega (arith, sum-none (walks.member cable turns L′) (suc u), k-pos), omega (arith, sum-none (walks.member cable turns L′) (suc u), many-at u zero z w h p))
         soon-in u (suc e) z w h p = go (decLt (since L′ u (suc e)) (k + lag)) (decLt (suc (since L′ u (suc e))) (size n L′))
           where
             ago : u + e ≡ N
             ago = omega arith
 
             old : (since L u e < k + lag) × (suc (since L u e) < size n L)
-            old = l .soon u e ago (omega arith) (part (sender n u) h) p
+            old = l .soon u e ago (omega arith) (part (sender cable u) h) p
 
             more : since L′ u (suc e) ≡ suc (since L′ u e)
             more =
-                let m : ℕ → ℕ = walks.member n n-pos L′ in
+                let m : ℕ → ℕ = walks.member cable turns L′ in
                 let y : suc u + e ≡ suc N = omega arith in
-                let c : m (suc u + e) ≡ 1 = ap m y ∙ num-is (shrunk-sender cable n-pos k-pos n P′ N L (l .late) on) in
+                let c : m (suc u + e) ≡ 1 = ap m y ∙ num-is (shrunk-sender cable turns k-pos n P′ N L (l .late) on) in
                 omega (arith, sum-next m (suc u) e)
 
             -- it would be decided, and would have left
             exact : suc (since L′ u e) ≡ sponsors cable L′ + lag → ⊥
             exact c =
-                let d : member cable n-pos k-pos L′ (sender n (suc N)) ≡ sender n u = decided-is cable n-pos k-pos N L′ u e (l .late) ago w h (many-at u (suc e) z w h p) c in
-                no-both (goes-by-other cable n-pos k-pos P′ N L′ (l .late) (many-at u (suc e) z w h p) (ap (has P′) d ∙ marks-in u (suc e) z w h ∙ p)) (shrunk-ends cable n-pos k-pos n P′ N L (l .late) small)
+                let d : member cable turns k-pos L′ (sender cable (suc N)) ≡ sender cable u = decided-is cable turns k-pos N L′ u e (l .late) ago w h (many-at u (suc e) z w h p) c in
+                no-both (goes-by-other cable turns k-pos P′ N L′ (l .late) (many-at u (suc e) z w h p) (ap (has P′) d ∙ marks-in u (suc e) z w h ∙ p)) (shrunk-ends cable turns k-pos n P′ N L (l .late) small)
 
             -- all others, the sender included, are at most one less than the size
             most : suc (since L′ u (suc e)) ≤ size n L′
             most = within-round L′ u (suc e) (omega (arith, l .late)) (omega arith) h
 
             count : (suc (since L′ u e) ≡ k + lag) ⊎ (suc (suc (since L′ u e)) ≡ size n L′) → suc (since L′ u e) ≤ k + lag → suc (since L′ u e) ≡ sponsors cable L′ + lag
-            count c b = sponsors-of cable n-pos k-pos L′ (suc (since L′ u e)) c b (omega (arith, most, more)) (many-at u (suc e) z w h p)
+            count c b = sponsors-of cable turns k-pos L′ (suc (since L′ u e)) c b (omega (arith, most, more)) (many-at u (suc e) z w h p)
 
             go : Dec (since L′ u (suc e) < k + lag) → Dec (suc (since L′ u (suc e)) < size n L′) → (since L′ u (suc e) < k + lag) × (suc (since L′ u (suc e)) < size n L′)
             go (yes a) (yes b) = (a, b)
             go (yes a) (no b) = absurd (exact (count (inr (omega (arith, more, most))) (omega (arith, more))))
             go (no a) d = absurd (exact (count (inl (omega (arith, more, fewer (suc u) e, old .0))) (omega (arith, fewer (suc u) e, old .0))))
 
-        gone-in : (u e : ℕ) → u + e ≡ suc N → n ≤ suc e → S u ≡ false → has L′ (sender n u) ≡ false
+        gone-in : (u e : ℕ) → u + e ≡ suc N → n ≤ suc e → S u ≡ false → has L′ (sender cable u) ≡ false
         gone-in u zero z w p = in-time S (suc N) L′ u zero (omega (arith, l .late)) z (omega arith) (λ h t. soon-in u zero z (omega arith) h t) p
         gone-in u (suc e) z w p = go (ℕ-discrete (suc (suc e)) n)
           where
-            go : Dec (suc (suc e) ≡ n) → has L′ (sender n u) ≡ false
+            go : Dec (suc (suc e) ≡ n) → has L′ (sender cable u) ≡ false
             go (yes q) = in-time S (suc N) L′ u (suc e) (omega (arith, l .late)) z q (λ h t. soon-in u (suc e) z (omega arith) h t) p
-            go (no q) = not-true (has L′ (sender n u)) (λ h. no-both (part (sender n u) h) (l .gone u e (omega arith) (omega arith) p))
+            go (no q) = not-true (has L′ (sender cable u)) (λ h. no-both (part (sender cable u) h) (l .gone u e (omega arith) (omega arith) p))
 
         pub inside-lists : Lists S (suc N) L′ P′
         inside-lists = record {
@@ -210,7 +210,7 @@ module _ (cable : Cable) (n-pos : 1 ≤ cable .n) (n-most : cable .n ≤ 32) (k-
           marks = marks-in;
           spoke = spoke-in;
           soon = soon-in;
-          waits = λ u z p. shrunk-sender cable n-pos k-pos n P′ N L (l .late) on;
+          waits = λ u z p. shrunk-sender cable turns k-pos n P′ N L (l .late) on;
           gone = gone-in;
         }
 
@@ -225,5 +225,5 @@ module _ (cable : Cable) (n-pos : 1 ≤ cable .n) (n-most : cable .n ≤ 32) (k-
     gone = λ u e z w p. absurd (no-both (h u (omega arith)) p);
   }
     where
-      all : (u : ℕ) → has (full n) (sender n u) ≡ true
-      all u = let r = sender-range n n-pos u in has-full n (sender n u) (r .0) (r .1) (omega (arith, r .1, n-most))
+      all : (u : ℕ) → has (full n) (sender cable u) ≡ true
+      all u = let r = sender-range cable turns u in has-full n (sender cable u) (r .0) (r .1) (omega (arith, r .1, n-most))

@@ -14,7 +14,7 @@ use Rattle.nodeset.proofs.Laws.{has-with, has-with-other, has-without, has-with
 use Rattle.nodeset.proofs.Counts.{size-without}
 use Rattle.ring.specs.declared.Cable.{Cable}
 use Rattle.ring.specs.Ring.{sender, memberBefore, sponsors, sponsored, decided, memberIn, isFound}
-use Rattle.ring.proofs.Senders.{sender-range}
+use Rattle.ring.proofs.Senders.{Turns, sender-range}
 use Rattle.message.specs.declared.Reading.{Reading}
 use Rattle.node_record.specs.declared.Node.{Node}
 use Rattle.node_record.specs.declared.Cause.the-variants.{MissedReturn}
@@ -46,19 +46,19 @@ settle-stays inside s v mb ret a h l ne on = otherwise _ _ enough ∙ otherwise 
         omega (arith, size-without (v .cable .n) (without (v .present) (v .own)) a h l (has-without-other (v .present) (v .own) a (λ p. ne (sym p)) ∙ on)))
 
     none : (inside && joins s v) ≡ false
-    none = no-one inside (eqb (v .returning) 0) (isFound s (memberBefore (v .cable .n) (v .set) (v .returning) 1)) (eq-eqb (v .returning) 0 ret)
+    none = no-one inside (eqb (v .returning) 0) (isFound s (memberBefore (v .cable) (v .set) (v .returning) 1)) (eq-eqb (v .returning) 0 ret)
       where
         no-one : (a b c : Bool) → b ≡ true → (a && (not b && c)) ≡ false
         no-one true true c e = refl
         no-one false b c e = refl
         no-one true false c e = absurd (true≢false (sym e))
 
-module _ (cable : Cable) (n-pos : 1 ≤ cable .n) (n-most : cable .n ≤ 32) (k-pos : 1 ≤ cable .k) where
+module _ (cable : Cable) (turns : Turns cable) (n-most : cable .n ≤ 32) (k-pos : 1 ≤ cable .k) where
   open Cable cable using (n)
 
   -- the repeated departure, where the own mark is on
   departs-by : (times s : ℕ) (v : Node) → v .cable ≡ cable → has (v .present) (v .own) ≡ true
-      → departing times s v ≡ settle true s (withSet (shrunk cable n-pos k-pos times (v .present) s (v .set)) v)
+      → departing times s v ≡ settle true s (withSet (shrunk cable turns k-pos times (v .present) s (v .set)) v)
   unfolding departing shrunk goes
   departs-by zero s v c on = refl
   departs-by (suc times) s v c on =
@@ -72,12 +72,12 @@ module _ (cable : Cable) (n-pos : 1 ≤ cable .n) (n-most : cable .n ≤ 32) (k-
       m : ℕ
       m = memberIn (decidedIn s v)
 
-      is-goes : goes cable n-pos k-pos (v .present) s (v .set) ≡ leaves s v (memberIn (decidedIn s v))
+      is-goes : goes cable turns k-pos (v .present) s (v .set) ≡ leaves s v (memberIn (decidedIn s v))
       is-goes = ap (λ (c : Cable). isFound (memberIn (decided c (v .set) s)) (decided c (v .set) s) && not (has (v .present) (memberIn (decided c (v .set) s)))) (sym c)
 
-      same : leaves s v (memberIn (decidedIn s v)) ≡ true → shrunk cable n-pos k-pos times (v .present) s (without (v .set) (memberIn (decidedIn s v))) ≡ shrunk cable n-pos k-pos (suc times) (v .present) s (v .set)
+      same : leaves s v (memberIn (decidedIn s v)) ≡ true → shrunk cable turns k-pos times (v .present) s (without (v .set) (memberIn (decidedIn s v))) ≡ shrunk cable turns k-pos (suc times) (v .present) s (v .set)
       same e =
-          ap (λ (c : Cable). shrunk cable n-pos k-pos times (v .present) s (without (v .set) (memberIn (decided c (v .set) s)))) c
+          ap (λ (c : Cable). shrunk cable turns k-pos times (v .present) s (without (v .set) (memberIn (decided c (v .set) s)))) c
           ∙ sym (chosen _ _ (is-goes ∙ e))
 
   -- a node in the member state: its set is the list, its marks are those of all, nobody returns, it is on the list and marked
@@ -100,32 +100,32 @@ module _ (cable : Cable) (n-pos : 1 ≤ cable .n) (n-most : cable .n ≤ 32) (k-
     pub bits : isHeard r ≡ true → (j x : ℕ) → j < sponsors cable L → At x (sponsored cable L s (suc j)) → has (bitsHeard r) (suc j) ≡ has P x
     pub ret : returnIn r ≡ false
 
-  module _ (N T L P i : ℕ) (late : n ≤ N) (sent : Bool) (r : Reading) (v : Node) (al : Alive T L P i v) (g : Gets L P (sender n (suc N)) i sent r) (i-pos : 1 ≤ i) (i-le : i ≤ n) where
+  module _ (N T L P i : ℕ) (late : n ≤ N) (sent : Bool) (r : Reading) (v : Node) (al : Alive T L P i v) (g : Gets L P (sender cable (suc N)) i sent r) (i-pos : 1 ≤ i) (i-le : i ≤ n) where
     abbrev s : ℕ
-    s = sender n (suc N)
+    s = sender cable (suc N)
 
-    s-pos : 1 ≤ sender n (suc N)
-    s-pos = sender-range n n-pos (suc N) .0
+    s-pos : 1 ≤ sender cable (suc N)
+    s-pos = sender-range cable turns (suc N) .0
 
-    s-le : sender n (suc N) ≤ n
-    s-le = sender-range n n-pos (suc N) .1
+    s-le : sender cable (suc N) ≤ n
+    s-le = sender-range cable turns (suc N) .1
 
     abbrev P′ : ℕ
     P′ = marksNext sent s P
 
-    mark-here : has (marksNext sent (sender n (suc N)) P) (sender n (suc N)) ≡ sent
+    mark-here : has (marksNext sent (sender cable (suc N)) P) (sender cable (suc N)) ≡ sent
     mark-here = go sent
       where
-        go : (b : Bool) → has (marksNext b (sender n (suc N)) P) (sender n (suc N)) ≡ b
-        go true = has-with P (sender n (suc N)) s-pos (omega (arith, s-le, n-most))
-        go false = has-without P (sender n (suc N))
+        go : (b : Bool) → has (marksNext b (sender cable (suc N)) P) (sender cable (suc N)) ≡ b
+        go true = has-with P (sender cable (suc N)) s-pos (omega (arith, s-le, n-most))
+        go false = has-without P (sender cable (suc N))
 
-    mark-other : (x : ℕ) → sender n (suc N) ≢ x → has (marksNext sent (sender n (suc N)) P) x ≡ has P x
+    mark-other : (x : ℕ) → sender cable (suc N) ≢ x → has (marksNext sent (sender cable (suc N)) P) x ≡ has P x
     mark-other x ne = go sent
       where
-        go : (b : Bool) → has (marksNext b (sender n (suc N)) P) x ≡ has P x
-        go true = has-with-other P (sender n (suc N)) x ne
-        go false = has-without-other P (sender n (suc N)) x ne
+        go : (b : Bool) → has (marksNext b (sender cable (suc N)) P) x ≡ has P x
+        go true = has-with-other P (sender cable (suc N)) x ne
+        go false = has-without-other P (sender cable (suc N)) x ne
 
     -- what is told of node x is its mark
     told-is : (answer : Bool) (x : ℕ) → isHeard r ≡ true → (t : Told answer s (bitsHeard r) v x (sponsorsIn v)) → has (bitsHeard r) (suc (t .i)) ≡ has P x
@@ -136,7 +136,7 @@ module _ (cable : Cable) (n-pos : 1 ≤ cable .n) (n-most : cable .n ≤ 32) (k-
     mute : s ≡ v .own → isHeard r ≡ false
     mute e = g .mute (e ∙ al .own-is)
 
-    pub marks-next : Alike n (marksAfter (sender n (suc N)) r v) (marksNext sent (sender n (suc N)) P)
+    pub marks-next : Alike n (marksAfter (sender cable (suc N)) r v) (marksNext sent (sender cable (suc N)) P)
     marks-next x h l = two (ℕ-discrete s x) (ℕ-discrete s (v .own))
       where
         here : Dec (s ≡ v .own) → has (marksAfter s r v) s ≡ sent
@@ -161,7 +161,7 @@ module _ (cable : Cable) (n-pos : 1 ≤ cable .n) (n-most : cable .n ≤ 32) (k-
         two (yes e) o = subst (λ (y : ℕ). has (marksAfter s r v) y ≡ has (marksNext sent s P) y) e (here o ∙ sym mark-here)
         two (no e) o = other e ∙ sym (mark-other x e)
 
-    pub marked-next : has (marksNext sent (sender n (suc N)) P) i ≡ true
+    pub marked-next : has (marksNext sent (sender cable (suc N)) P) i ≡ true
     marked-next = two (ℕ-discrete s i)
       where
         two : Dec (s ≡ i) → has (marksNext sent s P) i ≡ true
@@ -169,8 +169,8 @@ module _ (cable : Cable) (n-pos : 1 ≤ cable .n) (n-most : cable .n ≤ 32) (k-
         two (no e) = mark-other i e ∙ al .marked
 
     -- a slot of a listed node; another node a is marked after it
-    pub inside-alive : (a : ℕ) → 1 ≤ a → a ≤ n → a ≢ i → has (marksNext sent (sender n (suc N)) P) a ≡ true
-        → Alive T (shrunk cable n-pos k-pos n (marksNext sent (sender n (suc N)) P) (sender n (suc N)) L) (marksNext sent (sender n (suc N)) P) i (insideSlot n (sender n (suc N)) r v)
+    pub inside-alive : (a : ℕ) → 1 ≤ a → a ≤ n → a ≢ i → has (marksNext sent (sender cable (suc N)) P) a ≡ true
+        → Alive T (shrunk cable turns k-pos n (marksNext sent (sender cable (suc N)) P) (sender cable (suc N)) L) (marksNext sent (sender cable (suc N)) P) i (insideSlot n (sender cable (suc N)) r v)
     unfolding insideSlot
     inside-alive a ha la ne on = subst (Alive T L′ P′ i) (sym goes-on) (record {
       cable-is = al .cable-is;
@@ -180,7 +180,7 @@ module _ (cable : Cable) (n-pos : 1 ≤ cable .n) (n-most : cable .n ≤ 32) (k-
       set-is = set-next;
       marks = marks-next;
       ret = al .ret;
-      listed = shrunk-keeps cable n-pos k-pos n P′ s L i marked-next (al .listed);
+      listed = shrunk-keeps cable turns k-pos n P′ s L i marked-next (al .listed);
       marked = marked-next;
     })
       where
@@ -188,10 +188,10 @@ module _ (cable : Cable) (n-pos : 1 ≤ cable .n) (n-most : cable .n ≤ 32) (k-
         w = readMarked s r v
 
         L′ : ℕ
-        L′ = shrunk cable n-pos k-pos n (marksNext sent (sender n (suc N)) P) (sender n (suc N)) L
+        L′ = shrunk cable turns k-pos n (marksNext sent (sender cable (suc N)) P) (sender cable (suc N)) L
 
-        set-next : shrunk cable n-pos k-pos n (marksAfter s r v) s (v .set) ≡ shrunk cable n-pos k-pos n (marksNext sent (sender n (suc N)) P) (sender n (suc N)) L
-        set-next = shrunk-alike cable n-pos k-pos n (marksAfter s r v) P′ N (v .set) late marks-next ∙ ap (shrunk cable n-pos k-pos n P′ s) (al .set-is)
+        set-next : shrunk cable turns k-pos n (marksAfter s r v) s (v .set) ≡ shrunk cable turns k-pos n (marksNext sent (sender cable (suc N)) P) (sender cable (suc N)) L
+        set-next = shrunk-alike cable turns k-pos n (marksAfter s r v) P′ N (v .set) late marks-next ∙ ap (shrunk cable turns k-pos n P′ s) (al .set-is)
 
         own-on : has (marksAfter s r v) (v .own) ≡ true
         own-on = ap (has (marksAfter s r v)) (al .own-is) ∙ marks-next i i-pos i-le ∙ marked-next
@@ -199,14 +199,14 @@ module _ (cable : Cable) (n-pos : 1 ≤ cable .n) (n-most : cable .n ≤ 32) (k-
         le-own : a ≤ v .cable .n
         le-own = omega (arith, la, ap (λ (c : Cable). c .n) (al .cable-is))
 
-        goes-on : cond (readReturn r v) (leave MissedReturn v) (departing n s w) ≡ withSet (shrunk cable n-pos k-pos n (marksAfter s r v) s (v .set)) w
+        goes-on : cond (readReturn r v) (leave MissedReturn v) (departing n s w) ≡ withSet (shrunk cable turns k-pos n (marksAfter s r v) s (v .set)) w
         goes-on =
             otherwise _ _ (ap (λ (b : Bool). b && eqb (v .returning) 0) (g .ret))
             ∙ departs-by n s w (al .cable-is) own-on
-            ∙ settle-stays true s (withSet (shrunk cable n-pos k-pos n (marksAfter s r v) s (v .set)) w) (al .member) (al .ret) a ha le-own (λ q. ne (q ∙ al .own-is)) (marks-next a ha la ∙ on)
+            ∙ settle-stays true s (withSet (shrunk cable turns k-pos n (marksAfter s r v) s (v .set)) w) (al .member) (al .ret) a ha le-own (λ q. ne (q ∙ al .own-is)) (marks-next a ha la ∙ on)
 
     -- a slot outside the list: nothing is sent
-    pub outside-alive : has L (sender n (suc N)) ≡ false → sent ≡ false → (a : ℕ) → 1 ≤ a → a ≤ n → a ≢ i → has P a ≡ true → Alive T L P i (outsideSlot (sender n (suc N)) r v)
+    pub outside-alive : has L (sender cable (suc N)) ≡ false → sent ≡ false → (a : ℕ) → 1 ≤ a → a ≤ n → a ≢ i → has P a ≡ true → Alive T L P i (outsideSlot (sender cable (suc N)) r v)
     unfolding outsideSlot noted
     outside-alive off unsent a ha la ne on =
         subst (Alive T L P i) (sym (ap (settle false s) same ∙ settle-stays false s v (al .member) (al .ret) a ha (omega (arith, la, ap (λ (c : Cable). c .n) (al .cable-is))) (λ q. ne (q ∙ al .own-is)) (al .marks a ha la ∙ on))) al

@@ -17,7 +17,7 @@ use Rattle.ring.specs.declared.Cable.{Cable}
 use Rattle.ring.specs.declared.Found.{Found}
 use Rattle.ring.specs.declared.Found.the-variants as found
 use Rattle.ring.specs.Ring.{sender, sponsors, sponsored, decided, memberIn, isFound}
-use Rattle.ring.proofs.Senders.{sender-range, sender-once}
+use Rattle.ring.proofs.Senders.{Turns, sender-range, sender-once}
 use Rattle.ring.proofs.Walks as walks
 use Rattle.ring.proofs.Members.{same-member, sponsored-before, decided-before}
 use Rattle.node_steps.proofs.Answers.{At}
@@ -27,7 +27,7 @@ use Rattle.agreement.proofs.History.{num-is}
 use Rattle.agreement.proofs.Parts.{without-part}
 use Rattle.agreement.proofs.Marks.{no-both}
 
-module _ (cable : Cable) (n-pos : 1 ≤ cable .n) (k-pos : 1 ≤ cable .k) where
+module _ (cable : Cable) (turns : Turns cable) (k-pos : 1 ≤ cable .k) where
   open Cable cable using (n, k, lag)
 
   -- ---- the decided member
@@ -37,11 +37,11 @@ module _ (cable : Cable) (n-pos : 1 ≤ cable .n) (k-pos : 1 ≤ cable .k) where
   unfolding sponsors
   some-sponsored L h = (omega arith, omega arith)
 
-  pub deciding : (N L : ℕ) → n ≤ N → 2 + lag ≤ size n L → Before n n-pos N L (sponsors cable L + lag)
-  deciding N L hn h = let q = some-sponsored L h in before n n-pos N L (sponsors cable L + lag) hn (omega (arith, q .0)) (q .1)
+  pub deciding : (N L : ℕ) → n ≤ N → 2 + lag ≤ size n L → Before cable turns N L (sponsors cable L + lag)
+  deciding N L hn h = let q = some-sponsored L h in before cable turns N L (sponsors cable L + lag) hn (omega (arith, q .0)) (q .1)
 
-  pub decided-at : (N L : ℕ) (hn : n ≤ N) (h : 2 + lag ≤ size n L) → decided cable L (sender n (suc N)) ≡ found.Member (sender n (deciding N L hn h .u)) (suc (deciding N L hn h .e))
-  decided-at N L hn h = decided-before cable L (sender n (suc N)) (some-sponsored L h .0) ∙ deciding N L hn h .it
+  pub decided-at : (N L : ℕ) (hn : n ≤ N) (h : 2 + lag ≤ size n L) → decided cable L (sender cable (suc N)) ≡ found.Member (sender cable (deciding N L hn h .u)) (suc (deciding N L hn h .e))
+  decided-at N L hn h = decided-before cable L (sender cable (suc N)) (some-sponsored L h .0) ∙ deciding N L hn h .it
 
   decided-none : (L s : ℕ) → size n L ≤ 1 + lag → decided cable L s ≡ found.Nobody
   unfolding decided sponsored sponsors
@@ -50,25 +50,25 @@ module _ (cable : Cable) (n-pos : 1 ≤ cable .n) (k-pos : 1 ≤ cable .k) where
       ap (sponsored cable L s) z
 
   -- a member with as many members from its slot on as are sponsored, and the lag, is the decided one
-  pub decided-is : (N L u e : ℕ) → n ≤ N → u + e ≡ N → suc e < n → has L (sender n u) ≡ true → 2 + lag ≤ size n L
-      → suc (sum (walks.member n n-pos L) (suc u) e) ≡ sponsors cable L + lag → memberIn (decided cable L (sender n (suc N))) ≡ sender n u
+  pub decided-is : (N L u e : ℕ) → n ≤ N → u + e ≡ N → suc e < n → has L (sender cable u) ≡ true → 2 + lag ≤ size n L
+      → suc (sum (walks.member cable turns L) (suc u) e) ≡ sponsors cable L + lag → memberIn (decided cable L (sender cable (suc N))) ≡ sender cable u
   decided-is N L u e hn z he hm h c =
-      let m : ℕ → ℕ = walks.member n n-pos L in
+      let m : ℕ → ℕ = walks.member cable turns L in
       let b = deciding N L hn h in
       let c′ : sum m u (suc e) ≡ sponsors cable L + lag = omega (arith, sum-first m u e, num-is hm) in
       let same : b .u ≡ u = one-place m (sponsors cable L + lag) (b .u) (suc (b .e)) u (suc e) (omega (arith, b .ago)) (b .count) c′ (omega (arith, num-is (b .listed))) (omega (arith, num-is hm)) in
-      ap memberIn (decided-at N L hn h) ∙ ap (sender n) same
+      ap memberIn (decided-at N L hn h) ∙ ap (sender cable) same
 
   -- whoever is sponsored is a node
   sponsored-few : (L j : ℕ) → j < sponsors cable L → suc j + lag < size n L
   unfolding sponsors
   sponsored-few L j h = omega arith
 
-  pub sponsored-node : (N L j x : ℕ) → n ≤ N → j < sponsors cable L → At x (sponsored cable L (sender n (suc N)) (suc j)) → (1 ≤ x) × (x ≤ n)
+  pub sponsored-node : (N L j x : ℕ) → n ≤ N → j < sponsors cable L → At x (sponsored cable L (sender cable (suc N)) (suc j)) → (1 ≤ x) × (x ≤ n)
   sponsored-node N L j x hn h e =
-      let b = before n n-pos N L (suc j + lag) hn (omega arith) (sponsored-few L j h) in
-      let same : sender n (b .u) ≡ x = same-member (sym (b .it) ∙ sym (sponsored-before cable L (sender n (suc N)) (suc j) (omega arith) (omega arith)) ∙ e .it) in
-      let r = sender-range n n-pos (b .u) in
+      let b = before cable turns N L (suc j + lag) hn (omega arith) (sponsored-few L j h) in
+      let same : sender cable (b .u) ≡ x = same-member (sym (b .it) ∙ sym (sponsored-before cable L (sender cable (suc N)) (suc j) (omega arith) (omega arith)) ∙ e .it) in
+      let r = sender-range cable turns (b .u) in
       (omega arith, omega arith)
 
   -- ---- who leaves
@@ -94,19 +94,19 @@ module _ (cable : Cable) (n-pos : 1 ≤ cable .n) (k-pos : 1 ≤ cable .k) where
   unfolding goes
   none-goes P s L e = ap (λ (f : Found). isFound (memberIn f) f && not (has P (memberIn f))) e
 
-  pub goes-many : (P N L : ℕ) → goes P (sender n (suc N)) L ≡ true → 2 + lag ≤ size n L
+  pub goes-many : (P N L : ℕ) → goes P (sender cable (suc N)) L ≡ true → 2 + lag ≤ size n L
   goes-many P N L e = go (decLe (size n L) (1 + lag))
     where
       go : Dec (size n L ≤ 1 + lag) → 2 + lag ≤ size n L
-      go (yes l) = absurd (no-both e (none-goes P (sender n (suc N)) L (decided-none L (sender n (suc N)) l)))
+      go (yes l) = absurd (no-both e (none-goes P (sender cable (suc N)) L (decided-none L (sender cable (suc N)) l)))
       go (no l) = omega arith
 
   -- the decided member is a node of the list, and not the sender
   pub record Other (N L : ℕ) : Type 0 where
     pub u : ℕ
-    pub it : member L (sender n (suc N)) ≡ sender n u
-    pub on : has L (sender n u) ≡ true
-    pub other : sender n u ≢ sender n (suc N)
+    pub it : member L (sender cable (suc N)) ≡ sender cable u
+    pub on : has L (sender cable u) ≡ true
+    pub other : sender cable u ≢ sender cable (suc N)
 
   pub decided-other : (N L : ℕ) → n ≤ N → 2 + lag ≤ size n L → Other N L
   decided-other N L hn h =
@@ -116,14 +116,14 @@ module _ (cable : Cable) (n-pos : 1 ≤ cable .n) (k-pos : 1 ≤ cable .k) where
         u = b .u;
         it = ap memberIn (decided-at N L hn h);
         on = b .listed;
-        other = λ p. sender-once n n-pos (b .u) (suc (b .e)) (omega (arith, b .ago, b .recent)) (omega arith) (b .recent) (ap (sender n) z ∙ sym p);
+        other = λ p. sender-once cable turns (b .u) (suc (b .e)) (omega (arith, b .ago, b .recent)) (omega arith) (b .recent) (ap (sender cable) z ∙ sym p);
       }
 
   -- a decided member that is not marked leaves
-  pub goes-by-other : (P N L : ℕ) → n ≤ N → 2 + lag ≤ size n L → has P (member L (sender n (suc N))) ≡ false → goes P (sender n (suc N)) L ≡ true
+  pub goes-by-other : (P N L : ℕ) → n ≤ N → 2 + lag ≤ size n L → has P (member L (sender cable (suc N))) ≡ false → goes P (sender cable (suc N)) L ≡ true
   goes-by-other P N L hn h e =
       let b = deciding N L hn h in
-      goes-by P (sender n (suc N)) L (sender n (b .u)) (suc (b .e)) (decided-at N L hn h) ∙ ap not (ap (has P) (sym (ap memberIn (decided-at N L hn h))) ∙ e)
+      goes-by P (sender cable (suc N)) L (sender cable (b .u)) (suc (b .e)) (decided-at N L hn h) ∙ ap not (ap (has P) (sym (ap memberIn (decided-at N L hn h))) ∙ e)
 
   -- how many are sponsored, where there are k and the lag before or all others are
   pub sponsors-of : (L j : ℕ) → (j ≡ k + lag) ⊎ (suc j ≡ size n L) → j ≤ k + lag → j < size n L → 2 + lag ≤ size n L → j ≡ sponsors cable L + lag
@@ -156,44 +156,44 @@ module _ (cable : Cable) (n-pos : 1 ≤ cable .n) (k-pos : 1 ≤ cable .k) where
       (λ e. h)
 
   -- nor the sender
-  pub shrunk-sender : (t P N L : ℕ) → n ≤ N → has L (sender n (suc N)) ≡ true → has (shrunk t P (sender n (suc N)) L) (sender n (suc N)) ≡ true
+  pub shrunk-sender : (t P N L : ℕ) → n ≤ N → has L (sender cable (suc N)) ≡ true → has (shrunk t P (sender cable (suc N)) L) (sender cable (suc N)) ≡ true
   unfolding shrunk
   shrunk-sender zero P N L hn h = h
   shrunk-sender (suc t) P N L hn h =
-      choose (λ (y : ℕ). has y (sender n (suc N)) ≡ true) (goes P (sender n (suc N)) L) (shrunk t P (sender n (suc N)) (without L (member L (sender n (suc N))))) L
+      choose (λ (y : ℕ). has y (sender cable (suc N)) ≡ true) (goes P (sender cable (suc N)) L) (shrunk t P (sender cable (suc N)) (without L (member L (sender cable (suc N))))) L
       (λ e.
       let o = decided-other N L hn (goes-many P N L e) in
-      shrunk-sender t P N (without L (member L (sender n (suc N)))) hn (has-without-other L (member L (sender n (suc N))) (sender n (suc N)) (λ p. o .other (sym (o .it) ∙ p)) ∙ h))
+      shrunk-sender t P N (without L (member L (sender cable (suc N)))) hn (has-without-other L (member L (sender cable (suc N))) (sender cable (suc N)) (λ p. o .other (sym (o .it) ∙ p)) ∙ h))
       (λ e. h)
 
   -- and at its end nobody leaves
-  pub shrunk-ends : (t P N L : ℕ) → n ≤ N → size n L ≤ t → goes P (sender n (suc N)) (shrunk t P (sender n (suc N)) L) ≡ false
+  pub shrunk-ends : (t P N L : ℕ) → n ≤ N → size n L ≤ t → goes P (sender cable (suc N)) (shrunk t P (sender cable (suc N)) L) ≡ false
   unfolding shrunk
-  shrunk-ends zero P N L hn l = none-goes P (sender n (suc N)) L (decided-none L (sender n (suc N)) (omega arith))
-  shrunk-ends (suc t) P N L hn l = by-cases (goes P (sender n (suc N)) L)
-      (λ e. rw e (shrunk-ends t P N (without L (member L (sender n (suc N)))) hn (omega (arith, less e))))
+  shrunk-ends zero P N L hn l = none-goes P (sender cable (suc N)) L (decided-none L (sender cable (suc N)) (omega arith))
+  shrunk-ends (suc t) P N L hn l = by-cases (goes P (sender cable (suc N)) L)
+      (λ e. rw e (shrunk-ends t P N (without L (member L (sender cable (suc N)))) hn (omega (arith, less e))))
       (λ e. rw e e)
     where
-      less : goes P (sender n (suc N)) L ≡ true → suc (size n (without L (member L (sender n (suc N))))) ≡ size n L
+      less : goes P (sender cable (suc N)) L ≡ true → suc (size n (without L (member L (sender cable (suc N))))) ≡ size n L
       less e =
           let o = decided-other N L hn (goes-many P N L e) in
-          ap (λ (x : ℕ). suc (size n (without L x))) (o .it) ∙ size-without n L (sender n (o .u)) (sender-range n n-pos (o .u) .0) (sender-range n n-pos (o .u) .1) (o .on)
+          ap (λ (x : ℕ). suc (size n (without L x))) (o .it) ∙ size-without n L (sender cable (o .u)) (sender-range cable turns (o .u) .0) (sender-range cable turns (o .u) .1) (o .on)
 
   -- only the marks of nodes count
-  pub goes-alike : (P Q N L : ℕ) → n ≤ N → ((x : ℕ) → 1 ≤ x → x ≤ n → has P x ≡ has Q x) → goes P (sender n (suc N)) L ≡ goes Q (sender n (suc N)) L
+  pub goes-alike : (P Q N L : ℕ) → n ≤ N → ((x : ℕ) → 1 ≤ x → x ≤ n → has P x ≡ has Q x) → goes P (sender cable (suc N)) L ≡ goes Q (sender cable (suc N)) L
   goes-alike P Q N L hn h = go (decLe (size n L) (1 + lag))
     where
-      go : Dec (size n L ≤ 1 + lag) → goes P (sender n (suc N)) L ≡ goes Q (sender n (suc N)) L
-      go (yes l) = let d = decided-none L (sender n (suc N)) l in none-goes P (sender n (suc N)) L d ∙ sym (none-goes Q (sender n (suc N)) L d)
+      go : Dec (size n L ≤ 1 + lag) → goes P (sender cable (suc N)) L ≡ goes Q (sender cable (suc N)) L
+      go (yes l) = let d = decided-none L (sender cable (suc N)) l in none-goes P (sender cable (suc N)) L d ∙ sym (none-goes Q (sender cable (suc N)) L d)
       go (no l) =
           let many : 2 + lag ≤ size n L = omega arith in
           let b = deciding N L hn many in
           let d = decided-at N L hn many in
-          let r = sender-range n n-pos (b .u) in
-          goes-by P (sender n (suc N)) L (sender n (b .u)) (suc (b .e)) d ∙ ap not (h (sender n (b .u)) (r .0) (r .1)) ∙ sym (goes-by Q (sender n (suc N)) L (sender n (b .u)) (suc (b .e)) d)
+          let r = sender-range cable turns (b .u) in
+          goes-by P (sender cable (suc N)) L (sender cable (b .u)) (suc (b .e)) d ∙ ap not (h (sender cable (b .u)) (r .0) (r .1)) ∙ sym (goes-by Q (sender cable (suc N)) L (sender cable (b .u)) (suc (b .e)) d)
 
-  pub shrunk-alike : (t P Q N L : ℕ) → n ≤ N → ((x : ℕ) → 1 ≤ x → x ≤ n → has P x ≡ has Q x) → shrunk t P (sender n (suc N)) L ≡ shrunk t Q (sender n (suc N)) L
+  pub shrunk-alike : (t P Q N L : ℕ) → n ≤ N → ((x : ℕ) → 1 ≤ x → x ≤ n → has P x ≡ has Q x) → shrunk t P (sender cable (suc N)) L ≡ shrunk t Q (sender cable (suc N)) L
   unfolding shrunk
   shrunk-alike zero P Q N L hn h = refl
   shrunk-alike (suc t) P Q N L hn h =
-      ap₂ (λ (b : Bool) (x : ℕ). cond b x L) (goes-alike P Q N L hn h) (shrunk-alike t P Q N (without L (member L (sender n (suc N)))) hn h)
+      ap₂ (λ (b : Bool) (x : ℕ). cond b x L) (goes-alike P Q N L hn h) (shrunk-alike t P Q N (without L (member L (sender cable (suc N)))) hn h)

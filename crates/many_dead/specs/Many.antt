@@ -65,11 +65,11 @@ module _ (cable : Cable) (run : List Call → Table) where
     pub listed : (i j : ℕ) → StaysOn n i cs → StaysOn n j cs → has (held cs i) j ≡ true
     -- "each silent node is off all those lists after its first silent slot": up to the end of that slot it is on them
     pub not-before : (x : ℕ) → 1 ≤ x → x ≤ n
-        → ((s : ℕ) → 1 ≤ s → s < slotsOf (run cs) → sender n s ≡ x → entryOn run cs s .sent ≡ true)
+        → ((s : ℕ) → 1 ≤ s → s < slotsOf (run cs) → sender cable s ≡ x → entryOn run cs s .sent ≡ true)
         → (i : ℕ) → StaysOn n i cs → has (held cs i) x ≡ true
     -- "and before its next slot would come, if the run goes on that far": slot s was silent, and n - 1 slots ran after it
     pub gone : (s : ℕ) → 1 ≤ s → s + (n - 1) ≤ slotsOf (run cs) → entryOn run cs s .sent ≡ false
-        → (i : ℕ) → StaysOn n i cs → has (held cs i) (sender n s) ≡ false
+        → (i : ℕ) → StaysOn n i cs → has (held cs i) (sender cable s) ≡ false
 
 -- ---- the request
 

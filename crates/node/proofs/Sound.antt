@@ -1,21 +1,21 @@
 -- Sound records stay sound: set-up's record is sound, and a slot, off and restart keep it (specs/Calls). A refused call returns the record that
 -- came. Assumes nothing.
-use Prim.Native.Nat.{ℕ, _+_, _≤_, _<_}
+use Prim.Native.Nat.{ℕ, _+_, _<_}
 use mathlib.Core.Path.{_≡_, refl}
 use mathlib.Core.Bool.{Bool, true, false, cond}
 use mathlib.Core.List.{List}
 use native.Mathlib.Omega.{arith}
-use lib.Dec.{leb}
+use lib.Dec.{eqb, leb}
 use borrow.Author.Tests.{le-leb, leb-false}
 use Rattle.refusal.specs.declared.Refusal.{Refusal}
 use Rattle.refusal.specs.declared.Refusal.the-variants.{NodeNumber}
 use Rattle.refusal.specs.Causes.{cause}
-use Rattle.nodeset.proofs.Tests.{by-cases}
+use Rattle.nodeset.proofs.Tests.{by-cases, both}
 use Rattle.ring.specs.declared.Cable.{Cable}
-use Rattle.ring.specs.Ring.{cableFits, nodeNumber, sender}
+use Rattle.ring.specs.Ring.{cableFits, maySetUp, nodeNumber, sender}
 use Rattle.ring.specs.Answers.{faultOf}
-use Rattle.ring.proofs.Ranges.{ring-size, fitting}
-use Rattle.ring.proofs.Senders.{sender-range}
+use Rattle.ring.proofs.Ranges.{fitting}
+use Rattle.ring.proofs.Senders.{turns-of, sender-range}
 use Rattle.message.specs.declared.Received.{Received}
 use Rattle.node_reports.specs.Reports.{Counts, countsWithin}
 use Rattle.message.specs.declared.Reading.{Reading}
@@ -60,11 +60,10 @@ step-sound heard v e =
     (λ t. rw t e)
     (λ t. rw t (done-slot (leb-false limit (v .slots) t))))
   where
-    done-slot : v .slots < limit → sound (afterSlot (sender (v .cable .n) (v .slots + 1)) heard (counted v)) ≡ true
+    done-slot : v .slots < limit → sound (afterSlot (sender (v .cable) (v .slots + 1)) heard (counted v)) ≡ true
     done-slot l =
-        let three : 3 ≤ v .cable .n = ring-size (v .cable .n) (clauses v e .choices .ring) .0 in
-        let r = sender-range (v .cable .n) (omega arith) (v .slots + 1) in
-        after-slot-sound (sender (v .cable .n) (v .slots + 1)) heard (counted v) (r .0) (r .1) (counted-sound v e l)
+        let r = sender-range (v .cable) (turns-of (v .cable) (clauses v e .choices)) (v .slots + 1) in
+        after-slot-sound (sender (v .cable) (v .slots + 1)) heard (counted v) (r .0) (r .1) (counted-sound v e l)
 
 pub counted-slot-sound : (received : Received) (v : Node) (counts : Counts) → sound v ≡ true → sound (countedOf received v counts .stepped .node) ≡ true
 unfolding countedOf
@@ -93,13 +92,13 @@ restart-sound v e = rw e (by-cases (isOut (v .state)) (λ t. rw t (fresh-sound v
 refused-not-done : (r : Refusal) → Refused r ≡ Done → ⊥
 refused-not-done r e = let z : _≡_ {A = ℕ} 0 1 = cc in omega arith
 
-pub set-up-sound : (cable : Cable) (own : ℕ) → setUpOf cable own .answer ≡ Done → sound (setUpOf cable own .node) ≡ true
+pub set-up-sound : (cable : Cable) (places own : ℕ) → setUpOf cable places own .answer ≡ Done → sound (setUpOf cable places own .node) ≡ true
 unfolding setUpOf
-set-up-sound cable own e = go (cableFits cable) (nodeNumber (cable .n) own) refl refl e
+set-up-sound cable places own e = go (maySetUp cable places) (nodeNumber (cable .n) own) refl refl e
   where
-    go : (a b : Bool) → cableFits cable ≡ a → nodeNumber (cable .n) own ≡ b
-        → cond a (cond b (done (starting cable own)) (refused 3 noNode)) (refused (faultOf cable) noNode) .answer ≡ Done
-        → sound (cond a (cond b (done (starting cable own)) (refused 3 noNode)) (refused (faultOf cable) noNode) .node) ≡ true
-    go true true p q e = starting-sound cable own (fitting cable p) q
+    go : (a b : Bool) → maySetUp cable places ≡ a → nodeNumber (cable .n) own ≡ b
+        → cond a (cond b (done (starting cable own)) (refused 3 noNode)) (refused (faultOf cable places) noNode) .answer ≡ Done
+        → sound (cond a (cond b (done (starting cable own)) (refused 3 noNode)) (refused (faultOf cable places) noNode) .node) ≡ true
+    go true true p q e = starting-sound cable own (fitting cable (both (cableFits cable) (eqb places (cable .n)) p .0)) q
     go true false p q e = absurd (refused-not-done NodeNumber e)
-    go false b p q e = absurd (refused-not-done (cause (faultOf cable)) e)
+    go false b p q e = absurd (refused-not-done (cause (faultOf cable places)) e)

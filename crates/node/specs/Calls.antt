@@ -5,10 +5,12 @@ use Prim.Native.Nat.{ℕ, _+_}
 use mathlib.Core.List.{List}
 use mathlib.Core.Bool.{Bool, true, false, cond, not, _&&_}
 use lib.Dec.{eqb, leb}
+use lib.ListN.{length}
 use Rattle.refusal.specs.Causes.{cause}
 use Rattle.nodeset.specs.Sets.{has}
+use Rattle.ring.specs.declared.Choices.{Choices}
 use Rattle.ring.specs.declared.Cable.{Cable}
-use Rattle.ring.specs.Ring.{cableOf, cableFits, nodeNumber, sender}
+use Rattle.ring.specs.Ring.{cableOf, cableWith, maySetUp, nodeNumber, sender}
 use Rattle.ring.specs.Answers.{faultOf}
 use Rattle.node_reports.specs.Reports.{Counts, noReports, countsWithin, countsWith}
 use Rattle.message.specs.declared.Reading.{Reading}
@@ -51,21 +53,22 @@ withCounts stepped counts = record { stepped = stepped; counts = counts }
 abbrev pub unsent : ℕ → List ℕ → Written × List ℕ
 unsent number out = (written.Refused (cause number), out)
 
--- ---- set-up: 1, 16, 2, 14 and 3
+-- ---- set-up: 1, 16, 2, 14, 17, 18 and 3
 
 -- The record that comes with a refused set-up.
 abbrev pub noNode : Node
 noNode = record { cable = cableOf 0 0; own = 0; slots = 0; state = Out (leavingCause 4); set = 0; present = 0; returning = 0; «return_heard» = false; «yes_heard» = false; listening = noWindow }
 
-unfoldable pub setUpOf : Cable → ℕ → Stepped
-setUpOf cable own =
-    cond (cableFits cable)
+-- Where the slot table was given with so many places.
+unfoldable pub setUpOf : Cable → ℕ → ℕ → Stepped
+setUpOf cable places own =
+    cond (maySetUp cable places)
     (cond (nodeNumber (cable .n) own) (done (starting cable own)) (refused 3 noNode))
-    (refused (faultOf cable) noNode)
+    (refused (faultOf cable places) noNode)
 
 -- The record, and "only set-up clears" the counts (h).
-abbrev pub startOf : Cable → ℕ → Counted
-startOf cable own = withCounts (setUpOf cable own) noReports
+abbrev pub startOf : Choices → List ℕ → ℕ → Counted
+startOf choices slots own = withCounts (setUpOf (cableWith choices slots) (length slots) own) noReports
 
 -- ---- one slot
 
@@ -73,7 +76,7 @@ startOf cable own = withCounts (setUpOf cable own) noReports
 unfoldable pub stepOf : Reading → Node → Stepped
 stepOf heard v =
     cond (sound v)
-    (cond (leb limit (v .slots)) (refused 5 v) (done (afterSlot (sender (v .cable .n) (v .slots + 1)) heard (counted v))))
+    (cond (leb limit (v .slots)) (refused 5 v) (done (afterSlot (sender (v .cable) (v .slots + 1)) heard (counted v))))
     (refused 4 v)
 
 -- ---- one slot with the counts of failure reports (h)
@@ -85,7 +88,7 @@ hearsReport s heard v = not (isOwn s v) && (isHeard heard && has (v .set) s)
 -- The counts after a slot that is made, "even if that message makes it leave".
 unfoldable pub countsAfter : Received → Node → Counts → Counts
 countsAfter received v counts =
-    let s = sender (v .cable .n) (v .slots + 1) in
+    let s = sender (v .cable) (v .slots + 1) in
     cond (hearsReport s (received .reading) v) (countsWith s (received .jobs) counts) counts
 
 -- "A report count above the slot count .. gives 4".
@@ -103,14 +106,14 @@ slotOf bytes v counts = countedOf (readOf (v .cable .k) (v .cable .m) bytes) v c
 -- Inner: whose job byte counts in the next slot, 0 for nobody's.
 unfoldable pub reporterIn : Reading → Node → ℕ
 reporterIn heard v =
-    let s = sender (v .cable .n) (v .slots + 1) in
+    let s = sender (v .cable) (v .slots + 1) in
     cond (hearsReport s heard v) s 0
 
 -- ---- sending
 
 -- "the next slot is not this node's, or it neither is a member nor follows with returning 0"
 abbrev pub itsTurn : Node → Bool
-itsTurn v = eqb (sender (v .cable .n) (v .slots + 1)) (v .own) && sends v
+itsTurn v = eqb (sender (v .cable) (v .slots + 1)) (v .own) && sends v
 
 -- What is answered, and the lent bytes afterwards. A spare bit, "also in a given job byte, gives .. 8".
 unfoldable pub sendOf : Node → ℕ → List ℕ → Written × List ℕ

@@ -10,6 +10,7 @@ use node_record::State;
 use node_record::Window;
 use refusal::Refusal;
 use ring::Cable;
+use ring::Choices;
 use ring::Speaker;
 ghost use mathlib.Core.Path.{_≡_};
 ghost use mathlib.Core.Bool.{true};
@@ -53,6 +54,7 @@ pub const NO_NODE: Node = Node {
         k: 0,
         m: 0,
         lag: 0,
+        order: [0; 32],
     },
     own: 0,
     slots: 0,
@@ -71,12 +73,13 @@ pub const NO_NODE: Node = Node {
     },
 };
 
-// The record of node `own` at the common start. Refuses by 1, 16, 2, 14 and 3, in this order.
-fn started(cable: Cable, own: u32) -> Stepped
-    ensures { λ r. ⌜ r ≡ setUpOf cable own ⌝ }
+// The record of node `own` at the common start, where the slot table was given with so many places.
+// Refuses by 1, 16, 2, 14, 17, 18 and 3, in this order.
+fn started(cable: Cable, places: usize, own: u32) -> Stepped
+    ensures { λ r. ⌜ r ≡ setUpOf cable places own ⌝ }
 {
-    if !ring::cable_fits(cable) {
-        let cause = ring::fault(cable);
+    if !ring::may_set_up(cable, places) {
+        let cause = ring::fault(cable, places);
         return Stepped {
             node: NO_NODE,
             answer: Answer::Refused(cause),
@@ -95,12 +98,13 @@ fn started(cable: Cable, own: u32) -> Stepped
     }
 }
 
-// The record of node `own` at the common start, and no reports heard. Refuses by 1, 16, 2, 14 and 3, in
-// this order.
-pub fn set_up(cable: Cable, own: u32) -> Counted
-    ensures { λ r. ⌜ r ≡ startOf cable own ⌝ }
+// The record of node `own` at the common start, and no reports heard. Refuses by 1, 16, 2, 14, 17, 18 and
+// 3, in this order.
+pub fn set_up(choices: Choices, slots: &[u8], own: u32) -> Counted
+    ensures { λ r. ⌜ r ≡ startOf choices (now (slots .entry)) own ⌝ }
 {
-    let stepped = started(cable, own);
+    let cable = ring::cable_with(choices, slots);
+    let stepped = started(cable, slots.len(), own);
     with_counts(stepped, node_reports::NO_REPORTS)
 }
 
@@ -161,7 +165,8 @@ fn after_step(heard: Reading, v: Node) -> Stepped
             answer: Answer::Refused(Refusal::SlotLimit),
         };
     }
-    let speaker = ring::sender(v.cable.n, v.slots);
+    let cable = v.cable;
+    let speaker = ring::sender(cable, v.slots);
     // A sound record's n is a ring's size, so the sender is never refused.
     let Speaker::Node(s) = speaker else {
         return Stepped {
@@ -171,7 +176,6 @@ fn after_step(heard: Reading, v: Node) -> Stepped
     };
     let mut counted = v;
     counted.slots = v.slots + 1;
-    let cable = v.cable;
     let digest = node_steps::digest_of(s, heard, cable, v.set);
     let w = node_slot::after_slot(s, heard, digest, counted);
     Stepped {
@@ -205,7 +209,8 @@ fn reporter(heard: Reading, v: Node) -> u32
     requires { ⌜ ringSize (v .cable .n) ≡ true ⌝ }
     ensures { λ r. ⌜ r ≡ reporterIn heard v ⌝ }
 {
-    let speaker = ring::sender(v.cable.n, v.slots);
+    let cable = v.cable;
+    let speaker = ring::sender(cable, v.slots);
     // Never refused, by what is required.
     let Speaker::Node(s) = speaker else {
         return 0;
@@ -250,7 +255,8 @@ fn its_turn(v: Node) -> bool
     requires { ⌜ ringSize (v .cable .n) ≡ true ⌝ }
     ensures { λ r. ⌜ r ≡ itsTurn v ⌝ }
 {
-    let speaker = ring::sender(v.cable.n, v.slots);
+    let cable = v.cable;
+    let speaker = ring::sender(cable, v.slots);
     // Never refused, by what is required.
     let Speaker::Node(s) = speaker else {
         return false;

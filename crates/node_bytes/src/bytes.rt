@@ -8,7 +8,7 @@ use run_io::block;
 use run_io::block::Block;
 
 // How many bytes a record is.
-pub const RECORD: u8 = 60;
+pub const RECORD: u8 = 92;
 
 fn state_of(number: u8) -> State {
     match number {
@@ -55,13 +55,28 @@ fn window_of(bytes: &Block) -> Window {
     }
 }
 
-pub fn node_of(bytes: &Block) -> Node {
-    let cable = Cable {
+// The bytes from one place up to another; all bytes where there are not so many.
+pub fn between(bytes: &[u8], start: usize, end: usize) -> &[u8] {
+    if start <= end && end <= bytes.len() {
+        &bytes[start..end]
+    } else {
+        bytes
+    }
+}
+
+fn cable_of(bytes: &Block) -> Cable {
+    let order = slot_table::kept(between(bytes, 60, 92));
+    Cable {
         n: block::word(bytes, 0),
         k: block::word(bytes, 4),
         m: block::word(bytes, 52),
         lag: block::word(bytes, 56),
-    };
+        order,
+    }
+}
+
+pub fn node_of(bytes: &Block) -> Node {
+    let cable = cable_of(bytes);
     Node {
         cable,
         own: block::word(bytes, 8),
@@ -84,13 +99,28 @@ fn set_window(bytes: &mut Block, window: Window) {
     block::set_word(bytes, 47, window.last);
 }
 
+fn set_order(bytes: &mut Block, order: [u8; 32]) {
+    let mut i = 0;
+    while i < 32 {
+        bytes[i + 60] = order[i];
+        i += 1;
+    }
+}
+
+fn set_cable(bytes: &mut Block, cable: Cable) {
+    let order = cable.order;
+    block::set_word(bytes, 0, cable.n);
+    block::set_word(bytes, 4, cable.k);
+    block::set_word(bytes, 52, cable.m);
+    block::set_word(bytes, 56, cable.lag);
+    set_order(bytes, order);
+}
+
 pub fn set_node(bytes: &mut Block, node: Node) {
+    let cable = node.cable;
     let state = node.state;
     let window = node.listening;
-    block::set_word(bytes, 0, node.cable.n);
-    block::set_word(bytes, 4, node.cable.k);
-    block::set_word(bytes, 52, node.cable.m);
-    block::set_word(bytes, 56, node.cable.lag);
+    set_cable(bytes, cable);
     block::set_word(bytes, 8, node.own);
     block::set_long_word(bytes, 12, node.slots);
     bytes[20] = number_of(state);

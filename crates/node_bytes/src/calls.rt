@@ -4,7 +4,7 @@ use message::Written;
 use node::Answer;
 use node::Counted;
 use node_record::Node;
-use ring::Cable;
+use ring::Choices;
 use run_io::block;
 use run_io::block::Block;
 ghost use mathlib.Core.Path.{_≡_};
@@ -34,22 +34,24 @@ fn kept(record: &mut Block, counts: &mut [[u64; 8]; 32], counted: Counted) -> u3
     }
 }
 
-fn set_up(arguments: &Block) -> Counted {
+// The slot table stands after the numbers, with so many places; where there is no room for these, it is
+// longer than any.
+fn table(bytes: &[u8], places: usize) -> &[u8] {
+    if places <= 235 {
+        bytes::between(bytes, 20, places + 20)
+    } else {
+        bytes
+    }
+}
+
+fn set_up(arguments: &Block, size: u8) -> Counted {
     let n = block::word(arguments, 0);
     let k = block::word(arguments, 4);
     let m = block::word(arguments, 8);
     let lag = block::word(arguments, 12);
     let own = block::word(arguments, 16);
-    node::set_up(Cable { n, k, m, lag }, own)
-}
-
-// The first bytes, all if there are not so many.
-fn part(bytes: &[u8], length: usize) -> &[u8] {
-    if length <= bytes.len() {
-        &bytes[0..length]
-    } else {
-        bytes
-    }
+    let slots = table(arguments, size as usize);
+    node::set_up(Choices { n, k, m, lag }, slots, own)
 }
 
 fn send_into(node: Node, jobs: u8, out: &mut [u8], room: usize) -> Written {
@@ -84,8 +86,8 @@ fn counted(
 ) -> Counted {
     let node = bytes::node_of(record);
     match letter {
-        b'U' => set_up(arguments),
-        b'S' => node::slot(part(arguments, size as usize), node, *counts),
+        b'U' => set_up(arguments, size),
+        b'S' => node::slot(bytes::between(arguments, 0, size as usize), node, *counts),
         b'F' => node::with_counts(node::off(node), *counts),
         _ => node::with_counts(node::restart(node), *counts),
     }

@@ -2,15 +2,16 @@
 // failure reports, and the answers go to standard output. Numbers are lowest byte first; input that ends
 // within a command counts as followed by zeros.
 //
-//   U n k m lag own   set-up
-//   S size bytes      one slot, with these bytes heard
-//   T size jobs       sending, with this job byte, into a buffer of so many bytes, each 0xA5
-//   F                 off
-//   R                 restart
-//   L record          the record becomes this one; no answer
-//   C row job count   this count becomes that (eight bytes); rows are 0 to 31 and jobs 0 to 7, a byte
-//                     each, and any other leaves all counts; no answer
-//   K                 the counts
+//   U places n k m lag own slots   set-up, with a slot table of so many places (a byte each), 235 at the
+//                                  most
+//   S size bytes                   one slot, with these bytes heard
+//   T size jobs                    sending, with this job byte, into a buffer of so many bytes, each 0xA5
+//   F                              off
+//   R                              restart
+//   L record                       the record becomes this one; no answer
+//   C row job count                this count becomes that (eight bytes); rows are 0 to 31 and jobs 0 to
+//                                  7, a byte each, and any other leaves all counts; no answer
+//   K                              the counts
 //
 // U, S, F and R are answered by a byte, 0 or the refusal's number, and the record; T by such a byte,
 // the number of bytes written, and the whole buffer; K by all counts, 32 rows of 8, eight bytes each.
@@ -45,7 +46,7 @@ fn head(input: &mut [u8; 4096], left: Unread) -> Command {
     let letter = first.byte;
     let left = first.left;
     match letter {
-        b'S' | b'T' => {
+        b'U' | b'S' | b'T' => {
             let second = input::next(input, left);
             let left = second.left;
             Command {
@@ -62,10 +63,15 @@ fn head(input: &mut [u8; 4096], left: Unread) -> Command {
     }
 }
 
+// How many bytes the numbers of set-up and so many places take.
+fn set_up_end(places: u8) -> u8 {
+    if places <= 235 { places + 20 } else { 255 }
+}
+
 // How many bytes follow the letter and the size.
 fn body(letter: u8, size: u8) -> u8 {
     match letter {
-        b'U' => 20,
+        b'U' => set_up_end(size),
         b'S' => size,
         b'T' => 1,
         b'L' => bytes::RECORD,

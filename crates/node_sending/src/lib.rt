@@ -19,7 +19,7 @@ fn mark_bits(v: Node) -> u32
     let mut j = 0;
     while j < most {
         j += 1;
-        place = ring::nearest(cable.n, v.set, place);
+        place = ring::nearest(cable, v.set, place);
         let marked = nodeset::has(v.present, place.node);
         bits = nodeset::with_if(marked, bits, j);
     }

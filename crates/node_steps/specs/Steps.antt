@@ -147,7 +147,7 @@ nothingHeard v = eqb (size (v .cable .n) (without (v .present) (v .own))) 0
 
 -- There is a returning node, and "the sender .. is the nearest member before" it.
 abbrev pub joins : ℕ → Node → Bool
-joins s v = not (eqb (v .returning) 0) && isFound s (memberBefore (v .cable .n) (v .set) (v .returning) 1)
+joins s v = not (eqb (v .returning) 0) && isFound s (memberBefore (v .cable) (v .set) (v .returning) 1)
 
 -- The state of a node once the returning one is on the list: a knocking node, which is that one, is a member.
 abbrev pub stateOnList : State → State

@@ -72,7 +72,7 @@ fn said_of(s: u32, bits: u32, cable: Cable, set: u32) -> Said
     let mut j = 0;
     while j < most {
         j += 1;
-        place = ring::nearest(cable.n, set, place);
+        place = ring::nearest(cable, set, place);
         let bit = nodeset::has(bits, j);
         yes = nodeset::with_if(bit, yes, place.node);
         no = nodeset::with_if(!bit, no, place.node);
@@ -304,7 +304,8 @@ fn joins(s: u32, v: Node) -> bool
     if v.returning == 0 {
         return false;
     }
-    is_found(s, ring::member_before(v.cable.n, v.set, v.returning, 1))
+    let cable = v.cable;
+    is_found(s, ring::member_before(cable, v.set, v.returning, 1))
 }
 
 // The state of a node that is on the list.

@@ -7,7 +7,8 @@ use mathlib.Core.List.{List}
 use Rattle.refusal.specs.declared.Refusal.{Refusal}
 use Rattle.refusal.specs.declared.Refusal.the-variants.{PlanLine, RingSize, SponsorCount}
 use Rattle.ring.specs.Ring.{cableOf, ringSize, sponsorCount, cableFits}
-use Rattle.ring.proofs.Ranges.{fits-by}
+use Rattle.slot_table.proofs.Numbers.{plain-kept}
+use Rattle.ring.proofs.Ranges.{ring-size, fits-by}
 use Rattle.plan_line.specs.declared.Opening.{Opening}
 use Rattle.plan_line.specs.declared.Opening.the-variants as opening
 use Rattle.plan_line.specs.Words.{after, before, isNumber, valueOf}
@@ -29,7 +30,7 @@ opened line =
     if-opened (shortEnough line) PlanLine (numbersOf (before line) (after line)) (λ _.
     if-opened (isNumber (before line) && isNumber (after line)) PlanLine (ringOf n k) (λ _.
     if-opened (ringSize n) RingSize (ifOpened (sponsorCount (cableOf n k)) SponsorCount (opening.Ring n k)) (λ size.
-    if-opened (sponsorCount (cableOf n k)) SponsorCount (opening.Ring n k) (λ count. fits-by (cableOf n k) (record { ring = size; lag = refl; sponsors = count; jobs = refl })))))
+    if-opened (sponsorCount (cableOf n k)) SponsorCount (opening.Ring n k) (λ count. fits-by (cableOf n k) (record { ring = size; lag = refl; sponsors = count; jobs = refl; order = plain-kept n (ring-size n size .1) })))))
   where
     n : ℕ
     n = valueOf (before line)

@@ -25,8 +25,8 @@ use Rattle.plan_line.specs.Plan.{openingOf, lineOf}
 use Rattle.plan_line.proofs.Ranges.{RingIn, opened}
 use Rattle.plan_run.specs.declared.Act.{Act}
 use Rattle.plan_run.specs.declared.Act.the-variants as act
-use Rattle.plan_run.specs.Run.{actOf, noRows, openedBy, openedOf, ranBy, ranOf}
-use Rattle.plan_run.specs.Inner.{openingAct, orderOn, outcomeOn}
+use Rattle.plan_run.specs.Run.{actOf, choicesOf, noRows, openedBy, openedOf, ranBy, ranOf}
+use Rattle.plan_run.specs.Inner.{errandOn, openingAct, outcomeOn}
 use Rattle.plan_run.proofs.Glimpses as line
 use Rattle.plan_program.specs.declared.Plan.{Plan}
 use Rattle.plan_text.specs.Text.{nextLine}
@@ -74,7 +74,7 @@ planOf lines n rows over o = record { lines = lines; n = n; rows = rows; over = 
 
 -- what a line leaves of m rows before the others, and what there is to print of it
 abbrev left : ℕ → Rows → Act → Rows
-left m rows a = carriedFrom (orderOn a (take m rows)) 0 (take m rows) ++ drop m rows
+left m rows a = carriedFrom (errandOn a (take m rows)) 0 (take m rows) ++ drop m rows
 
 abbrev said : ℕ → Rows → Act → Outcome
 said m rows a = outcomeOn a (take m rows)
@@ -82,7 +82,7 @@ said m rows a = outcomeOn a (take m rows)
 -- of a bench with nodes, they are those of specs/Run
 on-bench : (n : ℕ) (rows : Rows) (a : Act) → length rows ≡ 32 → 1 ≤ n → line.Does n rows a → (left (sizeOf n) rows a ≡ ranBy n rows a .rows) × (said (sizeOf n) rows a ≡ ranBy n rows a .outcome)
 on-bench n rows a all some does = (
-  ap (λ (t : Table). carriedFrom (orderOn a t) 0 t ++ drop (sizeOf n) rows) (lent-table n rows all some) ∙ ap (λ (l : Rows). carriedFrom (orderOn a (tableOf n rows)) 0 (tableOf n rows) ++ l) (others n rows all some) ∙ does .0,
+  ap (λ (t : Table). carriedFrom (errandOn a t) 0 t ++ drop (sizeOf n) rows) (lent-table n rows all some) ∙ ap (λ (l : Rows). carriedFrom (errandOn a (tableOf n rows)) 0 (tableOf n rows) ++ l) (others n rows all some) ∙ does .0,
   ap (outcomeOn a) (lent-table n rows all some) ∙ does .1,
 )
 
@@ -92,7 +92,7 @@ with-both L n {rows} {rows′} {o} {o′} e = ap (λ (l : Rows). planWith L n l 
 
 -- line one
 first-is : (L : ℕ) (o : Opening) → RingIn o → planWith L (openedBy o .n) (left (sizeOf (openedBy o .n)) noRows (openingAct o)) (said (sizeOf (openedBy o .n)) noRows (openingAct o)) ≡ planOpened L (openedBy o)
-first-is L (opening.Ring n k) r = with-both L n (on-bench n noRows (openingAct (opening.Ring n k)) (length-replicate 32 noNode) (omega (arith, ring-size n (fitting (cableOf n k) r .ring))) (line.opened n noRows (cableOf n k)))
+first-is L (opening.Ring n k) r = with-both L n (on-bench n noRows (openingAct (opening.Ring n k)) (length-replicate 32 noNode) (omega (arith, ring-size n (fitting (cableOf n k) r .ring))) (line.opened n noRows (choicesOf n k)))
 first-is L (opening.Refused cause) r = with-both L 0 (line.refused 1 noRows cause)
 
 -- a later line
@@ -120,7 +120,7 @@ module _ (p : Plan) (l : List ℕ) where
 
   -- what the line leaves of the rows that it is lent, before the others, makes the plan after it
   pub line-is : (zs : List Node) (o : Outcome) → planSound p ≡ true → length (rowsFor p true) ≡ 32
-      → (zs ≡ carriedFrom (orderOn (actIn (p .lines) (p .n) (p .over) l) (take (sizeOf (sizeAfter (p .lines) (p .n) (p .over) l)) (rowsFor p true))) 0 (take (sizeOf (sizeAfter (p .lines) (p .n) (p .over) l)) (rowsFor p true)))
+      → (zs ≡ carriedFrom (errandOn (actIn (p .lines) (p .n) (p .over) l) (take (sizeOf (sizeAfter (p .lines) (p .n) (p .over) l)) (rowsFor p true))) 0 (take (sizeOf (sizeAfter (p .lines) (p .n) (p .over) l)) (rowsFor p true)))
       × (o ≡ outcomeOn (actIn (p .lines) (p .n) (p .over) l) (take (sizeOf (sizeAfter (p .lines) (p .n) (p .over) l)) (rowsFor p true)))
       → planOf (linesAfter (p .lines) (p .over)) (sizeAfter (p .lines) (p .n) (p .over) l) (zs ++ drop (sizeOf (sizeAfter (p .lines) (p .n) (p .over) l)) (rowsFor p true)) (overAfter (p .over) (outcomeAfter (p .over) o)) (outcomeAfter (p .over) o) ≡ afterLine p l
   unfolding planSound afterLine runLine

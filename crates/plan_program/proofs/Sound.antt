@@ -31,7 +31,8 @@ use Rattle.plan_line.specs.declared.Line.{Line}
 use Rattle.plan_line.specs.declared.Line.the-variants as lines
 use Rattle.plan_line.specs.Plan.{openingOf, lineOf}
 use Rattle.plan_line.proofs.Ranges.{RingIn, opened}
-use Rattle.plan_run.specs.Run.{actOf, noRows, openedBy, openedOf, ranBy, ranOf}
+use Rattle.plan_run.specs.Run.{actOf, choicesOf, noRows, openedBy, openedOf, ranBy, ranOf}
+use Rattle.plan_run.proofs.Plain.{plain-set-up}
 use Rattle.plan_program.specs.declared.Plan.{Plan}
 use Rattle.plan_text.specs.Text.{nextLine}
 use Rattle.plan_program.specs.Program.{afterLine, planOpened, planRan, quiet, runLine, runOf}
@@ -115,7 +116,9 @@ module _ (n k : ℕ) (fits : cableFits (cableOf n k) ≡ true) where
 
   pub opened-table : tableOf n (openedBy (opening.Ring n k) .rows) ≡ startOf n k
   unfolding by-value.callOf endedOf
-  opened-table = table-replaced n noRows (startOf n k) (start .length-is ∙ sym one-each)
+  opened-table =
+      ap (λ (c : Called). tableOf n (c .table ++ drop n noRows)) (plain-set-up (choicesOf n k) (tableOf n noRows))
+      ∙ table-replaced n noRows (startOf n k) (start .length-is ∙ sym one-each)
 
   start-sound : tableSound (startOf n k) ≡ true
   start-sound = placed-sound (cableOf n k) 0 (startOf n k) (omega (arith, in-ring)) start

@@ -13,7 +13,7 @@ use Rattle.bench.specs.declared.Outcome.{Outcome}
 use Rattle.bench_walks.specs.Orders.{carriedFrom}
 use Rattle.bench_by_value.specs.ByValue.{Rows}
 use Rattle.plan_run.specs.declared.Act.{Act}
-use Rattle.plan_run.specs.Inner.{orderOn, outcomeOn}
+use Rattle.plan_run.specs.Inner.{errandOn, outcomeOn}
 use Rattle.plan_text.specs.Text.{PutAt}
 use Rattle.plan_text.proofs.Paste.{both, nothing}
 use Rattle.plan_line.specs.Words.{gap}
@@ -163,13 +163,13 @@ module _ {p₀ : Plan} {x₀ input out₀ : List ℕ} {g : Going} {rows : Rows} 
 
     -- a line was carried out and told, and the next one read
     module _ (t g′ : Going) (o : Outcome) (zs : List Node) (out′ : List ℕ) (all : length rows ≡ 32) (kept : length out′ ≡ length out)
-        (did : (zs ≡ carriedFrom (orderOn (g .act) (take (sizeOf (g .size)) rows)) 0 (take (sizeOf (g .size)) rows)) × (o ≡ outcomeOn (g .act) (take (sizeOf (g .size)) rows))) (told : Told g o t out out′) (read : g′ ≡ sought input t) where
+        (did : (zs ≡ carriedFrom (errandOn (g .act) (take (sizeOf (g .size)) rows)) 0 (take (sizeOf (g .size)) rows)) × (o ≡ outcomeOn (g .act) (take (sizeOf (g .size)) rows))) (told : Told g o t out out′) (read : g′ ≡ sought input t) where
       abbrev after : Rows
       after = zs ++ drop (sizeOf (g .size)) rows
 
       plan-is : planIn after t ≡ afterLine p (keptIn input b)
       plan-is =
-          let at : Act → ℕ → Rows → Type 0 = λ a m r. (zs ≡ carriedFrom (orderOn a (take (sizeOf m) r)) 0 (take (sizeOf m) r)) × (o ≡ outcomeOn a (take (sizeOf m) r)) in
+          let at : Act → ℕ → Rows → Type 0 = λ a m r. (zs ≡ carriedFrom (errandOn a (take (sizeOf m) r)) 0 (take (sizeOf m) r)) × (o ≡ outcomeOn a (take (sizeOf m) r)) in
           let size = sizeAfter (b .lines) (b .n) (b .over) (keptIn input b) in
           let act = actIn (b .lines) (b .n) (b .over) (keptIn input b) in
           let there : at act size (rowsFor p true) = subst (at act size) rows-are (subst (λ (m : ℕ). at act m rows) size-is (subst (λ (a : Act). at a (g .size) rows) act-is did)) in

@@ -386,8 +386,9 @@ fn is_table(n: u32, rows: [Node; 32]) -> bool
     let mut ledger = [[0u64; 3]; 1];
     let mut counts = [[[0u64; 8]; 32]; 1];
     let mut pairs = [0u8; 64];
+    let slots = [0u8; 1];
     let look = Command::Look(false);
-    let ran = bench_by_value::call(&mut ledger, &mut counts, &mut pairs, rows, n, look);
+    let ran = bench_by_value::call(&mut ledger, &mut counts, &mut pairs, &slots, rows, n, look);
     let outcome = ran.outcome;
     !is_refused(outcome)
 }

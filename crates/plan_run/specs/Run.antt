@@ -2,11 +2,13 @@
 -- table; the calls are those of the bench (bench_by_value's specs/ByValue).
 use Prim.Native.Nat.{ℕ}
 use mathlib.Core.Bool.{true, false}
-use mathlib.Core.List.{List}
+use mathlib.Core.List.{List, []}
 use lib.ListN.{replicate}
 use Rattle.refusal.specs.declared.Refusal.{Refusal}
 use Rattle.node.specs.Calls.{noNode}
-use Rattle.ring.specs.Ring.{cableOf}
+use Rattle.slot_table.specs.Order.{numbersFrom}
+use Rattle.ring.specs.declared.Choices.{Choices}
+use Rattle.bench.specs.declared.Command.{Command}
 use Rattle.bench.specs.declared.Command.the-variants as command
 use Rattle.bench.specs.declared.Outcome.the-variants as outcome
 use Rattle.bench_by_value.specs.declared.Ran.{Ran}
@@ -34,9 +36,17 @@ actOf (lines.Refused cause) = act.Refuse cause
 abbrev pub refused : Rows → Refusal → Ran
 refused rows cause = record { rows = rows; outcome = outcome.Refused cause; pairs = 0 }
 
+-- The slot table that is lent with a command: to set-up "the plain table 1 to n" (document 02, k). (No other call looks at it.)
+abbrev pub slotsFor : Command → List ℕ
+slotsFor (command.SetUp choices) = numbersFrom (choices .n) 1
+slotsFor (command.Off a) = []
+slotsFor (command.Restart a) = []
+slotsFor (command.Slot lost missed jobs) = []
+slotsFor (command.Look lost) = []
+
 -- With room for all pairs.
 abbrev pub ranBy : ℕ → Rows → Act → Ran
-ranBy n rows (act.Call c) = callOf n c 64 rows
+ranBy n rows (act.Call c) = callOf n c (slotsFor c) 64 rows
 ranBy n rows (act.Refuse cause) = refused rows cause
 
 unfoldable pub ranOf : ℕ → Rows → List ℕ → Ran
@@ -50,9 +60,13 @@ noRows = replicate 32 noNode
 abbrev pub openedAs : ℕ → Ran → Opened
 openedAs n r = record { n = n; rows = r .rows; outcome = r .outcome }
 
+-- "The bench program keeps its lines, with m = 0 and later lag 0 and the plain table" (document 02, h).
+abbrev pub choicesOf : ℕ → ℕ → Choices
+choicesOf n k = record { n = n; k = k; m = 0; lag = 0 }
+
 -- "Line one: n, space, k."
 abbrev pub openedBy : Opening → Opened
-openedBy (opening.Ring n k) = openedAs n (callOf n (command.SetUp (cableOf n k)) 64 noRows)
+openedBy (opening.Ring n k) = openedAs n (callOf n (command.SetUp (choicesOf n k)) (numbersFrom n 1) 64 noRows)
 openedBy (opening.Refused cause) = openedAs 0 (refused noRows cause)
 
 unfoldable pub openedOf : List ℕ → Opened

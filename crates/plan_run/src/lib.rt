@@ -5,19 +5,22 @@ use bench::Command;
 use bench::Outcome;
 use bench_calls::Work;
 use bench_walks::Beside;
+use bench_walks::Errand;
 use bench_walks::Order;
 use bench_walks::Survey;
 use node_record::Node;
 use plan_line::Line;
 use plan_line::Opening;
 use refusal::Refusal;
+use ring::Cable;
+use ring::Choices;
 ghost use mathlib.Core.Path.{_≡_};
 ghost use Prim.Native.Nat.{_≤_};
 ghost use lib.ListN.{length};
 ghost use Rattle.bench_walks.specs.Orders.{carriedFrom};
 ghost use Rattle.plan_line.specs.Plan.{lineOf, openingOf};
 ghost use Rattle.plan_run.specs.Run.{actOf, noRows, openedOf};
-ghost use Rattle.plan_run.specs.Inner.{asked, askedBy, openingAct, orderBy, orderOn, outcomeOn, told};
+ghost use Rattle.plan_run.specs.Inner.{asked, askedBy, besideBy, besideOf, errandBy, errandOn, openingAct, orderBy, outcomeOn, plainCable, told};
 
 // What a line has the bench do.
 pub enum Act {
@@ -33,10 +36,18 @@ pub struct Opened {
     pub outcome: Outcome,
 }
 
-// Nothing is lent beside the table that could be amiss.
+// Nothing is lent beside the table that could be amiss, and no cable is asked for.
 const ALL_FIT: Beside = Beside {
     ledger: true,
     reports: true,
+    cable: Cable {
+        n: 0,
+        k: 0,
+        m: 0,
+        lag: 0,
+        order: [0; 32],
+    },
+    places: 0,
 };
 
 // Rows of no node.
@@ -73,7 +84,7 @@ pub fn first_act(line: &[u8]) -> Act
 {
     let opening = plan_line::opening_of(line);
     match opening {
-        Opening::Ring(n, k) => Act::Call(Command::SetUp(ring::cable_of(n, k))),
+        Opening::Ring(n, k) => Act::Call(Command::SetUp(Choices { n, k, m: 0, lag: 0 })),
         Opening::Refused(cause) => Act::Refuse(cause),
     }
 }
@@ -111,20 +122,74 @@ fn asked(act: Act) -> u32
     }
 }
 
-// What each record is to do, with room for all pairs. Neither ledger nor counts are kept.
-fn order_by(act: Act, s: Survey, size: usize) -> Order
-    ensures { λ r. ⌜ r ≡ orderBy act s size ⌝ }
+// The cable with these choices and the plain table.
+fn plain_cable(choices: Choices) -> Cable
+    ensures { λ r. ⌜ r ≡ plainCable choices ⌝ }
+{
+    let order = slot_table::plain(choices.n);
+    Cable {
+        n: choices.n,
+        k: choices.k,
+        m: choices.m,
+        lag: choices.lag,
+        order,
+    }
+}
+
+// What is lent beside the table: set-up is asked for with the plain table. Neither ledger nor counts are
+// kept.
+fn beside_by(command: Command) -> Beside
+    ensures { λ r. ⌜ r ≡ besideBy command ⌝ }
+{
+    match command {
+        Command::SetUp(choices) => {
+            let cable = plain_cable(choices);
+            Beside {
+                ledger: true,
+                reports: true,
+                cable,
+                places: choices.n as usize,
+            }
+        }
+        Command::Off(_) => ALL_FIT,
+        Command::Restart(_) => ALL_FIT,
+        Command::Slot(_, _, _) => ALL_FIT,
+        Command::Look(_) => ALL_FIT,
+    }
+}
+
+fn beside_of(act: Act) -> Beside
+    ensures { λ r. ⌜ r ≡ besideOf act ⌝ }
 {
     match act {
-        Act::Call(command) => bench_walks::order_of(command, s, size, 64, ALL_FIT),
+        Act::Call(command) => beside_by(command),
+        Act::Refuse(_) => ALL_FIT,
+    }
+}
+
+// What each record is to do, with room for all pairs.
+fn order_by(act: Act, s: Survey, size: usize, beside: Beside) -> Order
+    ensures { λ r. ⌜ r ≡ orderBy act s size beside ⌝ }
+{
+    match act {
+        Act::Call(command) => bench_walks::order_of(command, s, size, 64, beside),
         Act::Refuse(cause) => Order::Refuse(cause),
     }
 }
 
-// What there is to print.
-fn told(order: Order, work: Work) -> Outcome
-    ensures { λ r. ⌜ r ≡ told order work ⌝ }
+fn errand_by(act: Act, s: Survey, size: usize) -> Errand
+    ensures { λ r. ⌜ r ≡ errandBy act s size ⌝ }
 {
+    let beside = beside_of(act);
+    let order = order_by(act, s, size, beside);
+    bench_walks::sent_with(order, beside)
+}
+
+// What there is to print.
+fn told(errand: Errand, work: Work) -> Outcome
+    ensures { λ r. ⌜ r ≡ told errand work ⌝ }
+{
+    let order = errand.order;
     let reply = bench_calls::reply_of(order, work);
     reply.outcome
 }
@@ -132,12 +197,12 @@ fn told(order: Order, work: Work) -> Outcome
 // Carries a line out on a table that is taken as it is. Requires a record.
 pub fn run(table: &mut [Node], act: Act) -> Outcome
     requires { ⌜ 1 ≤ length (now table) ⌝ }
-    ensures { λ r. ⌜ (now (table .exit) ≡ carriedFrom (orderOn act (now (table .entry))) 0 (now (table .entry))) × (r ≡ outcomeOn act (now (table .entry))) ⌝ }
+    ensures { λ r. ⌜ (now (table .exit) ≡ carriedFrom (errandOn act (now (table .entry))) 0 (now (table .entry))) × (r ≡ outcomeOn act (now (table .entry))) ⌝ }
 {
     let size = table.len();
     let named = asked(act);
     let survey = bench_walks::glimpse(table, named);
-    let order = order_by(act, survey, size);
-    let work = bench_calls::carry(table, order);
-    told(order, work)
+    let errand = errand_by(act, survey, size);
+    let work = bench_calls::carry(table, errand);
+    told(errand, work)
 }

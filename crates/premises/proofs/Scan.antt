@@ -5,11 +5,15 @@ use mathlib.Core.Bool.{Bool, true, false, cond, not, _&&_, _||_}
 use mathlib.Core.List.{List, [], _∷_}
 use lib.Dec.{eqb}
 use Rattle.nodeset.specs.Sums.{num}
+use Rattle.nodeset.proofs.Tests.{by-cases, chosen, otherwise}
 use Rattle.ring.specs.declared.Cable.{Cable}
-use Rattle.bench.specs.Table.{Table, slotsOf}
-use Rattle.bench.specs.Runs.{Call, callOf, tableAfter, isSlot, Entry, newEntry, entryOn}
+use Rattle.ring.specs.Ring.{nodeNumber}
+use Rattle.bench.specs.Table.{Table, slotsOf, nodeCount, tableSound}
+use Rattle.bench.specs.Calls.{tableAfterSlot, tableAfterOff, tableAfterRestart}
+use Rattle.bench.specs.Runs.{Call, slot, off, restart, callOf, tableAfter, isSlot, Entry, newEntry, entryOn}
 use Rattle.bench.proofs.Places.{Placed}
-use Rattle.bench.proofs.Runs.{slots-next}
+use Rattle.bench.proofs.Accepted.{slotRuns, is-slot, slot-done, slot-refused, off-done, off-refused, restarts, restart-done, restart-refused, off-no-slot, restart-no-slot}
+use Rattle.bench.proofs.Runs.{slots-next, never-unsound}
 use Rattle.agreement.specs.Repeated.{callBy, ruleBefore, runBefore}
 use Rattle.agreement.proofs.Before.{before-none, before-one, before-next}
 
@@ -45,21 +49,27 @@ scanned keeps hears c s true t = record {
 }
 scanned keeps hears c s false t = record { table = t; failures = s .failures; outside = s .outside; kept = s .kept; heard = s .heard }
 
-unfoldable pub scan : (Call → Table → Table) → SlotTest → SlotTest → Table → List Call → Scan
-scan step keeps hears start [] = record { table = start; failures = []; outside = []; kept = true; heard = true }
-scan step keeps hears start (c ∷ cs) =
-    let s = scan step keeps hears start cs in
-    scanned keeps hears c s (isSlot c (s .table)) (step c (s .table))
+-- how a call goes: is it a slot that runs, and the table that it leaves
+pub record Way : Type 0 where
+  pub runs : Call → Table → Bool
+  pub leaves : Call → Table → Table
+
+unfoldable pub scan : Way → SlotTest → SlotTest → Table → List Call → Scan
+scan way keeps hears start [] = record { table = start; failures = []; outside = []; kept = true; heard = true }
+scan way keeps hears start (c ∷ cs) =
+    let s = scan way keeps hears start cs in
+    scanned keeps hears c s (way .runs c (s .table)) (way .leaves c (s .table))
 
 -- ---- and what it tells
 
 -- the tables that calls leave, one by one, and how many slots they count
 pub record Run : Type 0 where
-  pub step : Call → Table → Table
+  pub way : Way
   pub start : Table
   pub run : List Call → Table
   pub first : run [] ≡ start
-  pub then : (c : Call) (cs : List Call) → run (c ∷ cs) ≡ step c (run cs)
+  pub then : (c : Call) (cs : List Call) → run (c ∷ cs) ≡ way .leaves c (run cs)
+  pub slots : (c : Call) (cs : List Call) → way .runs c (run cs) ≡ isSlot c (run cs)
   pub next : (c : Call) (cs : List Call) → slotsOf (run (c ∷ cs)) ≡ slotsOf (run cs) + num (isSlot c (run cs))
 
 -- a test at each slot of a run
@@ -84,7 +94,7 @@ and-true true = refl
 and-true false = refl
 
 module _ (keeps hears : SlotTest) (R : Run) (c : Call) (cs : List Call) (s : Scan) (r : Right keeps hears (R .run) cs s) where
-  open Run R using (step, run, then)
+  open Run R using (way, run, then)
 
   abbrev T : Table
   T = run cs
@@ -92,8 +102,11 @@ module _ (keeps hears : SlotTest) (R : Run) (c : Call) (cs : List Call) (s : Sca
   abbrev is-next : ℕ → Bool
   is-next u = eqb u (slotsOf T + 1)
 
-  same-slot : (b : Bool) → isSlot c (s .table) ≡ b → b ≡ isSlot c T
-  same-slot b e = sym e ∙ ap (isSlot c) (r .table-is)
+  abbrev step : Call → Table → Table
+  step = way .leaves
+
+  same-slot : (b : Bool) → way .runs c (s .table) ≡ b → b ≡ isSlot c T
+  same-slot b e = sym e ∙ ap (way .runs c) (r .table-is) ∙ R .slots c cs
 
   -- the notes of a slot
   note : (f : Entry → ℕ) (notes : Notes) → ((u : ℕ) → noted notes u ≡ f (entryOn run cs u)) → true ≡ isSlot c T → (u : ℕ)
@@ -122,7 +135,7 @@ module _ (keeps hears : SlotTest) (R : Run) (c : Call) (cs : List Call) (s : Sca
   unfolding atSlots
   untested f b h e = h ∙ and-true (atSlots f run cs) ∙ ap (λ (x : Bool). atSlots f run cs && (not x || f c T (run (c ∷ cs)))) e
 
-  next-right : (b : Bool) → isSlot c (s .table) ≡ b → Right keeps hears run (c ∷ cs) (scanned keeps hears c s b (step c (s .table)))
+  next-right : (b : Bool) → way .runs c (s .table) ≡ b → Right keeps hears run (c ∷ cs) (scanned keeps hears c s b (step c (s .table)))
   next-right true e =
       let z = same-slot true e in
       record {
@@ -142,12 +155,12 @@ module _ (keeps hears : SlotTest) (R : Run) (c : Call) (cs : List Call) (s : Sca
         heard-is = untested hears (s .heard) (r .heard-is) z;
       }
 
-pub scan-right : (keeps hears : SlotTest) (R : Run) (cs : List Call) → Right keeps hears (R .run) cs (scan (R .step) keeps hears (R .start) cs)
+pub scan-right : (keeps hears : SlotTest) (R : Run) (cs : List Call) → Right keeps hears (R .run) cs (scan (R .way) keeps hears (R .start) cs)
 unfolding scan noted entryOn atSlots
 scan-right keeps hears R [] = record { table-is = sym (R .first); failures-are = λ u. refl; outside-are = λ u. refl; kept-is = refl; heard-is = refl }
 scan-right keeps hears R (c ∷ cs) =
-    let s = scan (R .step) keeps hears (R .start) cs in
-    next-right keeps hears R c cs s (scan-right keeps hears R cs) (isSlot c (s .table)) refl
+    let s = scan (R .way) keeps hears (R .start) cs in
+    next-right keeps hears R c cs s (scan-right keeps hears R cs) (R .way .runs c (s .table)) refl
 
 -- ---- the runs
 
@@ -159,13 +172,50 @@ pub after-one : (start : Table) (c : Call) (cs : List Call) → tableAfter start
 unfolding tableAfter
 after-one start c cs = refl
 
--- of the calls as they are
-abbrev pub called : Call → Table → Table
-called c t = callOf c t .table
+-- a call on a table that is sound: its other tests, and what it leaves
+abbrev pub called : Way
+called = record { runs = runs; leaves = leaves }
+  where
+    runs : Call → Table → Bool
+    runs (slot lost missed room) t = slotRuns missed room t
+    runs (off a) t = false
+    runs (restart a) t = false
 
+    leaves : Call → Table → Table
+    leaves (slot lost missed room) t = cond (slotRuns missed room t) (tableAfterSlot lost missed t) t
+    leaves (off a) t = cond (nodeNumber (nodeCount t) a) (tableAfterOff a t) t
+    leaves (restart a) t = cond (restarts a t) (tableAfterRestart a t) t
+
+pub called-runs : (c : Call) (t : Table) → tableSound t ≡ true → called .runs c t ≡ isSlot c t
+called-runs (slot lost missed room) t e = sym (is-slot lost missed room t e)
+called-runs (off a) t e = sym (off-no-slot a t)
+called-runs (restart a) t e = sym (restart-no-slot a t)
+
+pub called-leaves : (c : Call) (t : Table) → tableSound t ≡ true → callOf c t .table ≡ called .leaves c t
+called-leaves (slot lost missed room) t e =
+    by-cases (slotRuns missed room t)
+    (λ p. slot-done lost missed room t (is-slot lost missed room t e ∙ p) ∙ sym (chosen _ _ p))
+    (λ p. slot-refused lost missed room t (is-slot lost missed room t e ∙ p) ∙ sym (otherwise _ _ p))
+called-leaves (off a) t e =
+    by-cases (nodeNumber (nodeCount t) a) (λ p. off-done a t e p ∙ sym (chosen _ _ p)) (λ p. off-refused a t e p ∙ sym (otherwise _ _ p))
+called-leaves (restart a) t e =
+    by-cases (restarts a t) (λ p. restart-done a t e p ∙ sym (chosen _ _ p)) (λ p. restart-refused a t e p ∙ sym (otherwise _ _ p))
+
+-- of the calls as they are: no table of theirs is unsound
 abbrev pub calls : (cable : Cable) → 1 ≤ cable .n → (start : Table) → Placed cable 0 start → Run
-calls cable pos start begins = record { step = called; start = start; run = tableAfter start; first = after-none start; then = after-one start; next = slots-next cable pos start begins }
+calls cable pos start begins = record {
+  way = called;
+  start = start;
+  run = tableAfter start;
+  first = after-none start;
+  then = λ c cs. after-one start c cs ∙ called-leaves c (tableAfter start cs) (never-unsound cable pos start begins cs);
+  slots = λ c cs. called-runs c (tableAfter start cs) (never-unsound cable pos start begins cs);
+  next = slots-next cable pos start begins;
+}
 
 -- and of the rule before request f
+abbrev pub calledBefore : Way
+calledBefore = record { runs = isSlot; leaves = callBy ruleBefore }
+
 abbrev pub calls-before : Table → Run
-calls-before start = record { step = callBy ruleBefore; start = start; run = runBefore start; first = before-none start; then = before-one start; next = before-next start }
+calls-before start = record { way = calledBefore; start = start; run = runBefore start; first = before-none start; then = before-one start; slots = λ c cs. refl; next = before-next start }

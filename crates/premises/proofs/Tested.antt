@@ -1,7 +1,7 @@
 -- Each premise of demand 3 as a test of a run: it holds exactly where the test does. Assumes nothing.
 use Prim.Native.Nat.{ℕ, zero, suc, _+_, _-_, _≤_, _<_}
 use mathlib.Core.Path.{_≡_, refl, sym, ap, _∙_}
-use mathlib.Core.Bool.{Bool, true, false, not, _&&_, _||_, true≢false}
+use mathlib.Core.Bool.{Bool, true, false, cond, not, _&&_, _||_, true≢false}
 use mathlib.Core.List.{List, [], _∷_}
 use native.Mathlib.Omega.{arith}
 use native.Mathlib.Decide.{ℕ-discrete, decLe}
@@ -13,16 +13,17 @@ use Rattle.nodeset.specs.Sets.{has, size}
 use Rattle.nodeset.proofs.Sums.{sum-same, sum-zero}
 use Rattle.nodeset.proofs.Tests.{by-cases, both, all, or-left, or-right, or-else}
 use Rattle.ring.specs.declared.Cable.{Cable}
+use Rattle.ring.specs.Ring.{sender}
 use Rattle.node_record.specs.declared.Node.{Node}
 use Rattle.node_record.specs.States.{isMember, isOut}
 use Rattle.bench.specs.Table.{Table, recordOf, slotsOf, speaker}
 use Rattle.bench.specs.Calls.{transmits}
 use Rattle.bench.specs.Runs.{Call, slot, off, restart, tableAfter, isSlot, listOf, Entry, noEntry, entryOn}
-use Rattle.agreement.specs.Demand.{AtEach, AllHear, KeepsListOn, HearEverythingOn}
+use Rattle.agreement.specs.Demand.{AtEach, AllHear, KeepsListOn, HearEverythingOn, memberAfter, isDeciding, decidingRan}
 use Rattle.bench.proofs.Places.{Placed}
 use Rattle.agreement.proofs.Beginnings.{on-later}
 use Rattle.premises.specs.Needed.{Premise, few-failures, one-outside, list-kept, all-heard, HoldsOn, Holds}
-use Rattle.premises.proofs.Scan.{Notes, noted, Scan, SlotTest, scan, Run, atSlots, Right, scan-right, called, calls}
+use Rattle.premises.proofs.Scan.{Notes, noted, Scan, Way, SlotTest, scan, Run, atSlots, Right, scan-right, called, calls}
 
 -- ---- the lags, and tables that are lent
 
@@ -30,6 +31,18 @@ pub each-lag : (P : ℕ → Type 0) → P 0 → P 1 → (lag : ℕ) → lag ≤ 
 each-lag P none one zero h = none
 each-lag P none one (suc zero) h = one
 each-lag P none one (suc (suc lag)) h = let z : ⊥ = omega arith in absurd z
+
+-- The plain slot table of n places, n from 3 to 6, written out: `plain n` would be made anew at each place that a run asks about.
+abbrev pub inOrder : ℕ → List ℕ
+inOrder n =
+    1 ∷ 2 ∷ 3 ∷ upTo 4 ∷ upTo 5 ∷ upTo 6
+    ∷ 0 ∷ 0 ∷ 0 ∷ 0 ∷ 0 ∷ 0 ∷ 0 ∷ 0 ∷ 0 ∷ 0 ∷ 0 ∷ 0 ∷ 0 ∷ 0 ∷ 0 ∷ 0 ∷ 0 ∷ 0 ∷ 0 ∷ 0 ∷ 0 ∷ 0 ∷ 0 ∷ 0 ∷ 0 ∷ 0 ∷ []
+  where
+    upTo : ℕ → ℕ
+    upTo p = cond (leb p n) p 0
+
+abbrev pub cableIn : ℕ → ℕ → ℕ → Cable
+cableIn n k lag = record { n = n; k = k; m = 0; lag = lag; order = inOrder n }
 
 -- m records, whatever they are
 unfoldable pub records : (ℕ → Node) → ℕ → Table
@@ -90,11 +103,18 @@ testOf one-outside cable s = fewIn (noted (s .outside)) (cable .n) 1 (slotsOf (s
 testOf list-kept cable s = s .kept
 testOf all-heard cable s = s .heard
 
-abbrev pub scanBy : (Call → Table → Table) → Cable → Table → List Call → Scan
-scanBy step cable start cs = scan step (keepsIn cable) (hearIn (cable .n)) start cs
+abbrev pub scanBy : Way → Cable → Table → List Call → Scan
+scanBy way cable start cs = scan way (keepsIn cable) (hearIn (cable .n)) start cs
 
-abbrev pub testBy : (Call → Table → Table) → Premise → Cable → Table → List Call → Bool
-testBy step p cable start cs = testOf p cable (scanBy step cable start cs)
+-- "Its deciding slot" has been, for slot s (agreement's specs/Demand)
+abbrev undecided : Cable → ℕ → SlotTest
+undecided cable s c t u = not (leb s (slotsOf t) && eqb (memberAfter cable (listOf t) (sender cable s) (cable .k + cable .lag)) (speaker t))
+
+abbrev pub decidedIn : Cable → Table → ℕ → List Call → Bool
+decidedIn cable start s cs = not (scan called (undecided cable s) (hearIn (cable .n)) start cs .kept)
+
+abbrev pub testBy : Way → Premise → Cable → Table → List Call → Bool
+testBy way p cable start cs = testOf p cable (scanBy way cable start cs)
 
 abbrev pub test : Premise → Cable → Table → List Call → Bool
 test p cable start cs = testBy called p cable start cs
@@ -225,7 +245,7 @@ module _ (cable : Cable) (R : Run) (cs : List Call) where
   open Run R using (run)
 
   abbrev S : Scan
-  S = scan (R .step) (keepsIn cable) (hearIn n) (R .start) cs
+  S = scan (R .way) (keepsIn cable) (hearIn n) (R .start) cs
 
   right : Right (keepsIn cable) (hearIn n) run cs S
   right = scan-right (keepsIn cable) (hearIn n) R cs
@@ -247,19 +267,34 @@ module _ (cable : Cable) (R : Run) (cs : List Call) where
   pub table-scanned : S .table ≡ run cs
   table-scanned = right .table-is
 
-  pub by-test-on : (p : Premise) → testBy (R .step) p cable (R .start) cs ≡ true → HoldsOn p cable run cs
+  pub by-test-on : (p : Premise) → testBy (R .way) p cable (R .start) cs ≡ true → HoldsOn p cable run cs
   unfolding KeepsListOn HearEverythingOn
   by-test-on few-failures e = few-by (λ x. x .failures) refl (S .failures) (right .failures-are) (k - 1) e
   by-test-on one-outside e = few-by (λ x. num (x .outside)) refl (S .outside) (right .outside-are) 1 e
   by-test-on list-kept e = each-sound (KeepsListOn cable run) (keepsIn cable) run (λ c ds h s. keeps-sound cable (run ds) (run (c ∷ ds)) c (h s)) cs (sym (right .kept-is) ∙ e)
   by-test-on all-heard e = each-sound (HearEverythingOn cable run) (hearIn n) run (λ c ds h s. hear-sound n c (run ds) (run (c ∷ ds)) (h s)) cs (sym (right .heard-is) ∙ e)
 
-  tested : (p : Premise) → HoldsOn p cable run cs → testBy (R .step) p cable (R .start) cs ≡ true
+  tested : (p : Premise) → HoldsOn p cable run cs → testBy (R .way) p cable (R .start) cs ≡ true
   unfolding KeepsListOn HearEverythingOn
   tested few-failures h = few-tested (λ x. x .failures) refl (S .failures) (right .failures-are) (k - 1) h
   tested one-outside h = few-tested (λ x. num (x .outside)) refl (S .outside) (right .outside-are) 1 h
   tested list-kept h = right .kept-is ∙ each-complete (KeepsListOn cable run) (keepsIn cable) run (λ c ds x s. keeps-complete cable (run ds) (run (c ∷ ds)) c (x s)) cs h
   tested all-heard h = right .heard-is ∙ each-complete (HearEverythingOn cable run) (hearIn n) run (λ c ds x s. hear-complete n c (run ds) (run (c ∷ ds)) (x s)) cs h
+
+-- ---- the deciding slot
+
+or-not : (a a′ b c : Bool) → a ≡ not a′ → (a || (b && c)) ≡ not (a′ && (not b || not c))
+or-not a true false c e = ap (λ (x : Bool). x || false) e
+or-not a true true false e = ap (λ (x : Bool). x || false) e
+or-not a true true true e = ap (λ (x : Bool). x || true) e
+or-not a false b c e = ap (λ (x : Bool). x || (b && c)) e
+
+decided-slots : (cable : Cable) (start : Table) (s : ℕ) (cs : List Call) → decidingRan cable start s cs ≡ not (atSlots (undecided cable s) (tableAfter start) cs)
+unfolding decidingRan isDeciding atSlots
+decided-slots cable start s [] = refl
+decided-slots cable start s (c ∷ cs) =
+    let t = tableAfter start cs in
+    or-not (decidingRan cable start s cs) (atSlots (undecided cable s) (tableAfter start) cs) (isSlot c t) (leb s (slotsOf t) && eqb (memberAfter cable (listOf t) (sender cable s) (cable .k + cable .lag)) (speaker t)) (decided-slots cable start s cs)
 
 -- of the calls as they are
 module _ (cable : Cable) (pos : 1 ≤ cable .n) (start : Table) (begins : Placed cable 0 start) (cs : List Call) where
@@ -271,3 +306,6 @@ module _ (cable : Cable) (pos : 1 ≤ cable .n) (start : Table) (begins : Placed
 
   pub by-failed-test : (p : Premise) → test p cable start cs ≡ false → Holds p cable start cs → ⊥
   by-failed-test p e h = true≢false (sym (tested cable (calls cable pos start begins) cs p h) ∙ e)
+
+  pub decided-right : (s : ℕ) → decidingRan cable start s cs ≡ decidedIn cable start s cs
+  decided-right s = decided-slots cable start s cs ∙ ap not (sym (scan-right (undecided cable s) (hearIn (cable .n)) (calls cable pos start begins) cs .kept-is))

@@ -15,13 +15,13 @@ misses a = slot false (with 0 a) 64
 abbrev pub bothMiss : ℕ → ℕ → Call
 bothMiss a b = slot false (with (with 0 a) b) 64
 
--- `5 2` and `5 2 1`: the message of node 2 in slot 2 is lost, and it leaves in slot 4, with lag 1 in slot 5.
+-- `5 2` and `5 2 1`: the message of the second node, which is node 2 with the plain slot table, is lost in slot 2, and it leaves in slot 4, with lag 1 in slot 5.
 abbrev pub departure : ℕ → List Call
 departure lag = ok ∷ lost ∷ replicate (2 + lag) ok
 
--- It is restarted, follows after slot 14 (15), knocks in slot 17 and joins in slot 21.
-abbrev pub return : ℕ → List Call
-return lag = departure lag ++ (restart 2 ∷ replicate (17 - lag) ok)
+-- It, node x, is restarted, follows after slot 14 (15), knocks in slot 17 and joins in slot 21.
+abbrev pub return : ℕ → ℕ → List Call
+return x lag = departure lag ++ (restart x ∷ replicate (17 - lag) ok)
 
 -- `4 2` and `5 2 1`: 2 failures in n slots. Both sponsors of node 1, nodes 2 and 3 (3 and 4), miss its message; in slot 3 (4) node 1 leaves, its sponsors hold the others, and node 4 (2 and 5) all.
 abbrev pub twoMiss : ℕ → List Call

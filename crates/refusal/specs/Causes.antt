@@ -3,7 +3,7 @@ use Prim.Native.Nat.{ℕ}
 use mathlib.Core.Bool.{cond}
 use lib.Dec.{eqb}
 use Rattle.refusal.specs.declared.Refusal.{Refusal}
-use Rattle.refusal.specs.declared.Refusal.the-variants.{RingSize, SponsorCount, NodeNumber, Unsound, SlotLimit, MessageLength, SectionCount, SpareBit, OutputShort, NotItsSlot, NotOut, PlanLine, LedgerUnfit, JobCount, HasJobs, Lag}
+use Rattle.refusal.specs.declared.Refusal.the-variants.{RingSize, SponsorCount, NodeNumber, Unsound, SlotLimit, MessageLength, SectionCount, SpareBit, OutputShort, NotItsSlot, NotOut, PlanLine, LedgerUnfit, JobCount, HasJobs, Lag, TableLength, TableNodes}
 
 abbrev pub numberOf : Refusal → ℕ
 -- "n not 3 to 32"
@@ -38,6 +38,10 @@ numberOf JobCount = 14
 numberOf HasJobs = 15
 -- "Lag above 1" (request j)
 numberOf Lag = 16
+-- "Table of the wrong length" (request k)
+numberOf TableLength = 17
+-- "A node missing or doubled" (request k)
+numberOf TableNodes = 18
 
 -- The cause with this number, so that a definition can name a refusal as document 01 does. (proofs/Numbers: its number is this one. No
 -- definition asks for a number that is none.)
@@ -57,4 +61,6 @@ cause number =
     (cond (eqb number 12) PlanLine
     (cond (eqb number 13) LedgerUnfit
     (cond (eqb number 14) JobCount
-    (cond (eqb number 15) HasJobs Lag))))))))))))))
+    (cond (eqb number 15) HasJobs
+    (cond (eqb number 16) Lag
+    (cond (eqb number 17) TableLength TableNodes))))))))))))))))

@@ -20,6 +20,8 @@ pub enum Refusal {
     JobCount,
     HasJobs,
     Lag,
+    TableLength,
+    TableNodes,
 }
 
 // The number of the cause.
@@ -43,5 +45,7 @@ pub fn number(cause: Refusal) -> u32
         Refusal::JobCount => 14,
         Refusal::HasJobs => 15,
         Refusal::Lag => 16,
+        Refusal::TableLength => 17,
+        Refusal::TableNodes => 18,
     }
 }

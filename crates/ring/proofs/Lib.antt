@@ -7,3 +7,5 @@ pub mod Members
 pub mod Places
 pub mod Tested
 pub mod Distances
+pub mod Alike
+pub mod AsBefore

@@ -2,9 +2,10 @@
 use Prim.Native.Nat.{ℕ, _+_, _-_, _≤_}
 use mathlib.Core.Path.{_≡_}
 use mathlib.Core.Bool.{Bool, true, false, cond, _&&_}
-use lib.Dec.{leb}
+use lib.Dec.{eqb, leb}
 use borrow.Author.Tests.{leb-true}
 use Rattle.nodeset.proofs.Tests.{both, all}
+use Rattle.slot_table.specs.Order.{isKept}
 use Rattle.ring.specs.declared.Cable.{Cable}
 use Rattle.ring.specs.Ring.{ringSize, nodeNumber, lagFits, sponsorCount, jobCount, cableFits}
 use Rattle.ring.specs.Answers.{faultOf}
@@ -29,21 +30,24 @@ pub record Fits (cable : Cable) : Type 0 where
   pub lag : lagFits (cable .lag) ≡ true
   pub sponsors : sponsorCount cable ≡ true
   pub jobs : jobCount (cable .m) ≡ true
+  pub order : isKept (cable .n) (cable .order) ≡ true
 
 pub fitting : (cable : Cable) → cableFits cable ≡ true → Fits cable
 fitting cable e =
-    let t = both (ringSize (cable .n)) (lagFits (cable .lag) && (sponsorCount cable && jobCount (cable .m))) e in
-    let s = both (lagFits (cable .lag)) (sponsorCount cable && jobCount (cable .m)) (t .1) in
-    let u = both (sponsorCount cable) (jobCount (cable .m)) (s .1) in
-    record { ring = t .0; lag = s .0; sponsors = u .0; jobs = u .1 }
+    let t = both (ringSize (cable .n)) (lagFits (cable .lag) && (sponsorCount cable && (jobCount (cable .m) && isKept (cable .n) (cable .order)))) e in
+    let s = both (lagFits (cable .lag)) (sponsorCount cable && (jobCount (cable .m) && isKept (cable .n) (cable .order))) (t .1) in
+    let u = both (sponsorCount cable) (jobCount (cable .m) && isKept (cable .n) (cable .order)) (s .1) in
+    let w = both (jobCount (cable .m)) (isKept (cable .n) (cable .order)) (u .1) in
+    record { ring = t .0; lag = s .0; sponsors = u .0; jobs = w .0; order = w .1 }
 
 pub fits-by : (cable : Cable) → Fits cable → cableFits cable ≡ true
-fits-by cable f = all (f .ring) (all (f .lag) (all (f .sponsors) (f .jobs)))
+fits-by cable f = all (f .ring) (all (f .lag) (all (f .sponsors) (all (f .jobs) (f .order))))
 
--- what holds of each number by which choices are refused holds of this one
-pub fault-by : (P : ℕ → Type 0) (cable : Cable) → P 1 → P 16 → P 2 → P 14 → P (faultOf cable)
-fault-by P cable size lag count jobs =
-    either (ringSize (cable .n)) (either (lagFits (cable .lag)) (either (sponsorCount cable) jobs count) lag) size
+-- what holds of each number by which set-up is refused holds of this one
+pub fault-by : (P : ℕ → Type 0) (cable : Cable) (places : ℕ) → P 1 → P 16 → P 2 → P 14 → P 17 → P 18 → P (faultOf cable places)
+fault-by P cable places size lag count jobs long table =
+    either (ringSize (cable .n))
+    (either (lagFits (cable .lag)) (either (sponsorCount cable) (either (jobCount (cable .m)) (either (eqb places (cable .n)) table long) jobs) count) lag) size
   where
     either : (b : Bool) {x y : ℕ} → P x → P y → P (cond b x y)
     either true p q = p

@@ -13,33 +13,38 @@ use Rattle.nodeset.specs.Sets.{has, size}
 use Rattle.nodeset.proofs.Tests.{by-cases}
 use Rattle.nodeset.proofs.Sums.{sum-none, sum-next, sum-at, sum-split, one-place}
 use Rattle.ring.specs.declared.Found.the-variants.{Member, Nobody}
-use Rattle.ring.specs.Ring.{sender, previous, walk, memberBefore}
-use Rattle.ring.proofs.Senders.{previous-sender, sender-once, size-round}
+use Rattle.slot_table.specs.Order.{nodeAt, place}
+use Rattle.ring.specs.declared.Cable.{Cable}
+use Rattle.ring.specs.Ring.{turn, sender, previous, walk, memberBefore}
+use Rattle.ring.proofs.Senders.{Turns, previous-turn, sender-once, size-round}
 
 -- ---- one slot of the walk, by what stands there
 
-pub walk-nobody : (n set x j : ℕ) → walk 0 n set x j ≡ Nobody
+pub walk-nobody : (cable : Cable) (set p j : ℕ) → walk 0 cable set p j ≡ Nobody
 unfolding walk
-walk-nobody n set x j = refl
+walk-nobody cable set p j = refl
 
-pub walk-past : (left n set x j : ℕ) → has set (previous n x) ≡ false → walk (suc left) n set x j ≡ walk left n set (previous n x) j
+pub walk-past : (left : ℕ) (cable : Cable) (set p j : ℕ) → has set (nodeAt (cable .order) (previous (cable .n) p)) ≡ false → walk (suc left) cable set p j ≡ walk left cable set (previous (cable .n) p) j
 unfolding walk
-walk-past left n set x j e = let z : j - 0 ≡ j = omega arith in rw (e, z) refl
+walk-past left cable set p j e = let z : j - 0 ≡ j = omega arith in rw (e, z) refl
 
-pub walk-here : (left n set x : ℕ) → has set (previous n x) ≡ true → walk (suc left) n set x 1 ≡ Member (previous n x) (n - suc left)
+pub walk-here : (left : ℕ) (cable : Cable) (set p : ℕ) → has set (nodeAt (cable .order) (previous (cable .n) p)) ≡ true → walk (suc left) cable set p 1 ≡ Member (nodeAt (cable .order) (previous (cable .n) p)) (cable .n - suc left)
 unfolding walk
-walk-here left n set x e = rw e refl
+walk-here left cable set p e = rw e refl
 
-pub walk-on : (left n set x j : ℕ) → j ≢ 1 → has set (previous n x) ≡ true → walk (suc left) n set x j ≡ walk left n set (previous n x) (j - 1)
+pub walk-on : (left : ℕ) (cable : Cable) (set p j : ℕ) → j ≢ 1 → has set (nodeAt (cable .order) (previous (cable .n) p)) ≡ true → walk (suc left) cable set p j ≡ walk left cable set (previous (cable .n) p) (j - 1)
 unfolding walk
-walk-on left n set x j h e = rw (e, ne-eqb j 1 h) refl
+walk-on left cable set p j h e = rw (e, ne-eqb j 1 h) refl
 
 -- ---- the walk over slots in a row
 
-module _ (n : ℕ) (pos : 1 ≤ n) (set : ℕ) where
+module _ (cable : Cable) (turns : Turns cable) (set : ℕ) where
+  open Cable cable using (n, order)
+  open Turns turns using (some)
+
   -- is the sender of slot q a member: 1 or 0
   abbrev pub member : ℕ → ℕ
-  member q = num (has set (sender n q))
+  member q = num (has set (sender cable q))
 
   -- The j-th member met on the walk from slot a + left back to slot a: it speaks in slot u, and with it there are j members in the slots from u on.
   pub record Met (left a j : ℕ) : Type 0 where
@@ -48,28 +53,31 @@ module _ (n : ℕ) (pos : 1 ≤ n) (set : ℕ) where
     pub from : a ≤ u
     pub upto : u + e ≡ a + left
     pub back : 1 ≤ e
-    pub listed : has set (sender n u) ≡ true
+    pub listed : has set (sender cable u) ≡ true
     pub count : sum member u e ≡ j
-    pub found : walk left n set (sender n (a + left)) j ≡ Member (sender n u) (n - suc (u - a))
+    pub found : walk left cable set (turn n (a + left)) j ≡ Member (sender cable u) (n - suc (u - a))
 
   -- the walk from slot p, one slot back at q
-  step-past : (l q j p : ℕ) → 1 ≤ q → p ≡ suc q → has set (sender n q) ≡ false → walk (suc l) n set (sender n p) j ≡ walk l n set (sender n q) j
+  step-past : (l q j p : ℕ) → 1 ≤ q → p ≡ suc q → has set (sender cable q) ≡ false → walk (suc l) cable set (turn n p) j ≡ walk l cable set (turn n q) j
+  unfolding sender
   step-past l q j p h e f =
-      let b : previous n (sender n p) ≡ sender n q = ap (λ (y : ℕ). previous n (sender n y)) e ∙ previous-sender n pos q h in
-      walk-past l n set (sender n p) j (ap (has set) b ∙ f) ∙ ap (λ (y : ℕ). walk l n set y j) b
+      let b : previous n (turn n p) ≡ turn n q = ap (λ (y : ℕ). previous n (turn n y)) e ∙ previous-turn n some q h in
+      walk-past l cable set (turn n p) j (ap (λ (y : ℕ). has set (nodeAt order y)) b ∙ f) ∙ ap (λ (y : ℕ). walk l cable set y j) b
 
-  step-here : (l q p : ℕ) → 1 ≤ q → p ≡ suc q → has set (sender n q) ≡ true → walk (suc l) n set (sender n p) 1 ≡ Member (sender n q) (n - suc l)
+  step-here : (l q p : ℕ) → 1 ≤ q → p ≡ suc q → has set (sender cable q) ≡ true → walk (suc l) cable set (turn n p) 1 ≡ Member (sender cable q) (n - suc l)
+  unfolding sender
   step-here l q p h e f =
-      let b : previous n (sender n p) ≡ sender n q = ap (λ (y : ℕ). previous n (sender n y)) e ∙ previous-sender n pos q h in
-      walk-here l n set (sender n p) (ap (has set) b ∙ f) ∙ ap (λ (y : ℕ). Member y (n - suc l)) b
+      let b : previous n (turn n p) ≡ turn n q = ap (λ (y : ℕ). previous n (turn n y)) e ∙ previous-turn n some q h in
+      walk-here l cable set (turn n p) (ap (λ (y : ℕ). has set (nodeAt order y)) b ∙ f) ∙ ap (λ (y : ℕ). Member (nodeAt order y) (n - suc l)) b
 
-  step-on : (l q j p : ℕ) → 1 ≤ q → 2 ≤ j → p ≡ suc q → has set (sender n q) ≡ true → walk (suc l) n set (sender n p) j ≡ walk l n set (sender n q) (j - 1)
+  step-on : (l q j p : ℕ) → 1 ≤ q → 2 ≤ j → p ≡ suc q → has set (sender cable q) ≡ true → walk (suc l) cable set (turn n p) j ≡ walk l cable set (turn n q) (j - 1)
+  unfolding sender
   step-on l q j p h i e f =
-      let b : previous n (sender n p) ≡ sender n q = ap (λ (y : ℕ). previous n (sender n y)) e ∙ previous-sender n pos q h in
-      walk-on l n set (sender n p) j (λ q. omega arith) (ap (has set) b ∙ f) ∙ ap (λ (y : ℕ). walk l n set y (j - 1)) b
+      let b : previous n (turn n p) ≡ turn n q = ap (λ (y : ℕ). previous n (turn n y)) e ∙ previous-turn n some q h in
+      walk-on l cable set (turn n p) j (λ q. omega arith) (ap (λ (y : ℕ). has set (nodeAt order y)) b ∙ f) ∙ ap (λ (y : ℕ). walk l cable set y (j - 1)) b
 
   -- the member just before is the first that is met
-  nearest : (l a : ℕ) → 1 ≤ a → has set (sender n (a + l)) ≡ true → Met (suc l) a 1
+  nearest : (l a : ℕ) → 1 ≤ a → has set (sender cable (a + l)) ≡ true → Met (suc l) a 1
   nearest l a h e = record {
     u = a + l;
     e = 1;
@@ -80,11 +88,11 @@ module _ (n : ℕ) (pos : 1 ≤ n) (set : ℕ) where
     count = omega (arith, sum-next member (a + l) 0, sum-none member (a + l), ap num e, ap member (add-zero (a + l)));
     found =
         let z : l ≡ a + l - a = omega arith in
-        step-here l (a + l) (a + suc l) (omega arith) (omega arith) e ∙ ap (λ (y : ℕ). Member (sender n (a + l)) (n - suc y)) z;
+        step-here l (a + l) (a + suc l) (omega arith) (omega arith) e ∙ ap (λ (y : ℕ). Member (sender cable (a + l)) (n - suc y)) z;
   }
 
   -- the j-th member of the rest of the walk, after i members in the slot just before
-  later : (l a i j t : ℕ) → member (a + l) ≡ i → t ≡ i + j → walk (suc l) n set (sender n (a + suc l)) t ≡ walk l n set (sender n (a + l)) j → Met l a j → Met (suc l) a t
+  later : (l a i j t : ℕ) → member (a + l) ≡ i → t ≡ i + j → walk (suc l) cable set (turn n (a + suc l)) t ≡ walk l cable set (turn n (a + l)) j → Met l a j → Met (suc l) a t
   later l a i j t z y w m = record {
     u = m .u;
     e = suc (m .e);
@@ -101,17 +109,17 @@ module _ (n : ℕ) (pos : 1 ≤ n) (set : ℕ) where
   walk-meets zero a j h i l = let z : ⊥ = omega (arith, sum-none member a) in absurd z
   walk-meets (suc l) a zero h i le = absurd (elim i [ ])
   walk-meets (suc l) a (suc zero) h i le =
-      by-cases (has set (sender n (a + l)))
+      by-cases (has set (sender cable (a + l)))
       (λ e. nearest l a h e)
       (λ e.
       later l a 0 1 1 (ap num e) refl (step-past l (a + l) 1 (a + suc l) (omega arith) (omega arith) e)
       (walk-meets l a 1 h i (omega (arith, sum-next member a l, ap num e))))
   walk-meets (suc l) a (suc (suc j)) h i le =
-      by-cases (has set (sender n (a + l)))
+      by-cases (has set (sender cable (a + l)))
       (λ e.
       let z : suc (suc j) - 1 ≡ suc j = omega arith in
       later l a 1 (suc j) (suc (suc j)) (ap num e) (omega arith)
-      (step-on l (a + l) (suc (suc j)) (a + suc l) (omega arith) (omega arith) (omega arith) e ∙ ap (walk l n set (sender n (a + l))) z)
+      (step-on l (a + l) (suc (suc j)) (a + suc l) (omega arith) (omega arith) (omega arith) e ∙ ap (walk l cable set (turn n (a + l))) z)
       (walk-meets l a (suc j) h (omega arith) (omega (arith, sum-next member a l, ap num e))))
       (λ e.
       later l a 0 (suc (suc j)) (suc (suc j)) (ap num e) (omega arith)
@@ -119,10 +127,10 @@ module _ (n : ℕ) (pos : 1 ≤ n) (set : ℕ) where
       (walk-meets l a (suc (suc j)) h i (omega (arith, sum-next member a l, ap num e))))
 
   -- Where there are fewer, nobody is.
-  pub walk-none : (left a j : ℕ) → 1 ≤ a → sum member a left < j → walk left n set (sender n (a + left)) j ≡ Nobody
-  walk-none zero a j h i = walk-nobody n set (sender n (a + zero)) j
+  pub walk-none : (left a j : ℕ) → 1 ≤ a → sum member a left < j → walk left cable set (turn n (a + left)) j ≡ Nobody
+  walk-none zero a j h i = walk-nobody cable set (turn n (a + zero)) j
   walk-none (suc l) a j h i =
-      by-cases (has set (sender n (a + l)))
+      by-cases (has set (sender cable (a + l)))
       (λ e.
       step-on l (a + l) j (a + suc l) (omega arith) (omega (arith, sum-next member a l, ap num e)) (omega arith) e
       ∙ walk-none l a (j - 1) h (omega (arith, sum-next member a l, ap num e)))
@@ -144,13 +152,13 @@ module _ (n : ℕ) (pos : 1 ≤ n) (set : ℕ) where
       go (no l) = omega arith
 
   -- A walk that is shorter than a round never meets the node where it starts.
-  pub met-other : (left a j : ℕ) (m : Met left a j) → 1 ≤ a → left < n → sender n (m .u) ≢ sender n (a + left)
+  pub met-other : (left a j : ℕ) (m : Met left a j) → 1 ≤ a → left < n → sender cable (m .u) ≢ sender cable (a + left)
   met-other left a j m h l p =
-      sender-once n pos (m .u) (m .e) (omega (arith, m .from)) (m .back) (omega (arith, m .from, m .upto)) (ap (sender n) (m .upto) ∙ sym p)
+      sender-once cable turns (m .u) (m .e) (omega (arith, m .from)) (m .back) (omega (arith, m .from, m .upto)) (ap (sender cable) (m .upto) ∙ sym p)
 
   -- Each member on the way is met, as the one whose number is the count of members from its slot on.
-  pub walk-at : (left a u e : ℕ) → 1 ≤ a → a ≤ u → u + e ≡ a + left → 1 ≤ e → has set (sender n u) ≡ true
-      → walk left n set (sender n (a + left)) (sum member u e) ≡ Member (sender n u) (n - suc (u - a))
+  pub walk-at : (left a u e : ℕ) → 1 ≤ a → a ≤ u → u + e ≡ a + left → 1 ≤ e → has set (sender cable u) ≡ true
+      → walk left cable set (turn n (a + left)) (sum member u e) ≡ Member (sender cable u) (n - suc (u - a))
   walk-at left a u e h f p b t =
       let some : 1 ≤ sum member u e = omega (arith, sum-at member u e u (omega arith) (omega arith), ap num t) in
       let d : ℕ = u - a in
@@ -159,14 +167,14 @@ module _ (n : ℕ) (pos : 1 ≤ n) (set : ℕ) where
       let enough : sum member u e ≤ sum member a left = omega (arith, sum-split member a d e, ap (sum member a) x, ap (λ (q : ℕ). sum member q e) y) in
       go (walk-meets left a (sum member u e) h some enough)
     where
-      go : Met left a (sum member u e) → walk left n set (sender n (a + left)) (sum member u e) ≡ Member (sender n u) (n - suc (u - a))
+      go : Met left a (sum member u e) → walk left cable set (turn n (a + left)) (sum member u e) ≡ Member (sender cable u) (n - suc (u - a))
       go m =
           let same : m .u ≡ u = one-place member (sum member u e) (m .u) (m .e) u e (m .upto ∙ sym p) (m .count) refl (omega (arith, ap num (m .listed))) (omega (arith, ap num t)) in
-          m .found ∙ ap (λ (q : ℕ). Member (sender n q) (n - suc (q - a))) same
+          m .found ∙ ap (λ (q : ℕ). Member (sender cable q) (n - suc (q - a))) same
 
   -- ---- the walk of n - 1 slots: all but the node where it starts
 
-  pub before-is : (x j : ℕ) → memberBefore n set x j ≡ walk (n - 1) n set x j
+  pub before-is : (x j : ℕ) → memberBefore cable set x j ≡ walk (n - 1) cable set (place order x) j
   unfolding memberBefore
   before-is x j = refl
 
@@ -175,4 +183,4 @@ module _ (n : ℕ) (pos : 1 ≤ n) (set : ℕ) where
   others a h =
       let z : suc (n - 1) ≡ n = omega arith in
       let y : suc (a - 1) ≡ a = omega arith in
-      omega (arith, sum-next member a (n - 1), ap (sum member a) z, size-round n pos set (a - 1), ap (λ (q : ℕ). sum member q n) y)
+      omega (arith, sum-next member a (n - 1), ap (sum member a) z, size-round cable turns set (a - 1), ap (λ (q : ℕ). sum member q n) y)

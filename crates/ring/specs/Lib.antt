@@ -1,4 +1,5 @@
 pub mod Ring
 pub mod Back
 pub mod Answers
+pub mod Before
 pub mod Places

@@ -4,6 +4,7 @@ use mathlib.Core.Bool.{cond, _&&_}
 use lib.Dec.{eqb}
 use Rattle.nodeset.specs.Sums.{num}
 use Rattle.nodeset.specs.Sets.{has}
+use Rattle.slot_table.specs.Order.{nodeAt, place}
 use Rattle.refusal.specs.declared.Refusal.the-variants.{RingSize, Lag, SponsorCount, NodeNumber}
 use Rattle.ring.specs.declared.Cable.{Cable}
 use Rattle.ring.specs.declared.Tests.{Tests}
@@ -22,30 +23,31 @@ testsOf cable x =
     (Refused Lag))
     (Refused RingSize)
 
--- Where the walk begins: at node x, with a round's other slots to go.
-abbrev pub startAt : ℕ → ℕ → Place
-startAt n x = record { node = x; left = n - 1 }
+-- Where the walk begins: at the place of node x, with a round's other slots to go.
+abbrev pub startAt : Cable → ℕ → Place
+startAt cable x = record { node = x; place = place (cable .order) x; left = cable .n - 1 }
 
 -- Where it ends that meets no further member.
 abbrev pub nowhere : Place
-nowhere = record { node = 0; left = 0 }
+nowhere = record { node = 0; place = 0; left = 0 }
 
--- The place of the j-th member met, with the slots that are left there.
-unfoldable pub reach : ℕ → ℕ → ℕ → ℕ → ℕ → Place
-reach zero n set x j = nowhere
-reach (suc left) n set x j =
-    let p = previous n x in
-    let more = j - num (has set p) in
-    cond (has set p && eqb j 1) (record { node = p; left = left }) (reach left n set p more)
+-- The place of the j-th member met from place p, with the slots that are left there.
+unfoldable pub reach : ℕ → Cable → ℕ → ℕ → ℕ → Place
+reach zero cable set p j = nowhere
+reach (suc left) cable set p j =
+    let q = previous (cable .n) p in
+    let x = nodeAt (cable .order) q in
+    let more = j - num (has set x) in
+    cond (has set x && eqb j 1) (record { node = x; place = q; left = left }) (reach left cable set q more)
 
 -- The place of the nearest member before a place.
-abbrev pub nearestOf : ℕ → ℕ → Place → Place
-nearestOf n set place = reach (place .left) n set (place .node) 1
+abbrev pub nearestOf : Cable → ℕ → Place → Place
+nearestOf cable set from = reach (from .left) cable set (from .place) 1
 
 -- Where the walk to the members that node x sponsors begins: at the last of the members before it that it has not judged yet.
 abbrev pub sponsorsFrom : Cable → ℕ → ℕ → Place
-sponsorsFrom cable set x = cond (eqb (cable .lag) 0) (startAt (cable .n) x) (reach (cable .n - 1) (cable .n) set x (cable .lag))
+sponsorsFrom cable set x = cond (eqb (cable .lag) 0) (startAt cable x) (reach (cable .n - 1) cable set (place (cable .order) x) (cable .lag))
 
 -- The member at a place, and how many slots back from the start of the walk it speaks; nobody where the node is 0.
 abbrev pub foundAt : ℕ → Place → Found
-foundAt n place = cond (eqb (place .node) 0) Nobody (Member (place .node) (n - 1 - place .left))
+foundAt n from = cond (eqb (from .node) 0) Nobody (Member (from .node) (n - 1 - from .left))

@@ -5,18 +5,27 @@ ghost use mathlib.Core.Path.{_≡_};
 ghost use Prim.Native.Nat.{_+_, _-_};
 ghost use Rattle.refusal.specs.Causes.{cause};
 ghost use Rattle.nodeset.specs.Sums.{num};
-ghost use Rattle.ring.specs.Ring.{cableOf, sameCable, ringSize, nodeNumber, lagFits, sponsorCount, jobCount, cableFits, ks, previous, memberBefore, sponsors, sponsored, decided};
+ghost use Rattle.ring.specs.Ring.{cableOf, cableWith, sameCable, ringSize, nodeNumber, lagFits, sponsorCount, jobCount, cableFits, maySetUp, ks, previous, memberBefore, sponsors, sponsored, decided};
 ghost use Rattle.ring.specs.Answers.{faultOf, senderOf, beforeOf, sponsoredOf, decidedOf};
 ghost use Rattle.ring.specs.Places.{testsOf, startAt, reach, nearestOf, sponsorsFrom, foundAt};
 
-// What set-up chooses for the whole cable: how many nodes are on it, how many others a member sponsors
-// at the most, how many jobs a message reports on, and how many members before a sender it has not
-// judged yet.
+// The numbers that set-up chooses for the whole cable: how many nodes are on it, how many others a member
+// sponsors at the most, how many jobs a message reports on, and how many members before a sender it has
+// not judged yet.
+pub struct Choices {
+    pub n: u32,
+    pub k: u32,
+    pub m: u32,
+    pub lag: u32,
+}
+
+// What holds for the whole cable: the numbers chosen, and which node speaks at each place.
 pub struct Cable {
     pub n: u32,
     pub k: u32,
     pub m: u32,
     pub lag: u32,
+    pub order: [u8; 32],
 }
 
 // Whose slot it is.
@@ -43,18 +52,42 @@ enum Tests {
     Refused(Refusal),
 }
 
-// The cable with these numbers, no jobs and no lag.
+// The cable with these numbers, no jobs, no lag and the plain table.
 pub fn cable_of(n: u32, k: u32) -> Cable
     ensures { λ r. ⌜ r ≡ cableOf n k ⌝ }
 {
-    Cable { n, k, m: 0, lag: 0 }
+    let order = slot_table::plain(n);
+    Cable {
+        n,
+        k,
+        m: 0,
+        lag: 0,
+        order,
+    }
+}
+
+// The cable with these choices and this slot table.
+pub fn cable_with(choices: Choices, slots: &[u8]) -> Cable
+    ensures { λ r. ⌜ r ≡ cableWith choices (now (slots .entry)) ⌝ }
+{
+    let order = slot_table::kept(slots);
+    Cable {
+        n: choices.n,
+        k: choices.k,
+        m: choices.m,
+        lag: choices.lag,
+        order,
+    }
 }
 
 // Whether two cables are the same.
 pub fn is_same_cable(a: Cable, b: Cable) -> bool
     ensures { λ r. ⌜ r ≡ sameCable a b ⌝ }
 {
-    (a.n == b.n) & ((a.k == b.k) & ((a.m == b.m) & (a.lag == b.lag)))
+    let one = a.order;
+    let other = b.order;
+    (a.n == b.n)
+        & ((a.k == b.k) & ((a.m == b.m) & ((a.lag == b.lag) & slot_table::is_same(one, other))))
 }
 
 // Whether a ring may have n nodes.
@@ -104,12 +137,23 @@ pub fn is_job_count(m: u32) -> bool
 pub fn cable_fits(cable: Cable) -> bool
     ensures { λ r. ⌜ r ≡ cableFits cable ⌝ }
 {
-    is_ring_size(cable.n) & (is_lag(cable.lag) & (is_sponsor_count(cable) & is_job_count(cable.m)))
+    let order = cable.order;
+    is_ring_size(cable.n)
+        & (is_lag(cable.lag)
+            & (is_sponsor_count(cable)
+                & (is_job_count(cable.m) & slot_table::is_kept(cable.n, order))))
 }
 
-// By what a cable is refused of which a choice is not in range: 1, 16, 2 or 14, the first in this order.
-pub fn fault(cable: Cable) -> Refusal
-    ensures { λ r. ⌜ r ≡ cause (faultOf cable) ⌝ }
+// Whether every choice is in range, where the slot table was given with so many places.
+pub fn may_set_up(cable: Cable, places: usize) -> bool
+    ensures { λ r. ⌜ r ≡ maySetUp cable places ⌝ }
+{
+    cable_fits(cable) & (places == cable.n as usize)
+}
+
+// By what a cable is refused that may not be set up: 1, 16, 2, 14, 17 or 18, the first in this order.
+pub fn fault(cable: Cable, places: usize) -> Refusal
+    ensures { λ r. ⌜ r ≡ cause (faultOf cable places) ⌝ }
 {
     if !is_ring_size(cable.n) {
         return Refusal::RingSize;
@@ -120,7 +164,13 @@ pub fn fault(cable: Cable) -> Refusal
     if !is_sponsor_count(cable) {
         return Refusal::SponsorCount;
     }
-    Refusal::JobCount
+    if !is_job_count(cable.m) {
+        return Refusal::JobCount;
+    }
+    if places != cable.n as usize {
+        return Refusal::TableLength;
+    }
+    Refusal::TableNodes
 }
 
 // How many of c members one of them sponsors.
@@ -136,18 +186,19 @@ pub fn ks(cable: Cable, c: u32) -> u32
 
 // ---- Inner: the walk back, which takes every number as it is; the rules of a slot use it.
 
-// A place on the walk back: the node that it reached, and the slots that it may still go back from
-// there, which tell how far back it is. Node 0: it met no further member.
+// A place on the walk back: the node that it reached and its place, and the slots that it may still go
+// back from there, which tell how far back it is. Node 0: it met no further member.
 pub struct Place {
     pub node: u32,
+    pub place: u32,
     pub left: u32,
 }
 
-// The node whose slot comes just before that of node x.
-fn previous(n: u32, x: u32) -> u32
-    ensures { λ r. ⌜ r ≡ previous n x ⌝ }
+// The place whose slot comes just before that of place p.
+fn previous(n: u32, p: u32) -> u32
+    ensures { λ r. ⌜ r ≡ previous n p ⌝ }
 {
-    if x <= 1 { n } else { x - 1 }
+    if p <= 1 { n } else { p - 1 }
 }
 
 // How many members are still to be met, of j, after a slot whose node is one or not.
@@ -163,43 +214,51 @@ fn still(j: u32, met: bool) -> u32
     j - 1
 }
 
-// The place of the j-th member met on the walk back from node x, in at most `left` slots. The loop is
+// The place of the j-th member met on the walk back from place p, in at most `left` slots. The loop is
 // left by break with the member and the slots left there, which tell its distance.
-fn walk(left: u32, n: u32, set: u32, x: u32, j: u32) -> Place
-    ensures { λ r. ⌜ r ≡ reach left n set x j ⌝ }
+fn walk(left: u32, cable: Cable, set: u32, p: u32, j: u32) -> Place
+    ensures { λ r. ⌜ r ≡ reach left cable set p j ⌝ }
 {
+    let order = cable.order;
     let mut left = left;
-    let mut node = x;
+    let mut place = p;
     let mut more = j;
     loop {
         if left == 0 {
-            break Place { node: 0, left: 0 };
+            break Place {
+                node: 0,
+                place: 0,
+                left: 0,
+            };
         }
         left -= 1;
-        node = previous(n, node);
+        place = previous(cable.n, place);
+        let node = slot_table::node_at(order, place);
         let met = nodeset::has(set, node);
         if met & (more == 1) {
-            break Place { node, left };
+            break Place { node, place, left };
         }
         more = still(more, met);
     }
 }
 
 // Where the walk back from node x begins. It ends before it comes round to x.
-pub fn start_at(n: u32, x: u32) -> Place
-    ensures { λ r. ⌜ r ≡ startAt n x ⌝ }
+pub fn start_at(cable: Cable, x: u32) -> Place
+    ensures { λ r. ⌜ r ≡ startAt cable x ⌝ }
 {
+    let order = cable.order;
     Place {
         node: x,
-        left: if n == 0 { 0 } else { n - 1 },
+        place: slot_table::place(order, x),
+        left: less(cable.n, 1),
     }
 }
 
 // The place of the nearest member before a place.
-pub fn nearest(n: u32, set: u32, place: Place) -> Place
-    ensures { λ r. ⌜ r ≡ nearestOf n set place ⌝ }
+pub fn nearest(cable: Cable, set: u32, from: Place) -> Place
+    ensures { λ r. ⌜ r ≡ nearestOf cable set from ⌝ }
 {
-    walk(place.left, n, set, place.node, 1)
+    walk(from.left, cable, set, from.place, 1)
 }
 
 // Where the walk to the members that node x sponsors begins: at the last of the members before it that
@@ -207,11 +266,11 @@ pub fn nearest(n: u32, set: u32, place: Place) -> Place
 pub fn sponsors_from(cable: Cable, set: u32, x: u32) -> Place
     ensures { λ r. ⌜ r ≡ sponsorsFrom cable set x ⌝ }
 {
-    let start = start_at(cable.n, x);
+    let start = start_at(cable, x);
     if cable.lag == 0 {
         return start;
     }
-    walk(start.left, cable.n, set, x, cable.lag)
+    walk(start.left, cable, set, start.place, cable.lag)
 }
 
 // The member at a place, and how many slots back from the start of the walk it speaks; nobody where the
@@ -227,12 +286,12 @@ fn found_at(n: u32, place: Place) -> Found
 }
 
 // The j-th member before node x.
-pub fn member_before(n: u32, set: u32, x: u32, j: u32) -> Found
-    ensures { λ r. ⌜ r ≡ memberBefore n set x j ⌝ }
+pub fn member_before(cable: Cable, set: u32, x: u32, j: u32) -> Found
+    ensures { λ r. ⌜ r ≡ memberBefore cable set x j ⌝ }
 {
-    let start = start_at(n, x);
-    let place = walk(start.left, n, set, x, j);
-    found_at(n, place)
+    let start = start_at(cable, x);
+    let place = walk(start.left, cable, set, start.place, j);
+    found_at(cable.n, place)
 }
 
 // How many of the set's members one of them sponsors.
@@ -252,7 +311,7 @@ fn sponsored_member(cable: Cable, set: u32, x: u32, j: u32) -> Found
     if sponsors(cable, set) < j {
         return Found::Nobody;
     }
-    member_before(cable.n, set, x, j + cable.lag)
+    member_before(cable, set, x, j + cable.lag)
 }
 
 // The member that node x decides: the last that it sponsors.
@@ -265,27 +324,29 @@ pub fn decided_member(cable: Cable, set: u32, x: u32) -> Found
 // ---- The calls
 
 // The sender of the slot that follows `done` slots. Refuses by 1.
-pub fn sender(n: u32, done: u64) -> Speaker
-    ensures { λ r. ⌜ r ≡ senderOf n (done + 1) ⌝ }
+pub fn sender(cable: Cable, done: u64) -> Speaker
+    ensures { λ r. ⌜ r ≡ senderOf cable (done + 1) ⌝ }
 {
-    if !is_ring_size(n) {
+    if !is_ring_size(cable.n) {
         return Speaker::Refused(Refusal::RingSize);
     }
-    let place = done % (n as u64);
-    Speaker::Node(place as u32 + 1)
+    let order = cable.order;
+    let place = done % (cable.n as u64);
+    let x = slot_table::node_at(order, place as u32 + 1);
+    Speaker::Node(x)
 }
 
 // The j-th member before node x. Refuses by 1 and 3.
-pub fn before(n: u32, set: u32, x: u32, j: u32) -> Lookup
-    ensures { λ r. ⌜ r ≡ beforeOf n set x j ⌝ }
+pub fn before(cable: Cable, set: u32, x: u32, j: u32) -> Lookup
+    ensures { λ r. ⌜ r ≡ beforeOf cable set x j ⌝ }
 {
-    if !is_ring_size(n) {
+    if !is_ring_size(cable.n) {
         return Lookup::Refused(Refusal::RingSize);
     }
-    if !is_node_number(n, x) {
+    if !is_node_number(cable.n, x) {
         return Lookup::Refused(Refusal::NodeNumber);
     }
-    let found = member_before(n, set, x, j);
+    let found = member_before(cable, set, x, j);
     Lookup::Found(found)
 }
 

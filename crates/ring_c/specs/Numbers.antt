@@ -2,12 +2,17 @@
 -- 2 ^ 33 and more.
 use Prim.Native.Nat.{ℕ, _+_, _^_}
 use Rattle.refusal.specs.Causes.{numberOf}
+use Rattle.ring.specs.declared.Choices.{Choices}
 use Rattle.ring.specs.declared.Speaker.{Speaker}
 use Rattle.ring.specs.declared.Speaker.the-variants as speaker
 use Rattle.ring.specs.declared.Found.{Found}
 use Rattle.ring.specs.declared.Found.the-variants as found
 use Rattle.ring.specs.declared.Lookup.{Lookup}
 use Rattle.ring.specs.declared.Lookup.the-variants as lookup
+
+-- the choices with these numbers, and no jobs
+abbrev pub choicesOf : ℕ → ℕ → ℕ → Choices
+choicesOf n k lag = record { n = n; k = k; m = 0; lag = lag }
 
 -- the node whose slot it is
 abbrev pub speakerNumber : Speaker → ℕ

@@ -1,15 +1,17 @@
-// The functions of nodeset and ring for callers in Rust and C, which take and give numbers alone.
-// Each answers what the function of its name does; an answer that is an enum is one number.
+// The functions of nodeset and ring for callers in Rust and C, which take and give numbers and lend the
+// slot table as bytes. Each answers what the function of its name does; an answer that is an enum is one
+// number.
 use ring::Cable;
+use ring::Choices;
 use ring::Found;
 use ring::Lookup;
 use ring::Speaker;
 ghost use mathlib.Core.Path.{_≡_};
 ghost use Prim.Native.Nat.{_+_};
 ghost use Rattle.nodeset.specs.Sets.{has, with, without, union, full, within, subset, size, distance, run};
-ghost use Rattle.ring.specs.Ring.{laggingCable, ringSize, nodeNumber, sponsorCount, ks};
+ghost use Rattle.ring.specs.Ring.{cableWith, laggingCable, ringSize, nodeNumber, sponsorCount, ks};
 ghost use Rattle.ring.specs.Answers.{senderOf, beforeOf, sponsoredOf, decidedOf};
-ghost use Rattle.ring_c.specs.Numbers.{speakerNumber, foundNumber, backNumber, lookupNumber, lookupBack};
+ghost use Rattle.ring_c.specs.Numbers.{choicesOf, speakerNumber, foundNumber, backNumber, lookupNumber, lookupBack};
 
 // ---- Sets
 
@@ -99,26 +101,48 @@ pub extern "C" fn ring_is_node_number(n: u32, x: u32) -> bool
     ring::is_node_number(n, x)
 }
 
+// The cable with these numbers, no jobs and the plain table.
+fn plain_cable(n: u32, k: u32, lag: u32) -> Cable
+    ensures { λ r. ⌜ r ≡ laggingCable n k lag ⌝ }
+{
+    let order = slot_table::plain(n);
+    Cable {
+        n,
+        k,
+        m: 0,
+        lag,
+        order,
+    }
+}
+
 #[no_mangle]
 pub extern "C" fn ring_is_sponsor_count(n: u32, k: u32, lag: u32) -> bool
     ensures { λ r. ⌜ r ≡ sponsorCount (laggingCable n k lag) ⌝ }
 {
-    ring::is_sponsor_count(Cable { n, k, m: 0, lag })
+    ring::is_sponsor_count(plain_cable(n, k, lag))
 }
 
 #[no_mangle]
 pub extern "C" fn ring_ks(n: u32, k: u32, lag: u32, c: u32) -> u32
     ensures { λ r. ⌜ r ≡ ks (laggingCable n k lag) c ⌝ }
 {
-    ring::ks(Cable { n, k, m: 0, lag }, c)
+    ring::ks(plain_cable(n, k, lag), c)
+}
+
+// The cable with these numbers, no jobs and this slot table.
+fn cable(n: u32, k: u32, lag: u32, slots: &[u8]) -> Cable
+    ensures { λ r. ⌜ r ≡ cableWith (choicesOf n k lag) (now (slots .entry)) ⌝ }
+{
+    ring::cable_with(Choices { n, k, m: 0, lag }, slots)
 }
 
 // Whose slot follows `done` slots: the refusal's number, or 2^33 and the node.
 #[no_mangle]
-pub extern "C" fn ring_sender(n: u32, done: u64) -> u64
-    ensures { λ r. ⌜ r ≡ speakerNumber (senderOf n (done + 1)) ⌝ }
+pub extern "C" fn ring_sender(n: u32, slots: &[u8], done: u64) -> u64
+    ensures { λ r. ⌜ r ≡ speakerNumber (senderOf (cableWith (choicesOf n 0 0) (now (slots .entry))) (done + 1)) ⌝ }
 {
-    match ring::sender(n, done) {
+    let cable = cable(n, 0, 0, slots);
+    match ring::sender(cable, done) {
         Speaker::Node(x) => 0x2_0000_0000 + x as u64,
         Speaker::Refused(cause) => refusal::number(cause) as u64,
     }
@@ -168,43 +192,65 @@ fn lookup_back(lookup: Lookup) -> u64
 }
 
 #[no_mangle]
-pub extern "C" fn ring_before(n: u32, set: u32, x: u32, j: u32) -> u64
-    ensures { λ r. ⌜ r ≡ lookupNumber (beforeOf n set x j) ⌝ }
+pub extern "C" fn ring_before(n: u32, slots: &[u8], set: u32, x: u32, j: u32) -> u64
+    ensures { λ r. ⌜ r ≡ lookupNumber (beforeOf (cableWith (choicesOf n 0 0) (now (slots .entry))) set x j) ⌝ }
 {
-    lookup_number(ring::before(n, set, x, j))
+    let cable = cable(n, 0, 0, slots);
+    lookup_number(ring::before(cable, set, x, j))
 }
 
 #[no_mangle]
-pub extern "C" fn ring_sponsored(n: u32, k: u32, lag: u32, set: u32, x: u32, j: u32) -> u64
-    ensures { λ r. ⌜ r ≡ lookupNumber (sponsoredOf (laggingCable n k lag) set x j) ⌝ }
+pub extern "C" fn ring_sponsored(
+    n: u32,
+    k: u32,
+    lag: u32,
+    slots: &[u8],
+    set: u32,
+    x: u32,
+    j: u32,
+) -> u64
+    ensures { λ r. ⌜ r ≡ lookupNumber (sponsoredOf (cableWith (choicesOf n k lag) (now (slots .entry))) set x j) ⌝ }
 {
-    lookup_number(ring::sponsored(Cable { n, k, m: 0, lag }, set, x, j))
+    let cable = cable(n, k, lag, slots);
+    lookup_number(ring::sponsored(cable, set, x, j))
 }
 
 #[no_mangle]
-pub extern "C" fn ring_decided(n: u32, k: u32, lag: u32, set: u32, x: u32) -> u64
-    ensures { λ r. ⌜ r ≡ lookupNumber (decidedOf (laggingCable n k lag) set x) ⌝ }
+pub extern "C" fn ring_decided(n: u32, k: u32, lag: u32, slots: &[u8], set: u32, x: u32) -> u64
+    ensures { λ r. ⌜ r ≡ lookupNumber (decidedOf (cableWith (choicesOf n k lag) (now (slots .entry))) set x) ⌝ }
 {
-    lookup_number(ring::decided(Cable { n, k, m: 0, lag }, set, x))
+    let cable = cable(n, k, lag, slots);
+    lookup_number(ring::decided(cable, set, x))
 }
 
 #[no_mangle]
-pub extern "C" fn ring_before_back(n: u32, set: u32, x: u32, j: u32) -> u64
-    ensures { λ r. ⌜ r ≡ lookupBack (beforeOf n set x j) ⌝ }
+pub extern "C" fn ring_before_back(n: u32, slots: &[u8], set: u32, x: u32, j: u32) -> u64
+    ensures { λ r. ⌜ r ≡ lookupBack (beforeOf (cableWith (choicesOf n 0 0) (now (slots .entry))) set x j) ⌝ }
 {
-    lookup_back(ring::before(n, set, x, j))
+    let cable = cable(n, 0, 0, slots);
+    lookup_back(ring::before(cable, set, x, j))
 }
 
 #[no_mangle]
-pub extern "C" fn ring_sponsored_back(n: u32, k: u32, lag: u32, set: u32, x: u32, j: u32) -> u64
-    ensures { λ r. ⌜ r ≡ lookupBack (sponsoredOf (laggingCable n k lag) set x j) ⌝ }
+pub extern "C" fn ring_sponsored_back(
+    n: u32,
+    k: u32,
+    lag: u32,
+    slots: &[u8],
+    set: u32,
+    x: u32,
+    j: u32,
+) -> u64
+    ensures { λ r. ⌜ r ≡ lookupBack (sponsoredOf (cableWith (choicesOf n k lag) (now (slots .entry))) set x j) ⌝ }
 {
-    lookup_back(ring::sponsored(Cable { n, k, m: 0, lag }, set, x, j))
+    let cable = cable(n, k, lag, slots);
+    lookup_back(ring::sponsored(cable, set, x, j))
 }
 
 #[no_mangle]
-pub extern "C" fn ring_decided_back(n: u32, k: u32, lag: u32, set: u32, x: u32) -> u64
-    ensures { λ r. ⌜ r ≡ lookupBack (decidedOf (laggingCable n k lag) set x) ⌝ }
+pub extern "C" fn ring_decided_back(n: u32, k: u32, lag: u32, slots: &[u8], set: u32, x: u32) -> u64
+    ensures { λ r. ⌜ r ≡ lookupBack (decidedOf (cableWith (choicesOf n k lag) (now (slots .entry))) set x) ⌝ }
 {
-    lookup_back(ring::decided(Cable { n, k, m: 0, lag }, set, x))
+    let cable = cable(n, k, lag, slots);
+    lookup_back(ring::decided(cable, set, x))
 }

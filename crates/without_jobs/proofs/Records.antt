@@ -4,7 +4,10 @@ use mathlib.Core.Path.{_≡_, refl, sym, ap, ap₂, _∙_}
 use mathlib.Core.Bool.{Bool, true, false, cond, not, _&&_, _||_}
 use lib.Dec.{eqb, leb, ltb}
 use Rattle.nodeset.specs.Sets.{has, with, without, withIf}
-use Rattle.ring.specs.Ring.{memberIn, isFound, sender, sponsors, sponsored, decided}
+use Rattle.ring.specs.declared.Cable.{Cable}
+use Rattle.ring.specs.declared.Found.{Found}
+use Rattle.ring.specs.Ring.{memberBefore, memberIn, isFound, sender, sponsors, sponsored, decided}
+use Rattle.ring.proofs.Alike.{before-alike, sponsored-alike, decided-alike}
 use Rattle.message.specs.declared.Reading.{Reading}
 use Rattle.message.specs.declared.Reading.the-variants as reading
 use Rattle.node_record.specs.declared.Node.{Node}
@@ -14,16 +17,16 @@ use Rattle.node_record.specs.declared.State.{State}
 use Rattle.node_record.specs.declared.State.the-variants.{Member, Listening, Following, Knocking, Out}
 use Rattle.node_record.specs.States.{isMember, isFollowing, isKnocking, isOut, leavingCause}
 use Rattle.node_record.specs.Soundness.{sound, limit}
-use Rattle.node_record.specs.Sponsoring.{sponsorsIn, sponsoredIn}
+use Rattle.node_record.specs.Sponsoring.{sponsorsIn}
 use Rattle.node_record.proofs.Facts.{clauses, sound-by}
-use Rattle.node_changes.specs.Changes.{outFor, fresh, leave, listeningAfter, followingWith, withWindow, withMarks, withReturning, counted}
+use Rattle.node_changes.specs.Changes.{withSet, outFor, fresh, leave, listeningAfter, followingWith, withWindow, withMarks, withReturning, counted}
 use Rattle.node_steps.specs.Steps.{isHeard, isOwn, ownMarks, confirmed, saysSo, says, heardMarks, readMarks, marksAfter, readYes, yesAfter, missedReturn, returnHeard, marked, noted, leaves, departed, departedIn, leavesIn, tooFew, nothingHeard, joins, joined, join, afterMessage, settle, slotFrom, trackingSlot}
 use Rattle.node_hearing.specs.Hearing.{windowAfter, clean, windowEnd, goesOn, listeningSlot}
 use Rattle.node_sending.specs.Sending.{markBits, bitsSent}
 use Rattle.node_slot.specs.Slot.{slotIn, afterSlot}
 use Rattle.node.specs.declared.Stepped.{Stepped}
 use Rattle.node.specs.Calls.{done, refused, stepOf, offOf, restartOf}
-use Rattle.without_jobs.specs.Without.{forget}
+use Rattle.without_jobs.specs.Without.{withoutJobs, forget}
 
 -- ---- choices
 
@@ -43,17 +46,30 @@ answers-alike {b = b} {x′ = x′} {y′ = y′} x y e p q = ap (λ (c : Bool).
     go true = p
     go false = q
 
+-- ---- the ring
+
+before-same : (cable : Cable) (set x j : ℕ) → memberBefore (withoutJobs cable) set x j ≡ memberBefore cable set x j
+before-same cable = before-alike (withoutJobs cable) cable refl refl
+
+sponsored-same : (cable : Cable) (set x j : ℕ) → sponsored (withoutJobs cable) set x j ≡ sponsored cable set x j
+sponsored-same cable = sponsored-alike (withoutJobs cable) cable refl refl refl refl
+
+decided-same : (cable : Cable) (set x : ℕ) → decided (withoutJobs cable) set x ≡ decided cable set x
+decided-same cable = decided-alike (withoutJobs cable) cable refl refl refl refl
+
 -- ---- step 1
 
 confirmed-same : (j s bits : ℕ) (v : Node) → confirmed j s bits (forget v) ≡ confirmed j s bits v
-unfolding forget confirmed sponsored sponsors
+unfolding forget confirmed
 confirmed-same zero s bits v = refl
-confirmed-same (suc j) s bits v = ap (λ (marks : ℕ). cond (has bits (suc j)) (with marks (memberIn (sponsoredIn s (suc j) v))) marks) (confirmed-same j s bits v)
+confirmed-same (suc j) s bits v =
+    ap₂ (λ (marks : ℕ) (f : Found). cond (has bits (suc j)) (with marks (memberIn f)) marks) (confirmed-same j s bits v) (sponsored-same (v .cable) (v .set) s (suc j))
 
 says-same : (answer : Bool) (j s bits : ℕ) (v : Node) → says answer j s bits (forget v) ≡ says answer j s bits v
-unfolding forget says sponsored sponsors
+unfolding forget says
 says-same answer zero s bits v = refl
-says-same answer (suc j) s bits v = ap (λ (b : Bool). b || (isFound (v .own) (sponsoredIn s (suc j) v) && saysSo answer (has bits (suc j)))) (says-same answer j s bits v)
+says-same answer (suc j) s bits v =
+    ap₂ (λ (b : Bool) (f : Found). b || (isFound (v .own) f && saysSo answer (has bits (suc j)))) (says-same answer j s bits v) (sponsored-same (v .cable) (v .set) s (suc j))
 
 heard-marks : (s bits : ℕ) (v : Node) → heardMarks s bits (forget v) ≡ heardMarks s bits v
 unfolding forget heardMarks sponsors
@@ -95,12 +111,12 @@ noted-same s heard v =
 -- ---- step 3
 
 leaves-same : (s : ℕ) (v : Node) (x : ℕ) → leaves s (forget v) x ≡ leaves s v x
-unfolding forget decided sponsored sponsors
-leaves-same s v x = refl
+unfolding forget
+leaves-same s v x = ap (λ (f : Found). isFound x f && not (has (v .present) x)) (decided-same (v .cable) (v .set) s)
 
 departed-same : (s : ℕ) (v : Node) → departed s (forget v) ≡ forget (departed s v)
-unfolding forget decided sponsored sponsors
-departed-same s v = refl
+unfolding forget
+departed-same s v = ap (λ (f : Found). withSet (cond (isFound (memberIn f) f && not (has (v .present) (memberIn f))) (without (v .set) (memberIn f)) (v .set)) (forget v)) (decided-same (v .cable) (v .set) s)
 
 departed-in : (times s : ℕ) (v : Node) → departedIn times s (forget v) ≡ forget (departedIn times s v)
 unfolding departedIn
@@ -127,7 +143,8 @@ unfolding forget settle
 settle-same inside s v =
     alike (tooFew v) _ _ refl
     (alike (nothingHeard v) _ _ (leave-same (leavingCause 2) v)
-    (alike (inside && joins s v) _ _ (join-same v) refl))
+    (ap (λ (f : Found). cond (inside && (not (eqb (v .returning) 0) && isFound s f)) (join (forget v)) (forget v)) (before-same (v .cable) (v .set) (v .returning) 1)
+    ∙ alike (inside && joins s v) _ _ (join-same v) refl))
 
 -- ---- one slot
 
@@ -182,7 +199,7 @@ unfolding forget
 sound-same v e =
     let c = clauses v e in
     sound-by (forget v) (record {
-      choices = record { ring = c .choices .ring; lag = c .choices .lag; sponsors = c .choices .sponsors; jobs = refl };
+      choices = record { ring = c .choices .ring; lag = c .choices .lag; sponsors = c .choices .sponsors; jobs = refl; order = c .choices .order };
       own = c .own;
       slots = c .slots;
       sets = c .sets;
@@ -203,9 +220,9 @@ module _ (v : Node) (good : sound v ≡ true) where
   both-sound = sound-same v good ∙ sym good
 
   pub step-same : (heard : Reading) → stepOf heard (forget v) ≡ forgetStepped (stepOf heard v)
-  unfolding forget stepOf
+  unfolding forget stepOf sender
   step-same heard =
-      let s = sender (v .cable .n) (v .slots + 1) in
+      let s = sender (v .cable) (v .slots + 1) in
       let after = done (afterSlot s heard (counted v)) in
       answers-alike (cond (leb limit (v .slots)) (refused 5 v) after) (refused 4 v) both-sound
       (answers-alike {b = leb limit (v .slots)} (refused 5 v) after refl refl (ap done (after-slot s heard (counted v))))
@@ -225,9 +242,10 @@ module _ (v : Node) (good : sound v ≡ true) where
 -- ---- sending
 
 mark-bits : (j : ℕ) (v : Node) → markBits j (forget v) ≡ markBits j v
-unfolding forget markBits sponsored sponsors
+unfolding forget markBits
 mark-bits zero v = refl
-mark-bits (suc j) v = ap (λ (bits : ℕ). withIf (has (v .present) (memberIn (sponsoredIn (v .own) (suc j) v))) bits (suc j)) (mark-bits j v)
+mark-bits (suc j) v =
+    ap₂ (λ (bits : ℕ) (f : Found). withIf (has (v .present) (memberIn f)) bits (suc j)) (mark-bits j v) (sponsored-same (v .cable) (v .set) (v .own) (suc j))
 
 pub bits-sent : (v : Node) → bitsSent (forget v) ≡ bitsSent v
 unfolding forget bitsSent sponsors

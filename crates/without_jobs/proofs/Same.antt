@@ -30,7 +30,7 @@ starts-from cable i (v ∷ lent) (w ∷ other) e = ap (λ (t : Table). starting 
 
 module _ (cable : Cable) (fits : cableFits cable ≡ true) (lent other : Table) (one-each : length lent ≡ cable .n) (one-other : length other ≡ cable .n) where
   fits-without : cableFits (withoutJobs cable) ≡ true
-  fits-without = let f = fitting cable fits in fits-by (withoutJobs cable) (record { ring = f .ring; lag = f .lag; sponsors = f .sponsors; jobs = refl })
+  fits-without = let f = fitting cable fits in fits-by (withoutJobs cable) (record { ring = f .ring; lag = f .lag; sponsors = f .sponsors; jobs = refl; order = f .order })
 
   n-pos : 1 ≤ cable .n
   n-pos = omega (arith, ring-size (cable .n) (fitting cable fits .ring) .0)

@@ -37,8 +37,8 @@ unfolding forget slotsOf
 slots-same t = ap (λ (v : Node). v .slots) (record-same t 1)
 
 speaker-same : (t : Table) → speaker (forgetAll t) ≡ speaker t
-unfolding speaker
-speaker-same t = ap₂ (λ (n slots : ℕ). sender n (slots + 1)) (length-map t forget) (slots-same t)
+unfolding speaker forget sender
+speaker-same t = ap₂ (λ (v : Node) (slots : ℕ). sender (v .cable) (slots + 1)) (record-same t 1) (slots-same t)
 
 -- the sender's record
 sender-same : (t : Table) → recordOf (forgetAll t) (speaker (forgetAll t)) ≡ forget (recordOf t (speaker t))

@@ -5,7 +5,7 @@ use mathlib.Core.Bool.{true}
 use mathlib.Core.List.{List, map}
 use lib.ListN.{length}
 use Rattle.ring.specs.declared.Cable.{Cable}
-use Rattle.ring.specs.Ring.{laggingCable, cableFits}
+use Rattle.ring.specs.Ring.{cableFits}
 use Rattle.node_record.specs.declared.Node.{Node}
 use Rattle.bench.specs.Table.{Table}
 use Rattle.bench.specs.Calls.{setUpOf}
@@ -14,7 +14,7 @@ use Rattle.ledger.specs.Runs.{Lent, tableLent, taken}
 
 -- A cable's choices but for the number of jobs, which is 0.
 abbrev pub withoutJobs : Cable → Cable
-withoutJobs cable = laggingCable (cable .n) (cable .k) (cable .lag)
+withoutJobs cable = record { n = cable .n; k = cable .k; m = 0; lag = cable .lag; order = cable .order }
 
 -- A record with its number of jobs put to 0, and all else of it.
 unfoldable pub forget : Node → Node

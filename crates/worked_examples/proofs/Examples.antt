@@ -3,11 +3,13 @@ use mathlib.Core.Path.{refl}
 use mathlib.Core.List.{[], _∷_}
 use Rattle.message.specs.Message.{bytesOf, twoSections, messageOf, little, saidBy, readOf, writeOf}
 use Rattle.node_record.specs.declared.Node.{Node}
+use Rattle.slot_table.specs.Order.{kept}
+use Rattle.bench.specs.Calls.{setUpGiven}
 use Rattle.bench.proofs.Computed.{computed}
 use Rattle.plan_program.proofs.Computed.{printing}
 use Rattle.worked_examples.specs.Rows.{AllHold}
 use Rattle.worked_examples.specs.Examples.{examples}
-use Rattle.worked_examples.specs.Requests.{fixedOrder, feederCut, ownMarks, slowReceivers}
+use Rattle.worked_examples.specs.Requests.{fixedOrder, feederCut, ownMarks, slowReceivers, crossedSlots}
 
 infixr 1 _and_
 _and_ : {A B : Type 0} → A → B → A × B
@@ -28,18 +30,38 @@ worked-examples a b c d =
     and refl and refl and refl  -- nodes 1 and 2 off
     and tt
 
+order-holds : (a b c d : Node) → AllHold (fixedOrder (a ∷ b ∷ c ∷ d ∷ []))
+unfolding fixedOrder computed
+order-holds a b c d = refl and refl and tt
+
+feeder-holds : (a b c d e f : Node) → AllHold (feederCut (a ∷ b ∷ c ∷ d ∷ e ∷ f ∷ []))
+unfolding feederCut computed
+feeder-holds a b c d e f = refl and refl and refl and refl and refl and refl and refl and refl and tt
+
+marks-hold : (a b c d : Node) → AllHold (ownMarks (a ∷ b ∷ c ∷ d ∷ []))
+unfolding ownMarks computed
+marks-hold a b c d = refl and refl and refl and refl and tt
+
+slow-holds : (a b c d e : Node) → AllHold (slowReceivers (a ∷ b ∷ c ∷ d ∷ e ∷ []))
+unfolding slowReceivers computed
+slow-holds a b c d e =
+    refl and refl and refl and refl  -- sponsored and decided
+    and refl and refl and refl  -- the bits, and leaving
+    and refl and refl and refl and refl and refl and refl and refl  -- listening
+    and tt
+
+crossed-hold : (a b c d e : Node) → AllHold (crossedSlots (a ∷ b ∷ c ∷ d ∷ e ∷ []))
+unfolding crossedSlots computed kept setUpGiven
+crossed-hold a b c d e =
+    refl and refl and refl and refl  -- whose slot it is, sponsored and decided
+    and refl and refl  -- leaving
+    and refl and refl  -- refused
+    and tt
+
 pub request-examples : (a b c d e f : Node)
     → AllHold (fixedOrder (a ∷ b ∷ c ∷ d ∷ []))
     × AllHold (feederCut (a ∷ b ∷ c ∷ d ∷ e ∷ f ∷ []))
     × AllHold (ownMarks (a ∷ b ∷ c ∷ d ∷ []))
     × AllHold (slowReceivers (a ∷ b ∷ c ∷ d ∷ e ∷ []))
-unfolding fixedOrder feederCut ownMarks slowReceivers computed
-request-examples a b c d e f = (
-  refl and refl and tt,
-  refl and refl and refl and refl and refl and refl and refl and refl and tt,
-  refl and refl and refl and refl and tt,
-  refl and refl and refl and refl  -- sponsored and decided
-      and refl and refl and refl  -- the bits, and leaving
-      and refl and refl and refl and refl and refl and refl and refl  -- listening
-      and tt,
-)
+    × AllHold (crossedSlots (a ∷ b ∷ c ∷ d ∷ e ∷ []))
+request-examples a b c d e f = (order-holds a b c d, feeder-holds a b c d e f, marks-hold a b c d, slow-holds a b c d e, crossed-hold a b c d e)

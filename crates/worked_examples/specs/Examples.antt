@@ -50,8 +50,8 @@ allFour = these (1 ∷ 2 ∷ 3 ∷ 4 ∷ [])
 unfoldable pub examples : Table → List Row
 examples lent =
     -- "n = 4, slot 4 has sender 4; slot 5 has 1."
-    (senderOf 4 4 gives speaker.Node 4)
-    ∷ (senderOf 4 5 gives speaker.Node 1)
+    (senderOf (cableOf 4 2) 4 gives speaker.Node 4)
+    ∷ (senderOf (cableOf 4 2) 5 gives speaker.Node 1)
     -- "set {1,3,4}, k = 2: node 1 sponsors 4, 3 and decides 3."
     ∷ (sponsoredOf (cableOf 4 2) (these (1 ∷ 3 ∷ 4 ∷ [])) 1 1 gives finds (found.Member 4 1))
     ∷ (sponsoredOf (cableOf 4 2) (these (1 ∷ 3 ∷ 4 ∷ [])) 1 2 gives finds (found.Member 3 2))

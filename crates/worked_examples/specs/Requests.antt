@@ -4,15 +4,19 @@ use mathlib.Core.Bool.{Bool, true, false}
 use mathlib.Core.List.{List, [], _∷_, _++_}
 use lib.ListN.{replicate}
 use Rattle.nodeset.specs.Sets.{has}
+use Rattle.refusal.specs.Causes.{cause}
 use Rattle.ring.specs.declared.Cable.{Cable}
+use Rattle.ring.specs.declared.Choices.{Choices}
+use Rattle.ring.specs.declared.Speaker.the-variants as speaker
 use Rattle.ring.specs.declared.Found.the-variants as found
-use Rattle.ring.specs.Ring.{cableOf, laggingCable}
-use Rattle.ring.specs.Answers.{finds, sponsoredOf, decidedOf}
+use Rattle.ring.specs.Ring.{cableOf, laggingCable, cableWith}
+use Rattle.ring.specs.Answers.{finds, senderOf, sponsoredOf, decidedOf}
+use Rattle.node.specs.declared.Answer.the-variants as answer
 use Rattle.node_record.specs.declared.Window.{Window}
 use Rattle.node_hearing.specs.Hearing.{clean}
 use Rattle.node_sending.specs.Sending.{bitsSent}
 use Rattle.bench.specs.Table.{Table, recordOf}
-use Rattle.bench.specs.Calls.{slotOf}
+use Rattle.bench.specs.Calls.{setUpGiven, slotOf}
 use Rattle.bench.specs.Pairs.{slotBytes}
 use Rattle.bench.specs.Runs.{Call, off, restart}
 use Rattle.bench.specs.Plans.{ok, lost}
@@ -119,4 +123,30 @@ slowReceivers lent =
     ∷ (clean (cableOf 5 2) (window (1 ∷ 2 ∷ 3 ∷ []) 1) gives false)
     ∷ (clean (cableOf 5 2) (window (1 ∷ 2 ∷ []) 1) gives true)
     ∷ (clean (cableOf 5 2) (window (1 ∷ 2 ∷ []) 0) gives false)
+    ∷ []
+
+-- ---- k: slots out of number order
+
+-- n = 5, k = 2.
+abbrev pub five : Choices
+five = record { n = 5; k = 2; m = 0; lag = 0 }
+
+-- "A slot table says which node speaks at each place": nodes 3, 1, 5, 2 and 4.
+abbrev pub crossed : Cable
+crossed = cableWith five (3 ∷ 1 ∷ 5 ∷ 2 ∷ 4 ∷ [])
+
+-- Over any table of five records that was lent to set-up.
+unfoldable pub crossedSlots : Table → List Row
+crossedSlots lent =
+    -- "Slots, ring, sponsoring and joining follow the table": before node 3 speak 4 and 2,
+    (senderOf crossed 1 gives speaker.Node 3)
+    ∷ (senderOf crossed 7 gives speaker.Node 1)
+    ∷ (sponsoredOf crossed (these (1 ∷ 2 ∷ 3 ∷ 4 ∷ 5 ∷ [])) 3 1 gives finds (found.Member 4 1))
+    ∷ (decidedOf crossed (these (1 ∷ 2 ∷ 3 ∷ 4 ∷ 5 ∷ [])) 3 gives finds (found.Member 2 2))
+    -- and the message of slot 2 is that of node 1, which node 2 decides in slot 4; "sets and printed figures keep node numbers."
+    ∷ (standings (afterOn crossed lent (secondLost 1)) gives replicate 5 (holds (these (1 ∷ 2 ∷ 3 ∷ 4 ∷ 5 ∷ []))))
+    ∷ (standings (afterOn crossed lent (secondLost 2)) gives out 1 ∷ replicate 4 (holds (these (2 ∷ 3 ∷ 4 ∷ 5 ∷ []))))
+    -- "Table of the wrong length: 17, after 14. A node missing or doubled: 18, next".
+    ∷ (setUpGiven five (3 ∷ 1 ∷ 5 ∷ 2 ∷ []) lent .answer gives answer.Refused (cause 17))
+    ∷ (setUpGiven five (3 ∷ 1 ∷ 5 ∷ 2 ∷ 2 ∷ []) lent .answer gives answer.Refused (cause 18))
     ∷ []

@@ -2,7 +2,7 @@
 //! records and change it, slot and off also the ledger of request a, set-up and slot also the counts of request h; a
 //! refused call gives the number of the refusal and leaves all as it was.
 
-use super::choices::Choices;
+use super::choices::Asked;
 use super::counts::{self, Counts};
 use super::ledger::{self, Figures};
 use super::message::{self, Said};
@@ -73,17 +73,22 @@ pub enum Call {
 }
 
 /// "All start as members", a record for each node in the lent table of this length.
-pub fn set_up(chosen: Choices, length: usize) -> Result<Vec<Node>, u32> {
-    let first = Node::set_up(chosen, 1)?;
-    if length != chosen.n as usize {
+pub fn set_up(asked: impl Into<Asked>, length: usize) -> Result<Vec<Node>, u32> {
+    let first = Node::set_up(asked, 1)?;
+    let n = first.chosen.n;
+    if length != n as usize {
         return Err(refusal::UNSOUND);
     }
-    Ok((1..=chosen.n).map(|own| Node { own, ..first }).collect())
+    Ok((1..=n).map(|own| Node { own, ..first }).collect())
 }
 
 /// The same beside the counts, which it clears: "not one array of counts per node in set-up .. gives 4".
-pub fn counted_set_up(chosen: Choices, length: usize, counts: &mut [Counts]) -> Result<Vec<Node>, u32> {
-    let table = set_up(chosen, length)?;
+pub fn counted_set_up(
+    asked: impl Into<Asked>,
+    length: usize,
+    counts: &mut [Counts],
+) -> Result<Vec<Node>, u32> {
+    let table = set_up(asked, length)?;
     counts::check_number(counts, table.len())?;
     counts.fill(counts::NONE);
     Ok(table)

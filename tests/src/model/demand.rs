@@ -177,11 +177,12 @@ impl Demand {
     }
 }
 
-/// "the k-th member after that node, round the ring", which may be the node itself; request j: "leaving falls at the
-/// (k + lag)-th member after"
+/// "the k-th member after that node, round the ring" in slot order, which may be the node itself; request j: "leaving
+/// falls at the (k + lag)-th member after"
 fn deciding(chosen: Choices, list: Set, node: u32) -> Option<u32> {
-    let Choices { n, k, lag, .. } = chosen;
-    let after = |steps| (node + steps - 1) % n + 1;
+    let Choices { n, k, lag, order, .. } = chosen;
+    let place = order.place(n, node)?;
+    let after = |steps| order.speaker((place + steps - 1) % n + 1);
     (1..=n).map(after).filter(|&x| list.has(x)).nth((k + lag) as usize - 1)
 }
 

@@ -16,3 +16,4 @@ pub mod recorded_text;
 pub mod refusal;
 pub mod ring;
 pub mod roll;
+pub mod slot_table;

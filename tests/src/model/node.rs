@@ -1,9 +1,9 @@
 //! Document 01, "The node record", "One slot, for a member, following or knocking node" and
 //! "Listening", with the own mark of document 02, request e, the repeated departure of request f, the jobs of
-//! request h and the lag of request j. Every call takes a record and gives the next one, or the number of the refusal: a
-//! refused record stays as it was.
+//! request h, the lag of request j and the slot table of request k. Every call takes a record and gives the next one, or
+//! the number of the refusal: a refused record stays as it was.
 
-use super::choices::Choices;
+use super::choices::{Asked, Choices};
 use super::counts::{self, Counts};
 use super::message::{self, Said};
 use super::refusal;
@@ -62,7 +62,7 @@ pub struct Clause {
 }
 
 /// "A record is sound if ..": its clauses in the document's order, what "The node record" and "Listening"
-/// say of the values, and the clauses of requests e, h and j.
+/// say of the values, and the clauses of requests e, h, j and k.
 #[rustfmt::skip]
 pub const CLAUSES: &[Clause] = &[
     Clause { says: "n in range", kept: |r| ring::is_size(r.chosen.n) },
@@ -93,6 +93,8 @@ pub const CLAUSES: &[Clause] = &[
     Clause { says: "yes heard only in the member state", kept: |r| !r.yes_heard || r.state == State::Member },
     Clause { says: "m in range", kept: |r| r.chosen.m <= message::MOST_JOBS },
     Clause { says: "lag in range", kept: |r| ring::is_lag(r.chosen.lag) },
+    Clause { says: "slot table has each node once", kept: |r| r.chosen.order.has_each_once(r.chosen.n) },
+    Clause { says: "spare places are 0", kept: |r| r.chosen.order.spare_places_are_0(r.chosen.n) },
 ];
 
 /// A node must leave: with a cause, or because too few members remain.
@@ -103,8 +105,8 @@ pub enum Leaving {
 
 impl Node {
     /// "All start as members, set full, all marks on, returning 0."; yes heard is "cleared at set-up".
-    pub fn set_up(chosen: Choices, own: u32) -> Result<Node, u32> {
-        chosen.check()?;
+    pub fn set_up(asked: impl Into<Asked>, own: u32) -> Result<Node, u32> {
+        let chosen = asked.into().check()?;
         ring::check_node(chosen.n, own)?;
         Ok(Node {
             chosen,

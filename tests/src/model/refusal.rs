@@ -32,3 +32,7 @@ pub const JOBS: u32 = 14;
 pub const TAKEN_BACK: u32 = 15;
 /// request j: "Lag above 1"
 pub const LAG: u32 = 16;
+/// request k: "Table of the wrong length"
+pub const TABLE_LENGTH: u32 = 17;
+/// request k: "A node missing or doubled"
+pub const TABLE_NODES: u32 = 18;

@@ -1,4 +1,4 @@
-//! Document 01, "The ring", and document 02, requests b and j.
+//! Document 01, "The ring", and document 02, requests b, j and k.
 
 use super::choices::Choices;
 use super::refusal;
@@ -44,9 +44,9 @@ pub fn check_node(n: u32, x: u32) -> Result<(), u32> {
     }
 }
 
-/// "The sender of slot s is ((s - 1) mod n) + 1."
+/// "The sender of slot s is ((s - 1) mod n) + 1.": that is its place, at which the slot table says who speaks.
 pub fn sender(chosen: Choices, slot: u64) -> u32 {
-    ((slot - 1) % u64::from(chosen.n)) as u32 + 1
+    chosen.order.speaker(((slot - 1) % u64::from(chosen.n)) as u32 + 1)
 }
 
 /// Nodes of 1 to 32; node 1 is the lowest bit.
@@ -110,11 +110,15 @@ pub struct Met {
 }
 
 /// The members before x, the nearest first, "going back round the ring in slot order"; "the number of slots,
-/// from 1 to n - 1".
+/// from 1 to n - 1". "Slots, ring, sponsoring and joining follow the table".
 pub fn members_before(chosen: Choices, set: Set, x: u32) -> impl Iterator<Item = Met> {
-    let n = chosen.n;
-    let node = move |back| if back < x { x - back } else { x + n - back };
-    (1..n).map(move |back| Met { member: node(back), back }).filter(move |met| set.has(met.member))
+    let Choices { n, order, .. } = chosen;
+    let own = order.place(n, x).into_iter();
+    let round =
+        own.flat_map(move |own| (1..n).map(move |back| (if back < own { own } else { own + n }, back)));
+    round
+        .map(move |(from, back)| Met { member: order.speaker(from - back), back })
+        .filter(move |met| set.has(met.member))
 }
 
 /// "With c members, ks is the smaller of k and c - 1."; "With lag 1 .. the smaller of k and c - 2". Nobody is sponsored

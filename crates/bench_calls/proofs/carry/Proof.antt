@@ -29,9 +29,9 @@ use denote.Triple.Walked.{says, Stays, stay-dropped, stay-slice, walkOf, goes-dr
 use denote.Exit.{yes}
 use Rattle.node_record.specs.declared.Node.{Node}
 use Rattle.node_record.proofs.Node as T
-use Rattle.bench_walks.specs.declared.Order.{Order}
-use Rattle.bench_walks.proofs.Order as O
-use Rattle.bench_walks.proofs.Order.Laws as O′
+use Rattle.bench_walks.specs.declared.Errand.{Errand}
+use Rattle.bench_walks.proofs.Errand as O
+use Rattle.bench_walks.proofs.Errand.Laws as O′
 use Rattle.bench_walks.specs.declared.Notes.{Notes}
 use Rattle.bench_walks.proofs.Notes as N
 use Rattle.bench_walks.proofs.Notes.Laws as N′
@@ -44,7 +44,7 @@ use Rattle.bench_calls.proofs.Work as Wk
 use Rattle.bench_calls.proofs.Work.Laws as Wk′
 use Rattle.bench_walks.specs.Survey.{membersOf}
 use Rattle.bench_walks.specs.Orders.{carriedFrom, notesOf, reachOf}
-use Rattle.bench_walks.proofs.Calls.{Plain, uint, a-struct, an-enum, Known, Does, at, does, lends, shares, arg, frees, of-mut, slice-meets}
+use Rattle.bench_walks.proofs.Calls.{Plain, uint, a-struct, Known, Does, at, does, lends, shares, arg, frees, of-mut, slice-meets}
 use Rattle.bench_walks.proofs.carry_out as carry-out
 use Rattle.bench_walks.proofs.carry_out.Symbol as carry-out-def
 use Rattle.bench_walks.proofs.carry_out.Symbol.{name as #carry-out}
@@ -70,7 +70,7 @@ abbrev stayed : Stays (this.ended .signature .params) (this.ended .kept)
 stayed = (stay-slice (0 ∷ []) tt (plain (λ _. T.the-row)), (stay-dropped (plain (λ _. O.the-row)) yes, tt))
 
 -- what the two walks and the answer give is the work of the definitions
-is-so : (o : Order) (xs zs : List Node) (m : Notes) (j : ℕ) (ms : Members) (r : Work) → (zs ≡ carriedFrom o 0 xs) × (m ≡ notesOf o xs) → j ≡ reachOf m → ms ≡ membersOf (take j zs) → r ≡ record { notes = m; members = ms }
+is-so : (o : Errand) (xs zs : List Node) (m : Notes) (j : ℕ) (ms : Members) (r : Work) → (zs ≡ carriedFrom o 0 xs) × (m ≡ notesOf o xs) → j ≡ reachOf m → ms ≡ membersOf (take j zs) → r ≡ record { notes = m; members = ms }
     → (zs ≡ carriedFrom o 0 xs) × (r ≡ workOf o xs)
 is-so o xs zs m j ms r is-m is-j is-ms is-r =
     let reach : j ≡ reachOf (notesOf o xs) = is-j ∙ ap reachOf (is-m .1) in
@@ -84,8 +84,8 @@ module _ {M : Type 1} (𝓤 : URA M) (H : Heap 𝓤) (A : Atoms 𝓤) (W : Given
   abbrev size : Plain 𝓤 H A (UInt w64)
   size = uint 𝓤 H A W w64
 
-  abbrev order : Plain 𝓤 H A O.the-row
-  order = an-enum 𝓤 H A W O.the-type O′.the-laws O′.the-plain tt
+  abbrev errand : Plain 𝓤 H A O.the-row
+  errand = a-struct 𝓤 H A W O.the-type O′.the-laws O′.the-plain
 
   abbrev notes : Plain 𝓤 H A N.the-row
   notes = a-struct 𝓤 H A W N.the-type N′.the-laws N′.the-plain
@@ -102,32 +102,32 @@ module _ {M : Type 1} (𝓤 : URA M) (H : Heap 𝓤) (A : Atoms 𝓤) (W : Given
   does-worked : Does 𝓤 H A (𝓣 .C) #worked (plain (λ _. N.the-row) ∷ plain (λ _. Ms.the-row) ∷ []) (yes, (yes, tt)) (plain (λ _. Wk.the-row)) (λ a r. r ≡ record { notes = a .0; members = a .1 .0 })
   does-worked = record { clauses = worked.clauses 𝓤 H A mem run; known = known-worked; ghosts = λ a. tt; needs = λ a. id⊢ 𝓤 _; says = λ a r ws. id⊢ 𝓤 _ }
 
-  module _ (κ : Lft) (q : Share) (b o : ℕ) (γ : GName) (xs : List Node) (room : Room T.the-row (length xs)) (w : Order) (g-w : Is O.the-row w (order .val w ∷ [])) where
+  module _ (κ : Lft) (q : Share) (b o : ℕ) (γ : GName) (xs : List Node) (room : Room T.the-row (length xs)) (w : Errand) (g-w : Is O.the-row w (errand .val w ∷ [])) where
     abbrev s : Val
     s = sliceVal (b, o) (length xs)
 
     abbrev Post : Val → SProp 𝓤
-    Post = walkOf 𝓤 H A this.ended stayed (this.clauses 𝓤 H A mem run) .post (((κ, tt), (q, tt), tt, (at T.the-row b o xs γ, (w, tt)), (s ∷ [], (order .val w ∷ [], tt))), tt)
+    Post = walkOf 𝓤 H A this.ended stayed (this.clauses 𝓤 H A mem run) .post (((κ, tt), (q, tt), tt, (at T.the-row b o xs γ, (w, tt)), (s ∷ [], (errand .val w ∷ [], tt))), tt)
 
     exits : (zs : List Node) (r : Work) → Is Wk.the-row r (work .val r ∷ []) → (zs ≡ carriedFrom w 0 xs) × (r ≡ workOf w xs) → length zs ≡ length xs
         → ent 𝓤 (⋆ 𝓤 H A (‵ (MutSlice (named 0) κ T.the-row .own (at T.the-row b o zs γ) (s ∷ [])) ∷ ‵ (flft κ q) ∷ [])) (Post (work .val r))
     exits zs r g-r e l =
         qed W (‵ (MutSlice (named 0) κ T.the-row .own (at T.the-row b o zs γ) (s ∷ [])) ∷ ‵ (flft κ q) ∷ []) ∵
-        suffices ! _ (ends-at 𝓤 H A this.ended stayed (this.clauses 𝓤 H A mem run) W (((κ, tt), (q, tt), tt, (at T.the-row b o xs γ, (w, tt)), (s ∷ [], (order .val w ∷ [], tt))), tt) (work .val r) r (zs, (tt, tt)) (l, (tt, tt))) $ says ! e $
+        suffices ! _ (ends-at 𝓤 H A this.ended stayed (this.clauses 𝓤 H A mem run) W (((κ, tt), (q, tt), tt, (at T.the-row b o xs γ, (w, tt)), (s ∷ [], (errand .val w ∷ [], tt))), tt) (work .val r) r (zs, (tt, tt)) (l, (tt, tt))) $ says ! e $
         nothing ! $ move ! (2 ∷ 0 ∷ []) $ join ! $ frame ! $ nothing ! $ nothing ! $ fjoin ! $ move ! (1 ∷ 0 ∷ []) $ fjoin ! $ frame ! $
         owned ! Wk.the-row (Is Wk.the-row) (work .makes) r _ g-r $ done !
 
-    walk : ent 𝓤 (sep 𝓤 (sem 𝓤 H A (MutSlice (named 0) κ T.the-row .own (at T.the-row b o xs γ) (s ∷ []))) (A .lft κ q)) (WpFn 𝓤 H (𝓣 .C) (𝓣 .Λ) code.function (s ∷ order .val w ∷ []) Post)
+    walk : ent 𝓤 (sep 𝓤 (sem 𝓤 H A (MutSlice (named 0) κ T.the-row .own (at T.the-row b o xs γ) (s ∷ []))) (A .lft κ q)) (WpFn 𝓤 H (𝓣 .C) (𝓣 .Λ) code.function (s ∷ errand .val w ∷ []) Post)
     walk =
-        qed W (‵ (MutSlice (named 0) κ T.the-row .own (at T.the-row b o xs γ) (s ∷ [])) ∷ ‵ (flft κ q) ∷ []) ∵ enter ! (𝓣 .C) (𝓣 .Λ) code.function (s ∷ order .val w ∷ []) _ $
+        qed W (‵ (MutSlice (named 0) κ T.the-row .own (at T.the-row b o xs γ) (s ∷ [])) ∷ ‵ (flft κ q) ∷ []) ∵ enter ! (𝓣 .C) (𝓣 .Λ) code.function (s ∷ errand .val w ∷ []) _ $
         alloc1 ! (λ l₀. alloc1 ! (λ l₁. alloc1 ! (λ l₂. alloc1 ! (λ l₃. alloc1 ! (λ l₄. alloc1 ! (λ l₅. alloc1 ! (λ l₆. alloc1 ! (λ l₇. alloc1 ! (λ l₈. alloc1 ! (λ l₉. alloc0 ! $ params1 ! $
-        pass1 ! (init ! 16 refl (tt, (tt, (record { fits = room .0 }, tt)))) $ pass1 ! (init ! 14 refl (order .typed w g-w)) $ pass0 ! $ move ! (20 ∷ 21 ∷ []) $
-        -- the order is carried out
+        pass1 ! (init ! 16 refl (tt, (tt, (record { fits = room .0 }, tt)))) $ pass1 ! (init ! 14 refl (errand .typed w g-w)) $ pass0 ! $ move ! (20 ∷ 21 ∷ []) $
+        -- the errand is carried out
         assigns ! (addr ! (from ! (fld ! refl (hop ! (look-in ! 18 (sub ! 0 refl (whole !))) (stop !))))) (from ! (stop !)) (init ! 8 refl (tt, tt)) $
         assigns ! (agg ! (and-then ! (arg ! 8 refl) (and-then ! (load ! (from ! (fld ! refl (stop !))) (look-in ! 18 (sub ! 1 refl (whole !)))) (no-more !)))) (from ! (stop !)) (init ! 6 refl (tt, (tt, (record { fits = room .0 }, tt)))) $
         lends ! (fmOf 𝓤 H (W .laws) 𝓣) T.the-row (plain (λ _. O.the-row) ∷ []) (yes, tt) (plain (λ _. N.the-row)) (carry-out.clauses 𝓤 H A mem run) known-carry κ q γ b o xs (length xs) refl room
-        (λ κs. (order, tt)) (λ κs. (w, tt)) (λ κs. (g-w, tt)) (λ κs δ. tt) (λ κs δ. id⊢ 𝓤 _) (λ κs zs m. (zs ≡ carriedFrom w 0 xs) × (m ≡ notesOf w xs)) (λ κs δ r ws. id⊢ 𝓤 _)
-        (λ ν δ i j. and-then ! (arg ! 6 refl) (and-then ! (arg ! 16 refl) (no-more !))) (λ κs. notes) (λ κs Δ. from ! (stop !)) 12 (λ κs. refl) (λ κs zs m g-m same is-m.
+        (λ κs. (errand, tt)) (λ κs. (w, tt)) (λ κs. (g-w, tt)) (λ κs δ. tt) (λ κs δ. id⊢ 𝓤 _) (λ κs zs m. (zs ≡ carriedFrom w 0 xs) × (m ≡ notesOf w xs)) (λ κs δ r ws. id⊢ 𝓤 _)
+        (λ ν δ i j. and-then ! (arg ! 6 refl) (and-then ! (arg ! 16 {i = 2} {v = errand .val w} refl) (no-more !))) (λ κs. notes) (λ κs Δ. from ! (stop !)) 12 (λ κs. refl) (λ κs zs m g-m same is-m.
         does ! (fmOf 𝓤 H (W .laws) 𝓣) does-reach (notes, tt) (m, tt) (g-m, tt) (and-then ! (arg ! 15 refl) (no-more !)) size (from ! (stop !)) 12 refl (λ j g-j is-j.
         -- the members are gathered, where their sets differ
         assigns ! (addr ! (from ! (fld ! refl (hop ! (look-in ! 18 (sub ! 0 refl (whole !))) (stop !))))) (from ! (stop !)) (init ! 4 refl (tt, tt)) $
@@ -136,14 +136,14 @@ module _ {M : Type 1} (𝓤 : URA M) (H : Heap 𝓤) (A : Atoms 𝓤) (W : Given
         (λ κs. (size, tt)) (λ κs. (j, tt)) (λ κs. (g-j, tt)) (λ κs δ. tt) (λ κs δ. id⊢ 𝓤 _) (λ κs ms. ms ≡ membersOf (take j zs)) (λ κs δ r ws. id⊢ 𝓤 _)
         (λ ν δ i j. and-then ! (arg ! 2 refl) (and-then ! (arg ! 12 refl) (no-more !))) (λ κs. members) (λ κs Δ. from ! (stop !)) 8 (λ κs. refl) (λ κs ms g-ms is-ms.
         does ! (fmOf 𝓤 H (W .laws) 𝓣) does-worked (notes, (members, tt)) (m, (ms, tt)) (g-m, (g-ms, tt)) (and-then ! (arg ! 15 refl) (and-then ! (arg ! 11 refl) (no-more !))) work (from ! (stop !)) 20 refl (λ r g-r is-r.
-        returns ! (look ! 20 refl) $ frees ! 20 refl refl $ frees ! 18 refl refl $ frees ! 16 refl refl $ frees ! 14 refl refl $ frees ! 12 refl refl $ frees ! 10 refl refl $ frees ! 8 refl refl $ frees ! 6 refl refl $ frees ! 4 refl refl $ frees ! 2 refl refl $ free0 ! $
+        returns ! (look ! 20 refl) $ frees ! 20 {τ = work .mir} refl refl $ frees ! 18 refl refl $ frees ! 16 {τ = errand .mir} refl refl $ frees ! 14 refl refl $ frees ! 12 refl refl $ frees ! 10 refl refl $ frees ! 8 refl refl $ frees ! 6 refl refl $ frees ! 4 refl refl $ frees ! 2 refl refl $ free0 ! $
         by ! (exits zs r g-r (is-so w xs zs m j ms r is-m is-j is-ms is-r) same)))))))))))))))
 
   meets : Meets 𝓤 H A this.signature (WpFn 𝓤 H (𝓣 .C) (𝓣 .Λ) code.function) (this.spec 𝓤 H A mem run)
   meets =
       slice-meets 𝓤 H A W (of-mut T.the-row) (plain (λ _. O.the-row) ∷ []) (yes, tt) (plain (λ _. Wk.the-row)) (this.clauses 𝓤 H A mem run) stayed
       (goes-slice 𝓤 H A W 1 0 tt (plain (λ _. T.the-row)), (goes-dropped 𝓤 H A W 1 (plain (λ _. O.the-row)) yes (λ κs x f. refl), tt)) (WpFn 𝓤 H (𝓣 .C) (𝓣 .Λ) code.function) (WpFn-mono 𝓤 H (W .laws) 𝓣 code.function)
-      (λ κs. slice-vals) (λ κs. mut-slice-tells (named 0) (κs .0) T.the-row) (λ κs. (order, tt)) (λ κ q x a g is are. walk κ q (x .ptr .0) (x .ptr .1) (x .name) (x .now) (is .0 .1) (a .0) (are .0))
+      (λ κs. slice-vals) (λ κs. mut-slice-tells (named 0) (κs .0) T.the-row) (λ κs. (errand, tt)) (λ κ q x a g is are. walk κ q (x .ptr .0) (x .ptr .1) (x .name) (x .now) (is .0 .1) (a .0) (are .0))
 
 pub carry-spec : {M : Type 1} → stated.statement M
 unfolding code.routine tablesOf

@@ -37,17 +37,17 @@ use denote.Exit.{yes}
 use Rattle.node_record.specs.declared.Node.{Node}
 use Rattle.node.specs.Calls.{noNode}
 use Rattle.bench_walks.specs.declared.Notes.{Notes}
-use Rattle.bench_walks.specs.declared.Order.{Order}
+use Rattle.bench_walks.specs.declared.Errand.{Errand}
 use Rattle.node_record.proofs.Node as T
 use Rattle.node_record.proofs.Node.Laws as T′
 use Rattle.bench_walks.proofs.Notes as P
 use Rattle.bench_walks.proofs.Notes.Laws as P′
-use Rattle.bench_walks.proofs.Order as O
-use Rattle.bench_walks.proofs.Order.Laws as O′
+use Rattle.bench_walks.proofs.Errand as O
+use Rattle.bench_walks.proofs.Errand.Laws as O′
 use Rattle.bench_walks.specs.Survey.{foldFrom}
 use Rattle.bench_walks.specs.Orders.{carried, noticed, noNotes, notesOf}
 use Rattle.bench_walks.proofs.Partly.{fold-none, fold-next, take-all, partly, partly-length, partly-at, partly-next, partly-all}
-use Rattle.bench_walks.proofs.Calls.{Plain, uint, a-struct, an-enum, Known, Does, does, does-over, at, arg, frees, of-mut, slice-meets}
+use Rattle.bench_walks.proofs.Calls.{Plain, uint, a-struct, Known, Does, does, does-over, at, arg, frees, of-mut, slice-meets}
 use Rattle.bench_walks.proofs.Turns.{word, slice, bytes, fits, small, Turn, counts, goes-on, leaves, points}
 use Rattle.bench_walks.proofs.no_notes as begin
 use Rattle.bench_walks.proofs.no_notes.Symbol as begin-def
@@ -79,7 +79,7 @@ module _ {M : Type 1} (𝓤 : URA M) (H : Heap 𝓤) (A : Atoms 𝓤) (W : Given
   notes = a-struct 𝓤 H A W P.the-type P′.the-laws P′.the-plain
 
   abbrev orders : Plain 𝓤 H A O.the-row
-  orders = an-enum 𝓤 H A W O.the-type O′.the-laws O′.the-plain tt
+  orders = a-struct 𝓤 H A W O.the-type O′.the-laws O′.the-plain
 
   -- the three functions that it calls
   does-begin : Does 𝓤 H A (𝓣 .C) begin-def.name [] tt (plain (λ _. P.the-row)) (λ a r. r ≡ noNotes)
@@ -91,7 +91,7 @@ module _ {M : Type 1} (𝓤 : URA M) (H : Heap 𝓤) (A : Atoms 𝓤) (W : Given
   does-notice : Does 𝓤 H A (𝓣 .C) notice-def.name (plain (λ _. P.the-row) ∷ plain (λ _. T.the-row) ∷ plain (λ _. T.the-row) ∷ []) (yes, (yes, (yes, tt))) (plain (λ _. P.the-row)) (λ a r. r ≡ noticed (a .0) (a .1 .0) (a .1 .1 .0))
   does-notice = record { clauses = notice.clauses 𝓤 H A mem run; known = known-notice; ghosts = λ a. tt; needs = λ a. id⊢ 𝓤 _; says = λ a r ws. id⊢ 𝓤 _ }
 
-  module _ (κ : Lft) (q : Share) (b o : ℕ) (γ : GName) (xs : List Node) (room : Room T.the-row (length xs)) (order : Order) (g-o : Is O.the-row order (orders .val order ∷ [])) where
+  module _ (κ : Lft) (q : Share) (b o : ℕ) (γ : GName) (xs : List Node) (room : Room T.the-row (length xs)) (order : Errand) (g-o : Is O.the-row order (orders .val order ∷ [])) where
     abbrev n : ℕ
     n = length xs
 

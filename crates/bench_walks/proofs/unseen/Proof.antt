@@ -1,5 +1,6 @@
 -- `bench_walks::unseen` meets its contract. Assumes nothing.
 use borrow.Author.Needs.{needs}
+use Rattle.slot_table.specs.Order.{numbersFrom, plain}
 use Rattle.bench_walks.specs.Survey.{unseen}
 use Rattle.bench_walks.proofs.unseen.Statement.{statement}
 use Rattle.bench_walks.proofs.unseen.Tie as tie
@@ -8,7 +9,7 @@ begun-requires : tie.Need-begun-requires
 begun-requires c κs = search needs
 
 returns : tie.Need-returns
-unfolding unseen
+unfolding unseen plain numbersFrom
 returns c = c .begun .ensures
 
 pub unseen-spec : {M : Type 1} → statement M

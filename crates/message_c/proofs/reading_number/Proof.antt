@@ -54,7 +54,7 @@ returns c =
     ∙ ap (readingNumber (a .jobs)) (sym (c .before .reading .given .1))
 
 returns-2 : tie.Need-returns-2
-returns-2 c = search needs
+returns-2 c = c .number .ensures ∙ ap (readingNumber (c .before .before .before .before .args .jobs)) (sym (c .before .before .reading2 .given .1))
 
 pub reading-number-spec : {M : Type 1} → statement M
 reading-number-spec =

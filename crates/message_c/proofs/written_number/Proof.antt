@@ -1,7 +1,7 @@
 -- `message_c::written_number` meets its contract. A message has at most 9 bytes, so that the sum fits. Assumes nothing.
 use borrow.Author.Needs.{needs}
 use Prim.Native.Nat.{_≤_}
-use mathlib.Core.Path.{sym, ap, subst}
+use mathlib.Core.Path.{sym, ap, _∙_, subst}
 use native.Mathlib.Omega.{arith}
 use Rattle.message_c.specs.Numbers.{Short, writtenNumber}
 use Rattle.message_c.proofs.written_number.Statement.{statement}
@@ -28,7 +28,7 @@ returns : tie.Need-returns
 returns c = ap writtenNumber (sym (c .before .written .given .1))
 
 returns-2 : tie.Need-returns-2
-returns-2 c = search needs
+returns-2 c = c .number .ensures ∙ ap writtenNumber (sym (c .before .before .written2 .given .1))
 
 pub written-number-spec : {M : Type 1} → statement M
 written-number-spec =

@@ -53,9 +53,10 @@ enum-told c = search needs
 returns-3 : tie.Need-returns-3
 unfolding stepOf
 returns-3 c =
-    let v = c .before .before .before .before .before .before .before .args .v in
-    let good = passed (c .before .before .before .before .before .before .is-sound .ensures) (c .before .before .before .before .before .if1 .left) in
-    absurd (no-refusal (v .cable .n) (v .slots + 1) _ (c .before .before .sender .result) (clauses v good .choices .ring) (c .before .before .sender .ensures) (c .enum-told .given .1))
+    let p = c .before in
+    let v = p .before .before .before .before .before .before .before .args .v in
+    let good = passed (p .before .before .before .before .before .before .is-sound .ensures) (p .before .before .before .before .before .if1 .left) in
+    absurd (no-refusal (v .cable) (v .slots + 1) _ (c .before .before .sender .result) (clauses v good .choices .ring) (c .before .before .sender .ensures) (c .enum-told .given .1))
 
 add-counted : tie.Need-add-counted
 add-counted c = search needs
@@ -69,13 +70,13 @@ after-slot-requires c κs = search needs
 returns-4 : tie.Need-returns-4
 unfolding stepOf
 returns-4 c =
-    let q = c .before .before .before .before .before .before .before in
-    let a = q .before .before .before .before .before .args in
+    let q = c .before .before .before .before .before .before in
+    let a = q .before .before .before .before .before .before .args in
     let v = a .v in
-    let good = passed (q .before .before .before .before .is-sound .ensures) (q .before .before .before .if1 .left) in
-    let s = is-sender (v .cable .n) (v .slots + 1) _ (q .sender .result) (clauses v good .choices .ring) (q .sender .ensures) (c .before .before .before .before .before .speaker .given .1) in
+    let good = passed (q .before .before .before .before .before .is-sound .ensures) (q .before .before .before .before .if1 .left) in
+    let s = is-sender (v .cable) (v .slots + 1) _ (q .sender .result) (clauses v good .choices .ring) (q .sender .ensures) (c .before .before .before .before .speaker .given .1) in
     ap done (by-own-digest _ _ (a .heard) v _ _ good (c .after-slot .ensures) (c .before .digest-of .ensures) s)
-    ∙ sym (chosen _ _ good ∙ otherwise _ _ (lt-leb _ _ (q .before .if2 .left)))
+    ∙ sym (chosen _ _ good ∙ otherwise _ _ (lt-leb _ _ (q .before .before .if2 .left)))
 
 pub after-step-spec : {M : Type 1} → statement M
 after-step-spec =

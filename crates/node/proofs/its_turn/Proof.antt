@@ -18,16 +18,16 @@ enum-told : tie.Need-enum-told
 enum-told c = search needs
 
 returns : tie.Need-returns
-returns c = absurd (no-refusal (c .before .before .before .args .v .cable .n) (c .before .before .before .args .v .slots + 1) _ (c .before .before .sender .result) (c .before .before .before .pre) (c .before .before .sender .ensures) (c .enum-told .given .1))
+returns c = absurd (no-refusal (c .before .before .before .before .args .v .cable) (c .before .before .before .before .args .v .slots + 1) _ (c .before .before .sender .result) (c .before .before .before .before .pre) (c .before .before .sender .ensures) (c .enum-told .given .1))
 
 sends-requires : tie.Need-sends-requires
 sends-requires c κs = search needs
 
 returns-2 : tie.Need-returns-2
 returns-2 c =
-    let v = c .before .before .before .before .before .before .args .v in
+    let v = c .before .before .before .before .before .before .before .args .v in
     ap₂ (λ (s : ℕ) (b : Bool). eqb s (v .own) && b)
-    (is-sender (v .cable .n) (v .slots + 1) _ (c .before .before .before .before .before .sender .result) (c .before .before .before .before .before .before .pre) (c .before .before .before .before .before .sender .ensures) (c .before .before .before .speaker .given .1))
+    (is-sender (v .cable) (v .slots + 1) _ (c .before .before .before .before .before .sender .result) (c .before .before .before .before .before .before .before .pre) (c .before .before .before .before .before .sender .ensures) (c .before .before .before .speaker .given .1))
     (c .sends .ensures)
 
 pub its-turn-spec : {M : Type 1} → statement M

@@ -21,8 +21,8 @@ enum-told c = search needs
 returns : tie.Need-returns
 returns c =
     let q = c .before .before in
-    let v = q .before .args .v in
-    absurd (no-refusal (v .cable .n) (v .slots + 1) _ (q .sender .result) (q .before .pre) (q .sender .ensures) (c .enum-told .given .1))
+    let v = q .before .before .args .v in
+    absurd (no-refusal (v .cable) (v .slots + 1) _ (q .sender .result) (q .before .before .pre) (q .sender .ensures) (c .enum-told .given .1))
 
 hears-report-requires : tie.Need-hears-report-requires
 hears-report-requires c κs = search needs
@@ -31,18 +31,18 @@ returns-2 : tie.Need-returns-2
 unfolding reporterIn
 returns-2 c =
     let q = c .before .before .before .before .before in
-    let a = q .before .args in
+    let a = q .before .before .args in
     let v = a .v in
-    let s = is-sender (v .cable .n) (v .slots + 1) _ (q .sender .result) (q .before .pre) (q .sender .ensures) (c .before .before .before .speaker .given .1) in
+    let s = is-sender (v .cable) (v .slots + 1) _ (q .sender .result) (q .before .before .pre) (q .sender .ensures) (c .before .before .before .speaker .given .1) in
     sym (chosen _ 0 (told (c .before .hears-report .ensures) (c .if1 .taken))) ∙ ap (λ (x : ℕ). cond (hearsReport x (a .heard) v) x 0) s
 
 returns-3 : tie.Need-returns-3
 unfolding reporterIn
 returns-3 c =
     let q = c .before .before .before .before .before in
-    let a = q .before .args in
+    let a = q .before .before .args in
     let v = a .v in
-    let s = is-sender (v .cable .n) (v .slots + 1) _ (q .sender .result) (q .before .pre) (q .sender .ensures) (c .before .before .before .speaker .given .1) in
+    let s = is-sender (v .cable) (v .slots + 1) _ (q .sender .result) (q .before .before .pre) (q .sender .ensures) (c .before .before .before .speaker .given .1) in
     sym (otherwise _ 0 (told (c .before .hears-report .ensures) (c .if1 .left))) ∙ ap (λ (x : ℕ). cond (hearsReport x (a .heard) v) x 0) s
 
 pub reporter-spec : {M : Type 1} → statement M

@@ -76,7 +76,7 @@ returns-3 c =
     let q = c .before .before .before in
     let r = q .before .before in
     let a = r .before .before .before .args in
-    let s = sender (a .v .cable .n) (a .v .slots + 1) in
+    let s = sender (a .v .cable) (a .v .slots + 1) in
     let stepped = stepOf (a .received .reading) (a .v) in
     let made : isDone (stepped .answer) ≡ true = sym (ap (λ (s : Stepped). isDone (s .answer)) (r .after-step .ensures)) ∙ passed (q .before .is-done .ensures) (q .if2 .left) in
     c .with-counts3 .ensures

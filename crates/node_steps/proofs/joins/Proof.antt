@@ -18,7 +18,7 @@ some x b e = ap (λ (c : Bool). not c && b) (ne-eqb x 0 e)
 returns : tie.Need-returns
 returns c =
     let a = c .before .before .args in
-    sym (none (a .v .returning) (isFound (a .s) (memberBefore (a .v .cable .n) (a .v .set) (a .v .returning) 1)) (c .if1 .taken))
+    sym (none (a .v .returning) (isFound (a .s) (memberBefore (a .v .cable) (a .v .set) (a .v .returning) 1)) (c .if1 .taken))
 
 member-before-requires : tie.Need-member-before-requires
 member-before-requires c κs = search needs
@@ -28,8 +28,8 @@ is-found-requires c κs = search needs
 
 returns-2 : tie.Need-returns-2
 returns-2 c =
-    let a = c .before .before .before .before .args in
-    c .is-found .ensures ∙ ap (isFound (a .s)) (c .before .member-before .ensures) ∙ sym (some (a .v .returning) (isFound (a .s) (memberBefore (a .v .cable .n) (a .v .set) (a .v .returning) 1)) (c .before .before .if1 .left))
+    let a = c .before .before .before .before .before .args in
+    c .is-found .ensures ∙ ap (isFound (a .s)) (c .before .member-before .ensures) ∙ sym (some (a .v .returning) (isFound (a .s) (memberBefore (a .v .cable) (a .v .set) (a .v .returning) 1)) (c .before .before .before .if1 .left))
 
 pub joins-spec : {M : Type 1} → statement M
 joins-spec = tie.close (tie.spec returns member-before-requires is-found-requires returns-2)

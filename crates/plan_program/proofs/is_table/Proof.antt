@@ -17,9 +17,9 @@ use Rattle.plan_program.specs.Program.{isRefused}
 use Rattle.plan_program.proofs.is_table.Statement.{statement}
 use Rattle.plan_program.proofs.is_table.Tie as tie
 
-look-tells : (n room : ℕ) (ledger : Ledger) (counts : List Counts) (rows : Rows) → not (isRefused (callWith n (Look false) room ledger counts rows .0 .outcome)) ≡ tableSound (tableOf n rows)
+look-tells : (n room : ℕ) (slots : List ℕ) (ledger : Ledger) (counts : List Counts) (rows : Rows) → not (isRefused (callWith n (Look false) slots room ledger counts rows .0 .outcome)) ≡ tableSound (tableOf n rows)
 unfolding callWith keptOf lookOf
-look-tells n room ledger counts rows = go (tableSound (tableOf n rows))
+look-tells n room slots ledger counts rows = go (tableSound (tableOf n rows))
   where
     go : (b : Bool) → not (isRefused (ended n rows (endedBy (Look false) (tableOf n rows) (ifPassed b 4 (tableOf n rows) (done (tableOf n rows)))) .outcome)) ≡ b
     go true = refl
@@ -34,6 +34,9 @@ slice-aggregate-call-2 c = search needs
 slice-aggregate-call-3 : tie.Need-slice-aggregate-call-3
 slice-aggregate-call-3 c = search needs
 
+slice-aggregate-call-4 : tie.Need-slice-aggregate-call-4
+slice-aggregate-call-4 c = search needs
+
 call-requires : tie.Need-call-requires
 call-requires c κs = search needs
 
@@ -42,10 +45,10 @@ is-refused-requires c κs = search needs
 
 returns : tie.Need-returns
 returns c =
-    let a = c .before .before .before .before .before .before .before .before .args in
+    let a = c .before .before .before .before .before .before .before .before .before .args in
     ap not (c .is-refused .ensures)
     ∙ ap (λ (r : Ran × Ledger × List Counts). not (isRefused (r .0 .outcome))) (c .before .before .before .before .call .ensures .0)
-    ∙ look-tells (a .n) 64 (figures 0 0 0 ∷ []) (noReports ∷ []) (a .rows)
+    ∙ look-tells (a .n) 64 (0 ∷ []) (figures 0 0 0 ∷ []) (noReports ∷ []) (a .rows)
 
 pub is-table-spec : {M : Type 1} → statement M
-is-table-spec = tie.close (tie.spec slice-aggregate-call slice-aggregate-call-2 slice-aggregate-call-3 call-requires is-refused-requires returns)
+is-table-spec = tie.close (tie.spec slice-aggregate-call slice-aggregate-call-2 slice-aggregate-call-3 slice-aggregate-call-4 call-requires is-refused-requires returns)

@@ -53,7 +53,7 @@ use Rattle.plan_program.specs.declared.Ahead.{Ahead}
 use Rattle.plan_program.proofs.Ahead as Z
 use Rattle.plan_program.proofs.Ahead.Laws as Z′
 use Rattle.bench_walks.specs.Orders.{carriedFrom}
-use Rattle.plan_run.specs.Inner.{orderOn, outcomeOn}
+use Rattle.plan_run.specs.Inner.{errandOn, outcomeOn}
 use Rattle.plan_program.specs.Calls.{bytesIn, planSound, runPiece}
 use Rattle.plan_program.specs.Inner.{begunOf, cameOf, rowsFor, sizeOf, sought, Goes, Told}
 use Rattle.bench_walks.proofs.Calls.{Plain, uint, boolean, a-struct, an-enum, Known, Does, at, does, lends, arg, frees}
@@ -242,7 +242,7 @@ module _ {M : Type 1} (𝓤 : URA M) (H : Heap 𝓤) (A : Atoms 𝓤) (W : Given
             assigns ! (agg ! (and-then ! (arg ! 11 refl) (and-then ! (arg ! 25 refl) (no-more !)))) (from ! (stop !)) (init ! 9 refl (tt, (tt, (record { fits = small m (h .ys) len }, tt)))) $
             lends-rows ! (fmOf 𝓤 H (W .laws) 𝓣) (plain (λ _. Q.the-row) ∷ []) (yes, tt) (plain (λ _. Out.the-row)) (run-line.clauses 𝓤 H A mem run) known-run l₇ (h .ys) (h .g-ys) m
             (λ κs. (act, tt)) (λ κs. (a, tt)) (λ κs. (g-a, tt)) (λ κs δ. tt) (λ κs δ. factI 𝓤 (1 ≤ length (take m (h .ys))) (emp 𝓤) (some-rows m (h .ys) len (size-range (h .g .size) .0)))
-            (λ κs zs r. (zs ≡ carriedFrom (orderOn a (take m (h .ys))) 0 (take m (h .ys))) × (r ≡ outcomeOn a (take m (h .ys)))) (λ κs δ r ws. id⊢ 𝓤 _)
+            (λ κs zs r. (zs ≡ carriedFrom (errandOn a (take m (h .ys))) 0 (take m (h .ys))) × (r ≡ outcomeOn a (take m (h .ys)))) (λ κs δ r ws. id⊢ 𝓤 _)
             (λ ν i j k. and-then ! (arg ! 11 refl) (and-then ! (arg ! 25 refl) (no-more !))) (λ κs. outcome) (λ κs Δ. from ! (stop !)) 20 (λ κs. refl) (λ κs zs r g-r did g-us.
             -- what there is to print of it is put
             assigns ! (addr ! (from ! (fld ! refl (hop ! (look-in ! 32 (sub ! 0 refl (whole !))) (stop !))))) (from ! (stop !)) (init ! 7 refl (tt, tt)) $
@@ -256,7 +256,7 @@ module _ {M : Type 1} (𝓤 : URA M) (H : Heap 𝓤) (A : Atoms 𝓤) (W : Given
             passes ! (fmOf 𝓤 H (W .laws) 𝓣) (UInt w8) (plain (λ _. G.the-row) ∷ []) (yes, tt) (plain (λ _. G.the-row)) (seek.clauses 𝓤 H A mem run) known-seek κ q γ b o input
             (going, tt) (t, tt) (g-t, tt) tt (factI 𝓤 (t .at ≤ length input) (emp 𝓤) (subst (λ (i : ℕ). i ≤ length input) (sym (ap (λ (u : Going). u .at) (told .is))) (begins (h .stands) some))) (λ u. u ≡ sought input t) (λ r ws. id⊢ 𝓤 _)
             (λ i j. and-then ! (arg ! 34 refl) (and-then ! (arg ! 19 refl) (no-more !))) going (λ Δ. from ! (stop !)) 15 refl (λ u g-u is-u.
-            let did′ : (zs ≡ carriedFrom (orderOn (h .g .act) (take m (h .ys))) 0 (take m (h .ys))) × (r ≡ outcomeOn (h .g .act) (take m (h .ys))) = subst (λ (e : Act). (zs ≡ carriedFrom (orderOn e (take m (h .ys))) 0 (take m (h .ys))) × (r ≡ outcomeOn e (take m (h .ys)))) is-a did in
+            let did′ : (zs ≡ carriedFrom (errandOn (h .g .act) (take m (h .ys))) 0 (take m (h .ys))) × (r ≡ outcomeOn (h .g .act) (take m (h .ys))) = subst (λ (e : Act). (zs ≡ carriedFrom (errandOn e (take m (h .ys))) 0 (take m (h .ys))) × (r ≡ outcomeOn e (take m (h .ys)))) is-a did in
             let next : Here = record { g = u; g-g = g-u; ys = zs ++ dropping m (h .ys); g-ys = g-us; ws = us; same = same ∙ h .same; stands = turns (h .stands) some t u r zs us len same did′ told is-u } in
             assigns-last ! (of-opd ! (arg ! 17 refl)) (from ! (stop !)) (store ! 28 refl (going .typed u g-u)) $
             forget ! 5 refl $ forget ! 7 refl $ forget ! 9 refl $ forget ! 11 refl $ forget ! 13 refl $ forget ! 17 refl $ forget ! 19 refl $ forget ! 21 refl $ forget ! 23 refl $ forget ! 25 refl $

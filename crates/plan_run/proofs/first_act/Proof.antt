@@ -1,16 +1,9 @@
 -- `plan_run::first_act` meets its contract, case by case. Assumes nothing.
 use mathlib.Core.Path.{sym, ap, _∙_}
-use Rattle.ring.specs.declared.Cable.{Cable}
-use Rattle.bench.specs.declared.Command.the-variants as command
-use Rattle.plan_run.specs.declared.Act.{Act}
-use Rattle.plan_run.specs.declared.Act.the-variants as act
 use Rattle.plan_run.specs.Inner.{openingAct}
 use borrow.Author.Needs.{needs}
 use Rattle.plan_run.proofs.first_act.Statement.{statement}
 use Rattle.plan_run.proofs.first_act.Tie as tie
-
-abbrev setsUp : Cable → Act
-setsUp cable = act.Call (command.SetUp cable)
 
 opening-of-requires : tie.Need-opening-of-requires
 opening-of-requires c κs = search needs
@@ -21,12 +14,8 @@ enum-known-opening c = search needs
 enum-known-opening-2 : tie.Need-enum-known-opening-2
 enum-known-opening-2 c = search needs
 
-cable-of-requires : tie.Need-cable-of-requires
-cable-of-requires c κs = search needs
-
 returns : tie.Need-returns
-returns c =
-    ap setsUp (c .cable-of .ensures) ∙ sym (ap openingAct (c .before .before .opening .given .1)) ∙ ap openingAct (c .before .before .before .before .opening-of .ensures)
+returns c = sym (ap openingAct (c .before .opening .given .1)) ∙ ap openingAct (c .before .before .before .opening-of .ensures)
 
 returns-2 : tie.Need-returns-2
 returns-2 c = sym (ap openingAct (c .before .opening2 .given .1)) ∙ ap openingAct (c .before .before .before .opening-of .ensures)
@@ -34,4 +23,4 @@ returns-2 c = sym (ap openingAct (c .before .opening2 .given .1)) ∙ ap opening
 pub first-act-spec : {M : Type 1} → statement M
 first-act-spec =
     tie.close
-    (tie.spec opening-of-requires enum-known-opening cable-of-requires enum-known-opening-2 returns returns-2)
+    (tie.spec opening-of-requires enum-known-opening enum-known-opening-2 returns returns-2)

@@ -16,10 +16,10 @@ enum-known-act-2 : tie.Need-enum-known-act-2
 enum-known-act-2 c = search needs
 
 returns : tie.Need-returns
-returns c = c .order-of .ensures ∙ sym (ap (λ (a : Act). orderBy a (c .before .before .before .before .args .s) (c .before .before .before .before .args .size)) (c .before .before .act .given .1))
+returns c = c .order-of .ensures ∙ sym (ap (λ (a : Act). orderBy a (c .before .before .before .before .args .s) (c .before .before .before .before .args .size) (c .before .before .before .before .args .beside)) (c .before .before .act .given .1))
 
 returns-2 : tie.Need-returns-2
-returns-2 c = sym (ap (λ (a : Act). orderBy a (c .before .before .before .args .s) (c .before .before .before .args .size)) (c .before .act2 .given .1))
+returns-2 c = sym (ap (λ (a : Act). orderBy a (c .before .before .before .args .s) (c .before .before .before .args .size) (c .before .before .before .args .beside)) (c .before .act2 .given .1))
 
 pub order-by-spec : {M : Type 1} → statement M
 order-by-spec =

@@ -22,9 +22,9 @@ unfolding memberBefore
 returns c =
     let a = c .before .before .before .args in
     c .found-at .ensures
-    ∙ ap (foundAt (a .n)) (c .before .walk .ensures)
-    ∙ ap (λ (p : Place). foundAt (a .n) (reach (p .left) (a .n) (a .set) (a .x) (a .j))) (c .before .before .start-at .ensures)
-    ∙ reach-finds (startAt (a .n) (a .x) .left) (a .n) (a .set) (a .x) (a .j)
+    ∙ ap (foundAt (a .cable .n)) (c .before .walk .ensures)
+    ∙ ap (λ (p : Place). foundAt (a .cable .n) (reach (p .left) (a .cable) (a .set) (p .place) (a .j))) (c .before .before .start-at .ensures)
+    ∙ reach-finds (startAt (a .cable) (a .x) .left) (a .cable) (a .set) (startAt (a .cable) (a .x) .place) (a .j)
 
 pub member-before-spec : {M : Type 1} → statement M
 member-before-spec = tie.close (tie.spec start-at-requires walk-requires found-at-requires returns)

@@ -10,11 +10,11 @@ sub-result c = search needs
 
 returns : tie.Need-returns
 unfolding previous
-returns c = simp (le-leb (c .before .args .x) 1 (c .if1 .taken))
+returns c = simp (le-leb (c .before .args .p) 1 (c .if1 .taken))
 
 returns-2 : tie.Need-returns-2
 unfolding previous
-returns-2 c = simp (lt-leb (c .before .args .x) 1 (c .if1 .left))
+returns-2 c = simp (lt-leb (c .before .args .p) 1 (c .if1 .left))
 
 pub previous-spec : {M : Type 1} → statement M
 previous-spec = tie.close (tie.spec sub-result returns returns-2)

@@ -23,7 +23,7 @@ returns-2 : tie.Need-returns-2
 returns-2 c =
     let a = c .before .before .before .before .args in
     c .walk .ensures
-    ∙ ap (λ (p : Place). reach (p .left) (a .cable .n) (a .set) (a .x) (a .cable .lag)) (c .before .before .before .start-at .ensures)
+    ∙ ap (λ (p : Place). reach (p .left) (a .cable) (a .set) (p .place) (a .cable .lag)) (c .before .before .before .start-at .ensures)
     ∙ sym (otherwise _ _ (ne-eqb (a .cable .lag) 0 (c .before .if1 .left)))
 
 pub sponsors-from-spec : {M : Type 1} → statement M

@@ -6,10 +6,12 @@ use super::tally::History;
 use comparison::child;
 use comparison::events::{several, KINDS};
 use comparison::messages::hex;
-use comparison::model::choices::Choices;
+use comparison::model::choices::Asked;
 use comparison::model::node::{Node, State};
+use comparison::model::slot_table::Order;
 use comparison::record_bytes::{shown_counts, shown_record, Reader, RECORD};
 use comparison::report::Count;
+use comparison::slot_tables;
 use std::io::Read;
 
 /// An off that is carried out, by the node's state before it.
@@ -92,6 +94,9 @@ fn note_tables(count: &mut Count, command: &Command, told: &Told, (before, after
 
 fn note(count: &mut Count, command: &Command, told: &Told, answer: &[u8]) {
     count.expected(u32::from(told.number));
+    if let (Command::Call(Call::SetUp(asked), _), 0) = (command, told.number) {
+        slot_tables::note(count, asked.n, Order::kept(asked.slots.bytes()));
+    }
     if let Command::Call(Call::Slot { .. }, _) = command {
         note_pairs(count, &answer[HEAD..HEAD + 2 * told.pairs as usize]);
     }
@@ -165,7 +170,9 @@ fn shown_command(command: &Command) -> String {
 
 fn shown_call(call: Call) -> String {
     match call {
-        Call::SetUp(Choices { n, k, m, lag }) => format!("set-up n = {n}, k = {k}, m = {m}, lag {lag}"),
+        Call::SetUp(Asked { n, k, m, lag, slots }) => {
+            format!("set-up n = {n}, k = {k}, m = {m}, lag {lag}, table {:?}", slots.bytes())
+        }
         Call::Off(x) => format!("off {x}"),
         Call::Restart(x) => format!("restart {x}"),
         Call::Slot { lost, missed, jobs } => {

@@ -124,7 +124,7 @@ fn start(script: &mut Script, random: &mut Random, (n, k, m): (u32, u32, u32)) -
     script.push(Command::Size(n as u8));
     script.push(Command::Arrays(n as u8));
     script.lend(random, &vec![Figures::default(); n as usize]);
-    script.call(random, Call::SetUp(Choices { n, k, m, lag: 0 }));
+    script.call(random, Call::SetUp(Choices::of(n, k, m, 0).into()));
     Expected(vec![NONE; n as usize])
 }
 
@@ -156,7 +156,7 @@ fn refused(
     expected: &mut Expected,
 ) -> Result<(), String> {
     let (n, slots) = (expected.0.len() as u8, script.table()[0].slots);
-    let set_up = |m, lag| Call::SetUp(Choices { n: u32::from(n), k: 2, m, lag });
+    let set_up = |m, lag| Call::SetUp(Choices::of(u32::from(n), 2, m, lag).into());
     for (arrays, call, number) in [
         (n, ok(0b1000), 8),
         (n - 1, ok(0b1000), 4),

@@ -12,14 +12,16 @@ use comparison::adversary::Adversary;
 use comparison::events::{COUNTED, UNCOUNTED};
 use comparison::messages::{job_byte, spare_job_byte};
 use comparison::model::bench::{self, Document01};
-use comparison::model::choices::Choices;
+use comparison::model::choices::{Asked, Choices};
 use comparison::model::counts::NONE;
 use comparison::model::ledger::Figures;
 use comparison::model::node::Node;
 use comparison::model::ring::LIMIT;
+use comparison::model::slot_table::Slots;
 use comparison::random::Random;
 use comparison::records::{choices_of, lag, spoil};
 use comparison::report::Count;
+use comparison::slot_tables;
 
 const SLOT: Call = Call::Slot { lost: false, missed: 0, jobs: 0 };
 
@@ -154,7 +156,7 @@ pub fn numbers(count: &mut Count) -> Result<(), String> {
     let mut random = Random::new(125);
     let mut script = Script::new();
     script.push(Command::Size(3));
-    answered(count, &mut random, &mut script, (Call::SetUp(Choices::plain(3, 2)), 4))?;
+    answered(count, &mut random, &mut script, (Call::SetUp(Choices::plain(3, 2).into()), 4))?;
     for n in 3..=32 {
         for arrays in (0..=35).chain([64, 255]) {
             let (chosen, slots) = tables::ring_of(&mut random, n);
@@ -171,7 +173,7 @@ pub fn numbers(count: &mut Count) -> Result<(), String> {
             answered(count, &mut random, &mut script, (Call::Look { lost: false }, 0))?;
             let last = arrays.min(32);
             script.push(Command::Count { array: last, row: 31, job: 7, count: 1 });
-            answered(count, &mut random, &mut script, (Call::SetUp(chosen), expected))?;
+            answered(count, &mut random, &mut script, (Call::SetUp(chosen.into()), expected))?;
             script.push(Command::Counts(last));
             script.push(Command::Counts(last.saturating_sub(1)));
         }
@@ -312,11 +314,29 @@ pub fn order(count: &mut Count) -> Result<(), String> {
     compare(count, &script.commands)
 }
 
+/// What set-up is given for n nodes, with these causes: 1, 16, 2, 14, and 17 and 18 as causes 6 and 7.
+fn asked_with(random: &mut Random, n: u32, wrong: impl Fn(u32) -> bool) -> Asked {
+    let mut slots = slot_tables::table(random, n);
+    if wrong(7) {
+        slot_tables::make_wrong(random, &mut slots, n as usize % 4);
+    }
+    if wrong(6) {
+        slots.push(0);
+    }
+    Asked {
+        n: if wrong(0) { 33 } else { n },
+        k: if wrong(2) { 1 } else { 2 },
+        m: if wrong(3) { 9 } else { random.below(9) as u32 },
+        lag: if wrong(1) { 2 } else { lag(random, n) },
+        slots: Slots::new(&slots),
+    }
+}
+
 /// Set-up's causes with the number of arrays in view: any counts are cleared, or all are left.
 pub fn set_ups(count: &mut Count) -> Result<(), String> {
     let mut random = Random::new(129);
     let mut script = Script::new();
-    for i in 0..64 * 20_u32 {
+    for i in 0..256 * 10_u32 {
         let wrong = |cause: u32| i >> cause & 1 == 1;
         let n = random.within(3, 31) as u8;
         let array = random.below(u64::from(n)) as u8;
@@ -324,17 +344,12 @@ pub fn set_ups(count: &mut Count) -> Result<(), String> {
         script.push(Command::Count { array, row: place.0, job: place.1, count: random.number() });
         script.push(Command::Size(if wrong(4) { n + 1 } else { n }));
         script.push(Command::Arrays(if wrong(5) { [n - 1, n + 1][random.below(2) as usize] } else { n }));
-        let call = Call::SetUp(Choices {
-            n: if wrong(0) { 33 } else { u32::from(n) },
-            k: if wrong(2) { 1 } else { 2 },
-            m: if wrong(3) { 9 } else { random.below(9) as u32 },
-            lag: if wrong(1) { 2 } else { lag(&mut random, u32::from(n)) },
-        });
-        let first = (0..6).find(|&cause| wrong(cause)).unwrap_or(6) as usize;
-        answered(count, &mut random, &mut script, (call, [1, 16, 2, 14, 4, 4, 0][first]))?;
+        let call = Call::SetUp(asked_with(&mut random, u32::from(n), wrong));
+        let first = [0, 1, 2, 3, 6, 7, 4, 5].iter().position(|&cause| wrong(cause)).unwrap_or(8);
+        answered(count, &mut random, &mut script, (call, [1, 16, 2, 14, 17, 18, 4, 4, 0][first]))?;
         script.push(Command::Counts(array));
         let cleared = script.arrays()[..usize::from(n)].iter().all(|counts| *counts == NONE);
-        count.check(first != 6 || cleared, || "set-up leaves a count by the model".to_string())?;
+        count.check(first != 8 || cleared, || "set-up leaves a count by the model".to_string())?;
     }
     compare(count, &script.commands)
 }

@@ -8,6 +8,7 @@ use super::script::{Script, ENOUGH};
 use super::tables;
 use comparison::events::KINDS;
 use comparison::model::bench::{next_sender, Kind};
+use comparison::model::choices::Choices;
 use comparison::model::node::{Cause, ListeningData, Node, State};
 use comparison::model::ring::Set;
 use comparison::random::Random;
@@ -34,13 +35,19 @@ fn role(random: &mut Random, node: &Node, sender: u32) -> Role {
 
 /// The node whose slot comes after this one's.
 fn after(node: &Node) -> u32 {
-    node.own % node.chosen.n + 1
+    next_to(node.chosen, node.own)
+}
+
+/// The same of node x.
+fn next_to(Choices { n, order, .. }: Choices, x: u32) -> u32 {
+    let place = order.place(n, x).expect("the table has each node");
+    order.speaker(place % n + 1)
 }
 
 /// Two nodes other than this one: that of the next slot, and the sender unless it is one of these.
 fn two_others(node: &Node, sender: u32) -> Set {
     let next = after(node);
-    let far = if sender != node.own && sender != next { sender } else { next % node.chosen.n + 1 };
+    let far = if sender != node.own && sender != next { sender } else { next_to(node.chosen, next) };
     Set::EMPTY.with(next).with(far)
 }
 

@@ -45,7 +45,7 @@ pub fn lengths(count: &mut Count) -> Result<(), String> {
             // No other call tests it.
             script.call(&mut random, Call::Restart(n));
             answered(count, &mut random, &mut script, (Call::Look { lost: false }, 0))?;
-            answered(count, &mut random, &mut script, (Call::SetUp(chosen), 0))?;
+            answered(count, &mut random, &mut script, (Call::SetUp(chosen.into()), 0))?;
         }
     }
     compare(count, &script.commands)

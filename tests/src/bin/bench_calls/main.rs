@@ -11,6 +11,7 @@ mod refusals;
 mod reports;
 mod runs;
 mod script;
+mod set_ups;
 mod tables;
 mod tally;
 mod vectors;
@@ -50,28 +51,53 @@ const CASES: &[Case] = &[
         run: vectors::figures,
     },
     Case {
+        name: "vectors: senders, lists and pairs of runs with a slot table, by request k, model and program",
+        meets: &[0],
+        run: set_ups::runs,
+    },
+    Case {
+        name: "vectors: set-up with slot tables by request k, model and program",
+        meets: &[0, 4, 14, 17, 18],
+        run: set_ups::typed,
+    },
+    Case {
+        name: "set-up: slot tables of every length from 0 to 40 and with a wrong place, for every n",
+        meets: &[0, 17, 18],
+        run: set_ups::every_length,
+    },
+    Case {
+        name: "set-up: slot tables right and wrong among several causes at once",
+        meets: &[0, 1, 2, 4, 14, 16, 17, 18],
+        run: set_ups::order,
+    },
+    Case {
+        name: "slot tables: any that are lent to slot, off, restart and look",
+        meets: &[0, 17, 18],
+        run: set_ups::lent_to_others,
+    },
+    Case {
         name: "set-up: any rows, every number of them, n, k, m and lag in range and out of it",
         meets: &[0, 1, 2, 4, 14, 16],
         run: refusals::set_up,
     },
     Case {
         name: "runs: every n, k and lag, with losses, misses, offs, restarts, looks and refused calls; tally",
-        meets: &[0, 2, 3, 4, 8, 9, 11, 13, 14, 16],
+        meets: &[0, 2, 3, 4, 8, 9, 11, 13, 14, 16, 17, 18],
         run: runs::every_n_and_k,
     },
     Case {
         name: "runs: long ones of n from 3 to 9; tally",
-        meets: &[0, 2, 3, 4, 8, 9, 11, 13, 14, 16],
+        meets: &[0, 2, 3, 4, 8, 9, 11, 13, 14, 16, 17, 18],
         run: runs::small_rings_without_lag,
     },
     Case {
         name: "runs: long ones of n from 4 to 10 with lag 1; tally",
-        meets: &[0, 2, 3, 4, 8, 9, 11, 13, 14, 16],
+        meets: &[0, 2, 3, 4, 8, 9, 11, 13, 14, 16, 17, 18],
         run: runs::small_rings_with_lag,
     },
     Case {
         name: "runs: 6,000 calls in which the nodes go and come back all the time; tally",
-        meets: &[0, 2, 3, 4, 8, 9, 11, 13, 14, 16],
+        meets: &[0, 2, 3, 4, 8, 9, 11, 13, 14, 16, 17, 18],
         run: runs::lasting,
     },
     Case { name: "tables: any sound records, every call", meets: &[0, 11], run: tables::sound },
@@ -81,7 +107,7 @@ const CASES: &[Case] = &[
         run: tables::unsound_record,
     },
     Case {
-        name: "tables: sound records that are no table: numbers, n, k, m, lag, slot count, size",
+        name: "tables: sound records that are no table: numbers, n, k, m, lag, slot table, slot count, size",
         meets: &[0, 4],
         run: tables::no_tables,
     },
@@ -144,12 +170,12 @@ const CASES: &[Case] = &[
     },
     Case {
         name: "counts: runs of every n, every m, after each call; tally, and membership as without jobs",
-        meets: &[0, 2, 3, 4, 8, 9, 11, 13, 14, 16],
+        meets: &[0, 2, 3, 4, 8, 9, 11, 13, 14, 16, 17, 18],
         run: counts::every_n_and_m,
     },
     Case {
         name: "counts: long runs of n from 3 to 7, after each call; tally, and membership as without jobs",
-        meets: &[0, 2, 3, 4, 8, 9, 11, 13, 14, 16],
+        meets: &[0, 2, 3, 4, 8, 9, 11, 13, 14, 16, 17, 18],
         run: counts::small_rings,
     },
     Case { name: "counts: any that fit beside any sound table", meets: &[0], run: counts::sound },
@@ -175,7 +201,7 @@ const CASES: &[Case] = &[
     },
     Case {
         name: "counts: set-up clears them, every choice of causes of its refusal",
-        meets: &[0, 1, 2, 4, 14, 16],
+        meets: &[0, 1, 2, 4, 14, 16, 17, 18],
         run: counts::set_ups,
     },
 ];

@@ -1,9 +1,9 @@
 //! What the program `bench_runs` takes and gives: commands on 32 rows, the first of which are the table, on 33 entries,
-//! the first of which are the ledger, and on 33 arrays, the first of which are the counts. All numbers are lowest byte
-//! first.
+//! the first of which are the ledger, on 33 arrays, the first of which are the counts, and on a slot table. All numbers
+//! are lowest byte first.
 
 use comparison::model::bench::{self, Beside, Fate, Message};
-use comparison::model::choices::Choices;
+use comparison::model::choices::Asked;
 use comparison::model::counts::{Counts, NONE};
 use comparison::model::ledger::Figures;
 use comparison::model::node::Node;
@@ -33,7 +33,7 @@ pub const HEAD: usize = 27;
 
 #[derive(Clone, Copy)]
 pub enum Call {
-    SetUp(Choices),
+    SetUp(Asked),
     Off(u32),
     Restart(u32),
     Slot { lost: bool, missed: u32, jobs: u8 },
@@ -115,7 +115,10 @@ pub fn entries_of(answer: &[u8]) -> impl Iterator<Item = Figures> + '_ {
 impl Call {
     fn push(self, out: &mut Vec<u8>, room: u8) {
         match self {
-            Call::SetUp(Choices { n, k, m, lag }) => {
+            // The slot table is lent to the calls that follow, too.
+            Call::SetUp(Asked { n, k, m, lag, slots }) => {
+                out.extend([b'O', slots.bytes().len() as u8]);
+                out.extend(slots.bytes());
                 out.extend([b'U', room]);
                 [n, k, m, lag].iter().for_each(|number| out.extend(number.to_le_bytes()));
             }
@@ -262,8 +265,8 @@ impl Held {
         let ledger = &mut self.entries[..self.lent];
         let counts = &mut self.arrays[..self.counted];
         match call {
-            Call::SetUp(chosen) => {
-                table.copy_from_slice(&bench::counted_set_up(chosen, self.size, counts)?);
+            Call::SetUp(asked) => {
+                table.copy_from_slice(&bench::counted_set_up(asked, self.size, counts)?);
             }
             Call::Off(x) => bench::off(table, ledger, x)?,
             Call::Restart(x) => bench::restart(table, x)?,

@@ -35,10 +35,10 @@ pub fn set_up(count: &mut Count) -> Result<(), String> {
                 let room = if random.bit() { 0 } else { ENOUGH[random.below(6) as usize] };
                 let m = counts[random.below(counts.len() as u64) as usize];
                 let lag = lags[random.below(lags.len() as u64) as usize];
-                let chosen = Choices { n, k, m, lag };
+                let chosen = Choices::of(n, k, m, lag);
                 let (causes, first) = set_up_causes(chosen, script.lent());
                 count.event(causes);
-                let told = script.push(Command::Call(Call::SetUp(chosen), room));
+                let told = script.push(Command::Call(Call::SetUp(chosen.into()), room));
                 let number = told.map_or(0, |told| told.number);
                 count.check(number == first, || {
                     format!("{chosen:?}: {number} by the model, not the first of {causes}")
@@ -89,7 +89,8 @@ const SET_UP: [&str; 32] = [
 ];
 
 /// The causes that apply, and the number of the first of them.
-fn set_up_causes(Choices { n, k, m, lag }: Choices, lent: (usize, usize)) -> (&'static str, u8) {
+fn set_up_causes(chosen: Choices, lent: (usize, usize)) -> (&'static str, u8) {
+    let Choices { n, k, m, lag, .. } = chosen;
     let wide = i64::from;
     let causes = [
         (1, !(3..=32).contains(&n)),

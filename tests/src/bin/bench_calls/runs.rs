@@ -9,12 +9,14 @@ use comparison::events::{KINDS, SEVERAL};
 use comparison::lasting::Lasting;
 use comparison::messages::spare_job_byte;
 use comparison::model::bench;
-use comparison::model::choices::Choices;
+use comparison::model::choices::{Asked, Choices};
 use comparison::model::ledger::Figures;
 use comparison::model::node::Node;
+use comparison::model::slot_table::{Order, Slots};
 use comparison::random::Random;
 use comparison::records::job_count;
 use comparison::report::Count;
+use comparison::slot_tables;
 
 const TOLD: &[&str] = &[
     "call: set-up",
@@ -52,25 +54,41 @@ pub fn set_up(script: &mut Script, random: &mut Random, chosen: Choices) {
     script.push(Command::Size(n as u8));
     script.push(Command::Arrays(n as u8));
     script.lend(random, &vec![Figures::default(); n as usize]);
-    script.call(random, Call::SetUp(chosen));
+    script.call(random, Call::SetUp(chosen.into()));
 }
 
 /// A call that this table refuses, whatever buffer is lent; none if all nodes are out and one that is not was
 /// asked for.
 fn refused(random: &mut Random, table: &[Node]) -> Option<Call> {
     let chosen = table[0].chosen;
-    let Choices { n, k, m, lag } = chosen;
-    Some(match random.below(10) {
+    let Choices { n, k, m, lag, .. } = chosen;
+    Some(match random.below(13) {
         0 => Call::Off(no_node(random, n)),
         1 => Call::Restart(no_node(random, n)),
         2 | 3 => Call::Restart(one_not_out(random, table)?),
         4 if n < 32 => Call::Slot { lost: random.bit(), missed: 1 << n, jobs: 0 },
         7 if m < 8 => Call::Slot { lost: random.bit(), missed: 0, jobs: spare_job_byte(random, m)? },
-        5 => Call::SetUp(Choices { k: if k < n - 1 - lag { n - lag } else { 1 }, ..chosen }),
-        6 => Call::SetUp(Choices { m: 9, ..chosen }),
-        8 => Call::SetUp(Choices { lag: 2, ..chosen }),
-        _ => Call::SetUp(Choices { m, ..Choices::plain(if n < 32 { n + 1 } else { n - 1 }, 2) }),
+        5 => Call::SetUp(Choices { k: if k < n - 1 - lag { n - lag } else { 1 }, ..chosen }.into()),
+        6 => Call::SetUp(Choices { m: 9, ..chosen }.into()),
+        8 => Call::SetUp(Choices { lag: 2, ..chosen }.into()),
+        9 | 10 => Call::SetUp(with_no_table(random, chosen)),
+        _ => Call::SetUp(Choices { m, ..Choices::plain(if n < 32 { n + 1 } else { n - 1 }, 2) }.into()),
     })
+}
+
+/// These choices with a slot table of a wrong length, or with a wrong place.
+fn with_no_table(random: &mut Random, chosen: Choices) -> Asked {
+    let n = chosen.n as usize;
+    let mut slots = slot_tables::table(random, chosen.n);
+    match random.below(4) {
+        0 => drop(slots.pop()),
+        1 => slots = slot_tables::of_length(random, chosen.n, n + 1),
+        _ => {
+            let way = random.below(4) as usize;
+            slot_tables::make_wrong(random, &mut slots, way);
+        }
+    }
+    Asked { slots: Slots::new(&slots), ..chosen.into() }
 }
 
 /// A slot and an off for which the ledger is an entry too short or too long; a slot for which there is an array of
@@ -114,7 +132,8 @@ pub fn between(script: &mut Script, random: &mut Random) {
 /// A run of so many calls, but for those in between.
 fn run(script: &mut Script, adversary: &mut Adversary, (n, k, lag): (u32, u32, u32), calls: u32) {
     let m = job_count(&mut adversary.random);
-    set_up(script, &mut adversary.random, Choices { n, k, m, lag });
+    let order = slot_tables::order(&mut adversary.random, n);
+    set_up(script, &mut adversary.random, Choices { n, k, m, lag, order });
     adversary.calm_down(n);
     for _ in 0..calls {
         between(script, &mut adversary.random);
@@ -133,6 +152,7 @@ fn compare_met(count: &mut Count, script: &Script) -> Result<(), String> {
     count.needs(&OWN_MARKS)?;
     count.needs(&[BOTH, LOWER[2], LOWER[4]])?;
     count.needs(&SEVERAL)?;
+    count.needs(&slot_tables::KINDS)?;
     count.needs(&KINDS)
 }
 
@@ -173,7 +193,8 @@ pub fn lasting(count: &mut Count) -> Result<(), String> {
     let mut script = Script::new();
     for (n, k, lag) in [(3, 2, 0), (5, 2, 1), (9, 4, 0), (32, 3, 1)] {
         let m = job_count(&mut random);
-        set_up(&mut script, &mut random, Choices { n, k, m, lag });
+        let order = Order::kept(&slot_tables::other_table(&mut random, n));
+        set_up(&mut script, &mut random, Choices { n, k, m, lag, order });
         let mut lasting = Lasting::new(u64::from(n));
         for _ in 0..6_000 {
             between(&mut script, &mut random);

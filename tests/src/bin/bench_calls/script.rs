@@ -110,7 +110,7 @@ impl Script {
             let n = arrays.max(3);
             self.push(Command::Size(n as u8));
             self.push(Command::Arrays(n as u8));
-            self.push(Command::Call(Call::SetUp(Choices::plain(n as u32, 2)), 0));
+            self.push(Command::Call(Call::SetUp(Choices::plain(n as u32, 2).into()), 0));
         }
     }
 
@@ -143,7 +143,7 @@ impl Script {
             Call::Slot { lost: false, missed, jobs },
             Call::Off(x),
             Call::Restart(x),
-            Call::SetUp(Choices { m, ..chosen }),
+            Call::SetUp(Choices { m, ..chosen }.into()),
         ] {
             self.call(random, call);
         }

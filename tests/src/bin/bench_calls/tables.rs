@@ -10,11 +10,13 @@ use comparison::model::choices::Choices;
 use comparison::model::node::{Node, State, CLAUSES};
 use comparison::model::refusal;
 use comparison::model::ring::{Set, LIMIT};
+use comparison::model::slot_table::Order;
 use comparison::numbers::{no_job_counts, no_lags};
 use comparison::random::Random;
 use comparison::record_bytes::shown_record;
 use comparison::records::{choices_of, size, sound_of, Break, BREAKS, STATES};
 use comparison::report::Count;
+use comparison::slot_tables;
 
 /// Choices and a slot count below the limit.
 pub fn ring(random: &mut Random) -> (Choices, u64) {
@@ -127,6 +129,9 @@ const WAYS: &[&str] = &[
     "no table: other lag",
     "no table: all records of a lag out of range",
     "no table: all records of a k that the lag does not allow",
+    "no table: other slot table",
+    "no table: all records of a slot table with a wrong place",
+    "no table: all records of a slot table with a spare place used",
 ];
 
 /// Gives a record this k; the shortest run is k while nothing is heard.
@@ -137,20 +142,39 @@ fn with_k(row: &mut Node, k: u32) {
     }
 }
 
+/// The same choices for another n, with any slot table of it.
+fn with_n(random: &mut Random, chosen: Choices, n: u32) -> Choices {
+    Choices { n, order: slot_tables::order(random, n), ..chosen }
+}
+
+/// Another table for as many nodes.
+fn another_order(random: &mut Random, chosen: Choices) -> Order {
+    loop {
+        let order = slot_tables::order(random, chosen.n);
+        if order != chosen.order {
+            return order;
+        }
+    }
+}
+
 /// Rows that are no table in one way; none if this ring does not allow it. But for the ways of all records each row is
 /// sound by itself.
 fn rows_in_way(random: &mut Random, way: usize) -> Option<Vec<Node>> {
     let (chosen, slots) = ring(random);
-    let Choices { n, k, m, lag } = chosen;
+    let Choices { n, k, lag, .. } = chosen;
     let mut rows = sound_table(random, (chosen, slots));
     let (i, j) = (random.below(u64::from(n)) as usize, random.below(u64::from(n)) as usize);
     let own = i as u32 + 1;
     let state = rows[i].state;
     match way {
         0 if own < n && k < n - 1 - lag => {
-            rows[i] = sound_of(random, state, (Choices { n: n - 1, ..chosen }, own), slots);
+            let chosen = with_n(random, chosen, n - 1);
+            rows[i] = sound_of(random, state, (chosen, own), slots);
         }
-        0 if n < 32 => rows[i] = sound_of(random, state, (Choices { n: n + 1, ..chosen }, own), slots),
+        0 if n < 32 => {
+            let chosen = with_n(random, chosen, n + 1);
+            rows[i] = sound_of(random, state, (chosen, own), slots);
+        }
         1 if n > 3 + lag => {
             let k = if k > 2 { k - 1 } else { 3 };
             rows[i] = sound_of(random, state, (Choices { k, ..chosen }, own), slots);
@@ -161,8 +185,22 @@ fn rows_in_way(random: &mut Random, way: usize) -> Option<Vec<Node>> {
         5 => drop(rows.pop()),
         6 => drop(rows.remove(0)),
         7 if n < 32 => rows.push(rows[n as usize - 1]),
-        8 if n < 32 => rows = sound_table(random, (Choices { n: n + 1, ..chosen }, slots)).split_off(1),
+        8 if n < 32 => {
+            let chosen = with_n(random, chosen, n + 1);
+            rows = sound_table(random, (chosen, slots)).split_off(1);
+        }
         9 => rows.clear(),
+        10.. => choices_in_way(random, way, &mut rows, i)?,
+        _ => return None,
+    }
+    Some(rows)
+}
+
+/// The ways that concern m, the lag or the slot table, of row i or of all rows.
+fn choices_in_way(random: &mut Random, way: usize, rows: &mut [Node], i: usize) -> Option<()> {
+    let chosen = rows[i].chosen;
+    let Choices { n, k, m, lag, mut order } = chosen;
+    match way {
         10 => rows[i].chosen.m = (m + random.within(1, 8) as u32) % 9,
         11 => {
             let m = no_job_counts().nth(random.below(11) as usize).unwrap_or(9);
@@ -175,9 +213,19 @@ fn rows_in_way(random: &mut Random, way: usize) -> Option<Vec<Node>> {
             rows.iter_mut().for_each(|row| row.chosen.lag = lag);
         }
         14 => rows.iter_mut().for_each(|row| with_k(row, n - lag)),
+        15 => rows[i].chosen.order = another_order(random, chosen),
+        16 => {
+            let way = random.below(4) as usize;
+            slot_tables::make_wrong(random, &mut order.0[..n as usize], way);
+            rows.iter_mut().for_each(|row| row.chosen.order = order);
+        }
+        17 if n < 32 => {
+            let (place, number) = (random.within(u64::from(n), 31) as usize, random.within(1, 255) as u8);
+            rows.iter_mut().for_each(|row| row.chosen.order.0[place] = number);
+        }
         _ => return None,
     }
-    Some(rows)
+    Some(())
 }
 
 /// Every record is sound, or all keep the same choices out of range, and together they are no table.
@@ -237,7 +285,7 @@ pub fn rooms(count: &mut Count) -> Result<(), String> {
             Call::Look { lost: false },
             Call::Off(chosen.n),
             Call::Restart(chosen.n),
-            Call::SetUp(chosen),
+            Call::SetUp(chosen.into()),
         ] {
             script.push(Command::Call(call, room));
         }

@@ -103,7 +103,7 @@ fn follow(
     (n, k, lag): (u8, u32, u32),
     runs: &[Run],
 ) -> Result<(Vec<Command>, Held), String> {
-    let set_up = Call::SetUp(Choices { n: u32::from(n), k, m: 0, lag });
+    let set_up = Call::SetUp(Choices::of(u32::from(n), k, 0, lag).into());
     let mut commands = vec![Command::Size(n), Command::Lend(n), Command::Arrays(n), Command::Call(set_up, 0)];
     let mut held = Held::first();
     let mut answer = Vec::new();
@@ -229,7 +229,7 @@ pub fn lists(count: &mut Count) -> Result<(), String> {
         script.push(Command::Size(n as u8));
         script.push(Command::Arrays(n as u8));
         script.lend(&mut random, &vec![Figures::default(); n as usize]);
-        script.call(&mut random, Call::SetUp(Choices { n, k, m: 0, lag }));
+        script.call(&mut random, Call::SetUp(Choices::of(n, k, 0, lag).into()));
         for &x in off {
             script.call(&mut random, Call::Off(x));
         }
@@ -362,7 +362,7 @@ fn keep(count: &mut Count, script: &mut Script, runs: &[Kept]) -> Result<(), Str
     script.push(Command::Size(4));
     script.push(Command::Arrays(4));
     script.lend(&mut random, &[Figures::default(); 4]);
-    script.call(&mut random, Call::SetUp(Choices::plain(4, 2)));
+    script.call(&mut random, Call::SetUp(Choices::plain(4, 2).into()));
     for &(call, times, [left, joined, last]) in runs.iter().flat_map(|run| run.iter()) {
         let mut expected = [Figures::default(); 4];
         expected[1] = Figures { left, joined, last };

@@ -1,11 +1,12 @@
 //! The refusals of the bench's calls and the pairs of a slot, typed from document 01 and requests a and h.
 
 use comparison::model::bench::{self, Beside, Call, Document01, Fate, Kind, Message};
-use comparison::model::choices::Choices;
+use comparison::model::choices::{Asked, Choices};
 use comparison::model::counts::{self, Counts};
 use comparison::model::ledger::Figures;
 use comparison::model::node::{Node, State};
 use comparison::model::ring::{Set, LIMIT};
+use comparison::model::slot_table::{Order, Slots};
 use comparison::report::Count;
 
 fn table(n: u32, k: u32) -> Vec<Node> {
@@ -26,7 +27,7 @@ pub fn set_up(count: &mut Count) -> Result<(), String> {
     ];
     for (n, k, m, lag, length, expected) in sizes {
         count.expected(expected);
-        let chosen = Choices { n, k, m, lag };
+        let chosen = Choices::of(n, k, m, lag);
         let got = bench::set_up(chosen, length).map(|nodes| nodes.len());
         let same = got == if expected == 0 { Ok(n as usize) } else { Err(expected) };
         count.check(same, || format!("set-up {chosen:?}, table of {length}: {got:?}, not {expected}"))?;
@@ -34,8 +35,39 @@ pub fn set_up(count: &mut Count) -> Result<(), String> {
     Ok(())
 }
 
-/// Tables that are not "one per node in number order, all with the same n, k and slot count", nor with one m and one lag,
-/// or hold a record that is not sound.
+/// The rows, m and the slot table of a set-up of four nodes: 14, 17, 18, then 4.
+#[rustfmt::skip]
+const SLOT_TABLES: &[(usize, u32, &[u8], u32)] = &[
+    (4, 0, &[1, 2, 3, 4], 0), (4, 8, &[3, 1, 4, 2], 0), (4, 0, &[4, 3, 2, 1], 0),
+    (4, 0, &[], 17), (4, 0, &[3, 1, 4], 17), (4, 0, &[3, 1, 4, 2, 5], 17), (4, 0, &[3, 1, 4, 2, 0], 17),
+    (4, 0, &[3, 1, 4, 4], 18), (4, 0, &[3, 1, 4, 0], 18), (4, 0, &[3, 1, 4, 5], 18), (4, 0, &[3, 1, 4, 34], 18),
+    (4, 9, &[3, 1, 4], 14), (4, 9, &[3, 1, 4, 4], 14),
+    (4, 0, &[3, 1, 1], 17), (3, 0, &[3, 1, 4], 17), (5, 0, &[3, 1, 4, 2, 2], 17),
+    (3, 0, &[3, 1, 4, 4], 18), (5, 0, &[3, 1, 4, 5], 18),
+    (3, 0, &[3, 1, 4, 2], 4), (5, 0, &[3, 1, 4, 2], 4),
+];
+
+/// "Table of the wrong length: 17, after 14. A node missing or doubled: 18, next"; "the record keeps it with spare places
+/// 0".
+pub fn slot_tables(count: &mut Count) -> Result<(), String> {
+    for &(rows, m, slots, expected) in SLOT_TABLES {
+        count.expected(expected);
+        let asked = Asked { slots: Slots::new(slots), ..Choices::of(4, 2, m, 0).into() };
+        let got = bench::set_up(asked, rows);
+        let number = got.as_ref().err().copied().unwrap_or(0);
+        let kept = got.into_iter().flatten().all(|node| {
+            let (table, spare) = node.chosen.order.0.split_at(4);
+            table == slots && spare == [0; 28]
+        });
+        count.check(number == expected && kept, || {
+            format!("{rows} rows, m = {m}, {slots:?}: {number}, not {expected}")
+        })?;
+    }
+    Ok(())
+}
+
+/// Tables that are not "one per node in number order, all with the same n, k and slot count", nor with one m, one lag and
+/// one slot table, or hold a record that is not sound.
 fn bad_tables() -> Vec<Vec<Node>> {
     let changed = |change: fn(&mut Vec<Node>)| {
         let mut nodes = table(4, 2);
@@ -61,6 +93,13 @@ fn bad_tables() -> Vec<Vec<Node>> {
         changed(|nodes| nodes.iter_mut().for_each(|node| node.chosen.lag = 2)),
         changed(|nodes| nodes.iter_mut().for_each(|node| node.chosen.lag = u32::MAX)),
         changed(|nodes| nodes.iter_mut().for_each(|node| (node.chosen.k, node.chosen.lag) = (3, 1))),
+        changed(|nodes| nodes[0].chosen.order = Order::kept(&[1, 2, 4, 3])),
+        changed(|nodes| nodes[3].chosen.order = Order::kept(&[1, 2, 4, 3])),
+        changed(|nodes| nodes.iter_mut().for_each(|node| node.chosen.order = Order::kept(&[1, 2, 3, 3]))),
+        changed(|nodes| nodes.iter_mut().for_each(|node| node.chosen.order = Order::kept(&[1, 2, 3]))),
+        changed(|nodes| nodes.iter_mut().for_each(|node| node.chosen.order = Order::kept(&[1, 2, 3, 5]))),
+        changed(|nodes| nodes.iter_mut().for_each(|node| node.chosen.order.0[31] = 1)),
+        changed(|nodes| nodes.iter_mut().for_each(|node| node.chosen.order.0[4] = 5)),
     ]
 }
 

@@ -6,6 +6,7 @@ mod differs;
 mod many;
 mod mutants;
 mod premises;
+mod renaming;
 mod runs;
 mod steps;
 mod typed;
@@ -16,6 +17,11 @@ use std::process::ExitCode;
 
 const CASES: &[Case] = &[
     Case { name: "bench: set-up, its refusals", meets: &[0, 1, 2, 4, 14, 16], run: calls::set_up },
+    Case {
+        name: "bench: set-up with slot tables, its refusals",
+        meets: &[0, 4, 14, 17, 18],
+        run: calls::slot_tables,
+    },
     Case {
         name: "bench: refusals in order, table and ledger as they were",
         meets: &[3, 4, 5, 9, 11, 13],
@@ -63,6 +69,16 @@ const CASES: &[Case] = &[
         name: "changed rules with lag 1: a claim fails for each, in such runs",
         meets: &[],
         run: runs::mutants_with_lag,
+    },
+    Case {
+        name: "request k: by number where the slot table is to be followed, a claim fails",
+        meets: &[],
+        run: runs::by_number,
+    },
+    Case {
+        name: "request k: runs with another slot table are plain runs with the nodes renamed",
+        meets: &[0, 3, 8, 11],
+        run: renaming::generated,
     },
     Case {
         name: "request f: nothing differs in runs that keep k + 1 also between departure and joining",

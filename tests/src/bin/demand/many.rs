@@ -9,9 +9,11 @@ use comparison::model::choices::Choices;
 use comparison::model::many_dead::{Broken, Claim, ManyDead};
 use comparison::model::node::{Cause, Node, State};
 use comparison::model::ring::Set;
+use comparison::model::slot_table::Order;
 use comparison::power_cut::PowerCut;
 use comparison::random::Random;
 use comparison::report::Count;
+use comparison::slot_tables;
 use std::collections::HashSet;
 
 /// A table and what was judged up to it.
@@ -212,13 +214,18 @@ const MET: [&str; 2] = ["list: k members or fewer", "list: two members"];
 
 /// Every k with this lag.
 fn rings(n: u32, lag: u32) -> impl Iterator<Item = Choices> {
-    (2..n - lag).map(move |k| Choices { n, k, m: 0, lag })
+    (2..n - lag).map(move |k| Choices::of(n, k, 0, lag))
 }
 
 fn few_nodes(count: &mut Count, lag: u32) -> Result<(), String> {
+    let mut random = Random::new(79);
     for n in 3 + lag..=7 {
         for chosen in rings(n, lag) {
             every_table(count, chosen)?;
+            if n <= 5 {
+                let order = Order::kept(&slot_tables::other_table(&mut random, n));
+                every_table(count, Choices { order, ..chosen })?;
+            }
         }
     }
     count.needs(&SEVERAL)?;
@@ -256,11 +263,14 @@ fn any_number(count: &mut Count, seed: u64, lag: u32) -> Result<(), String> {
     for n in 3 + lag..=32 {
         for chosen in rings(n, lag) {
             for _ in 0..12 {
+                let chosen = Choices { order: slot_tables::order(&mut random, n), ..chosen };
+                slot_tables::note(count, n, chosen.order);
                 let broken = run(count, &Document01, chosen, random.number());
                 count.check(broken.is_none(), || format!("{chosen:?}: {broken:?}"))?;
             }
         }
     }
+    count.needs(&slot_tables::KINDS)?;
     count.needs(&SEVERAL)?;
     count.needs(&MET)
 }

@@ -8,13 +8,14 @@ use comparison::model::choices::Choices;
 use comparison::model::demand::{Broken, Claim, Demand};
 use comparison::random::Random;
 use comparison::report::Count;
+use comparison::slot_tables;
 use std::collections::BTreeSet;
 
 /// Runs with each lag by the rules, and by each mutant.
 const RUNS: u64 = 20_000;
 const MUTANT_RUNS: u64 = 7_500;
 
-/// The choices of a run with this lag. Most rings are small, since more happens in them.
+/// The choices of a run with this lag, with any slot table. Most rings are small, since more happens in them.
 pub fn ring(random: &mut Random, lag: u32) -> Choices {
     let largest = match random.below(20) {
         0 => 32,
@@ -24,7 +25,7 @@ pub fn ring(random: &mut Random, lag: u32) -> Choices {
     let n = (random.within(4, largest) as u32 + lag).min(32);
     let most = n - lag - if random.below(4) == 0 { 1 } else { 2 };
     let k = if random.bit() { most.min(3) } else { random.within(2, u64::from(most)) as u32 };
-    Choices { n, k, m: 0, lag }
+    Choices { order: slot_tables::order(random, n), ..Choices::of(n, k, 0, lag) }
 }
 
 /// One run of up to 25 n calls: the choices and the claim that fails, if one does.
@@ -36,6 +37,7 @@ fn run(
     demand: fn(Choices) -> Demand,
 ) -> Option<(Choices, Claim)> {
     let chosen = ring(random, lag);
+    slot_tables::note(count, chosen.n, chosen.order);
     let seldom = random.within(2, 8);
     let mut run = Run::new(rules, chosen, random.number(), seldom).judged(demand(chosen));
     let mut met = BTreeSet::new();
@@ -103,6 +105,7 @@ fn true_rules(count: &mut Count, seed: u64, lag: u32) -> Result<(), String> {
         let failed = run(count, &mut random, lag, &Document01, Demand::new);
         count.check(failed.is_none(), || format!("run {i}: the claim that fails: {failed:?}"))?;
     }
+    count.needs(&slot_tables::KINDS)?;
     count.needs(NEEDED)
 }
 
@@ -146,6 +149,15 @@ pub fn mutants_with_lag(count: &mut Count) -> Result<(), String> {
     }
     fails(count, 1, (&Other::DecidesEarly, "claim fails: decided one member early"), Demand::new)?;
     fails(count, 1, (&Document01, ONE_FEWER), Demand::one_member_fewer)
+}
+
+/// Rules that follow node numbers where they are to follow the slot table.
+pub fn by_number(count: &mut Count) -> Result<(), String> {
+    for lag in [0, 1] {
+        fails(count, lag, (&Other::WalksByNumber, "claim fails: sponsored by number"), Demand::new)?;
+        fails(count, lag, (&Other::JoinsByNumber, "claim fails: joined by number"), Demand::new)?;
+    }
+    Ok(())
 }
 
 /// No change of the rules, but of a premise.

@@ -18,6 +18,10 @@ pub trait Steps {
         node.step_3(sender)
     }
 
+    fn step_5(&self, node: &mut Node, sender: u32) {
+        node.step_5(sender);
+    }
+
     /// Steps 1 to 3.
     fn up_to_departure(&self, node: &mut Node, sender: u32, heard: Option<Said>) -> Result<(), Leaving> {
         if !node.set.has(sender) {
@@ -35,7 +39,7 @@ pub trait Steps {
         node.enough_members()?;
         node.step_4()?;
         if in_set {
-            node.step_5(sender);
+            self.step_5(node, sender);
         }
         Ok(())
     }

@@ -14,5 +14,5 @@ pub fn calls(plan: Plan) -> (Choices, Vec<Call>) {
         lines.next().expect("line one").split(' ').map(|number| number.parse().expect("a number")).collect();
     let (n, k, lag) = (numbers[0], numbers[1], numbers.get(2).copied().unwrap_or(0));
     let calls = lines.map(|line| program::call(n, line.as_bytes()).expect("a line")).collect();
-    (Choices { n, k, m: 0, lag }, calls)
+    (Choices::of(n, k, 0, lag), calls)
 }

@@ -1,10 +1,12 @@
-//! The rules without one of requests e and f, or with another reading of it or of request j.
+//! The rules without one of requests e and f, or with another reading of it or of requests j and k.
 
 use super::steps::{self, Steps};
 use comparison::model::bench::Rules;
+use comparison::model::choices::Choices;
 use comparison::model::message::Said;
-use comparison::model::node::{Leaving, Node};
+use comparison::model::node::{Leaving, Node, State};
 use comparison::model::ring;
+use comparison::model::slot_table::Order;
 
 #[derive(Clone, Copy, PartialEq, Eq, Debug)]
 pub enum Other {
@@ -22,6 +24,10 @@ pub enum Other {
     DecidesEarly,
     /// The decided member stands (ks + lag) back with ks the smaller of k and c - 1: often nobody does.
     KsWithoutLag,
+    /// Bits and decisions go back by node number, whatever the slot table.
+    WalksByNumber,
+    /// A node joins in the slot of the nearest member before it by number.
+    JoinsByNumber,
 }
 
 use Other::*;
@@ -31,6 +37,7 @@ impl Steps for Other {
         match self {
             WithoutE => own_mark_off(node, sender, heard),
             SilenceIsNo => silence_is_no(node, sender, heard),
+            WalksByNumber => numbered(node, |node| node.step_1(sender, heard)),
             _ => node.step_1(sender, heard),
         }
     }
@@ -49,14 +56,42 @@ impl Steps for Other {
                     ks + node.chosen.lag
                 }
             }),
+            WalksByNumber => numbered(node, |node| node.step_3(sender)),
             _ => node.step_3(sender),
+        }
+    }
+
+    fn step_5(&self, node: &mut Node, sender: u32) {
+        match self {
+            JoinsByNumber => numbered(node, |node| node.step_5(sender)),
+            _ => node.step_5(sender),
         }
     }
 }
 
+/// What is done to the record with the plain slot table.
+fn numbered<T>(node: &mut Node, step: impl FnOnce(&mut Node) -> T) -> T {
+    let order = node.chosen.order;
+    node.chosen.order = Order::plain(node.chosen.n);
+    let done = step(node);
+    node.chosen.order = order;
+    done
+}
+
+/// The bits of a member by number.
+fn numbered_bits(node: &Node) -> u32 {
+    let plain = Choices { order: Order::plain(node.chosen.n), ..node.chosen };
+    let sponsored = ring::sponsored(plain, node.set, node.own).enumerate();
+    sponsored.fold(0, |acks, (bit, met)| acks | u32::from(node.marks.has(met.member)) << bit)
+}
+
 impl Rules for Other {
     fn says(&self, node: &Node, jobs: u8) -> Option<Said> {
-        node.says(jobs)
+        let said = node.says(jobs)?;
+        Some(match (self, node.state) {
+            (WalksByNumber, State::Member) => Said { acks: numbered_bits(node), ..said },
+            _ => said,
+        })
     }
 
     fn step(&self, node: &Node, heard: Option<Said>) -> Node {

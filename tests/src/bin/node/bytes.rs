@@ -3,9 +3,10 @@
 
 use super::compare::compare;
 use super::protocol::{Command, Script};
-use comparison::model::choices::Choices;
+use comparison::model::choices::{Asked, Choices};
 use comparison::model::node::{Cause, Node, State};
 use comparison::model::ring::LIMIT;
+use comparison::model::slot_table::Slots;
 use comparison::random::Random;
 use comparison::record_bytes::{record_bytes, Reader, RECORD};
 use comparison::records::{sound, STATES};
@@ -37,6 +38,11 @@ fn rewritten(random: &mut Random, node: &Node) -> [u8; RECORD] {
 /// A readable message of k = 2, all yes, no job.
 const HEARD: &[u8] = &[2, 3, 1, 0, 0, 0];
 
+/// Set-up of four nodes with this slot table.
+fn with_table(slots: &[u8]) -> Asked {
+    Asked { slots: Slots::new(slots), ..Choices::of(4, 2, 8, 1).into() }
+}
+
 /// Loads the bytes and makes each call that is refused. What sending leaves is seen in the next answer.
 fn refused_calls(count: &mut Count, script: &mut Script, bytes: [u8; RECORD]) {
     let node = Reader(&bytes).record();
@@ -46,12 +52,14 @@ fn refused_calls(count: &mut Count, script: &mut Script, bytes: [u8; RECORD]) {
         (CALLS[2], Command::Off, node.off().is_err()),
         (CALLS[3], Command::Restart, node.restart().is_err()),
         (CALLS[1], Command::Send { room: 0, jobs: 0 }, true),
-        (CALLS[4], Command::SetUp(Choices { n: 33, k: 2, m: 0, lag: 0 }, 1), true),
-        (CALLS[4], Command::SetUp(Choices { n: 4, k: 2, m: 0, lag: 2 }, 1), true),
-        (CALLS[4], Command::SetUp(Choices { n: 4, k: 4, m: 0, lag: 0 }, 1), true),
-        (CALLS[4], Command::SetUp(Choices { n: 4, k: 3, m: 0, lag: 1 }, 1), true),
-        (CALLS[4], Command::SetUp(Choices { n: 4, k: 2, m: 9, lag: 1 }, 1), true),
-        (CALLS[4], Command::SetUp(Choices { n: 4, k: 2, m: 8, lag: 1 }, 5), true),
+        (CALLS[4], Command::SetUp(Choices::of(33, 2, 0, 0).into(), 1), true),
+        (CALLS[4], Command::SetUp(Choices::of(4, 2, 0, 2).into(), 1), true),
+        (CALLS[4], Command::SetUp(Choices::of(4, 4, 0, 0).into(), 1), true),
+        (CALLS[4], Command::SetUp(Choices::of(4, 3, 0, 1).into(), 1), true),
+        (CALLS[4], Command::SetUp(Choices::of(4, 2, 9, 1).into(), 1), true),
+        (CALLS[4], Command::SetUp(with_table(&[1, 2, 3]), 1), true),
+        (CALLS[4], Command::SetUp(with_table(&[1, 2, 3, 3]), 1), true),
+        (CALLS[4], Command::SetUp(Choices::of(4, 2, 8, 1).into(), 5), true),
     ];
     script.load_bytes(bytes);
     for (name, call, refused) in calls {

@@ -46,7 +46,7 @@ impl Cable {
         let node = |own| Node::set_up(chosen, own).expect("the choices are in range");
         self.nodes = (1..=chosen.n).map(node).collect();
         for own in 1..=chosen.n {
-            self.tell(own, &Command::SetUp(chosen, own));
+            self.tell(own, &Command::SetUp(chosen.into(), own));
         }
     }
 

@@ -11,7 +11,7 @@ use comparison::model::node::{Node, State};
 use comparison::model::ring::{self, LIMIT};
 use comparison::numbers::{no_job_counts, no_lags, small_and_large};
 use comparison::random::Random;
-use comparison::records::{sound, spoil, STATES};
+use comparison::records::{before_own, sound, spoil, STATES};
 use comparison::report::Count;
 
 /// The causes of a refused set-up; each number has its bit: 3, 14, 2, 16, 1.
@@ -52,7 +52,7 @@ const SET_UP: [&str; 32] = [
 
 /// Notes the causes that apply and sees that the model answers the first of them: 1, 16, 2, 14, 3.
 fn push_set_up(count: &mut Count, script: &mut Script, chosen: Choices, own: u32) -> Result<(), String> {
-    let Choices { n, k, m, lag } = chosen;
+    let Choices { n, k, m, lag, .. } = chosen;
     let wide = i64::from;
     let causes = [
         (1, !(3..=32).contains(&n)),
@@ -65,7 +65,7 @@ fn push_set_up(count: &mut Count, script: &mut Script, chosen: Choices, own: u32
     let first = causes.iter().find(|cause| cause.1).map_or(0, |cause| cause.0);
     let got = Node::set_up(chosen, own).err().unwrap_or(0);
     count.check(got == first, || format!("{chosen:?}, own {own}: {got} by the model, not {first}"))?;
-    script.push(&Command::SetUp(chosen, own));
+    script.push(&Command::SetUp(chosen.into(), own));
     Ok(())
 }
 
@@ -84,7 +84,7 @@ pub fn set_up(count: &mut Count) -> Result<(), String> {
         for k in small_and_large() {
             for own in small_and_large() {
                 let (&m, &lag) = turns.next().expect("a cycle does not end");
-                push_set_up(count, &mut script, Choices { n, k, m, lag }, own)?;
+                push_set_up(count, &mut script, Choices::of(n, k, m, lag), own)?;
             }
         }
     }
@@ -100,7 +100,7 @@ pub fn job_counts(count: &mut Count) -> Result<(), String> {
             for k in [1, 2, n - 1, n] {
                 for own in [0, 1, n, n + 1] {
                     let lag = (m + own) % 2;
-                    push_set_up(count, &mut script, Choices { n, k, m, lag }, own)?;
+                    push_set_up(count, &mut script, Choices::of(n, k, m, lag), own)?;
                 }
             }
         }
@@ -117,8 +117,9 @@ const EDGES: [&str; 4] = [
     "k: n - 1 with lag 1, refused",
 ];
 
-fn note_edge(count: &mut Count, Choices { n, k, m, lag }: Choices, own: u32) {
-    let number = Node::set_up(Choices { n, k, m, lag }, own).err().unwrap_or(0);
+fn note_edge(count: &mut Count, chosen: Choices, own: u32) {
+    let number = Node::set_up(chosen, own).err().unwrap_or(0);
+    let Choices { n, k, lag, .. } = chosen;
     match (lag, n - k.min(n), number) {
         (0, 1, 0) => count.event(EDGES[0]),
         (0, 0, 2) if k == n => count.event(EDGES[1]),
@@ -136,7 +137,7 @@ pub fn lags(count: &mut Count) -> Result<(), String> {
             for k in [1, 2, n.saturating_sub(3), n - 2, n - 1, n, n + 1] {
                 for m in [0, 8, 9] {
                     for own in [0, 1, n, n + 1] {
-                        let chosen = Choices { n, k, m, lag };
+                        let chosen = Choices::of(n, k, m, lag);
                         note_edge(count, chosen, own);
                         push_set_up(count, &mut script, chosen, own)?;
                     }
@@ -151,8 +152,7 @@ pub fn lags(count: &mut Count) -> Result<(), String> {
 
 /// Makes the own slot the next one.
 fn turn(node: &mut Node) {
-    let n = u64::from(node.chosen.n);
-    node.slots = node.slots - node.slots % n + u64::from(node.own) - 1;
+    node.slots = before_own(node.chosen, node.own, node.slots);
 }
 
 /// Into rooms 0 to 12 and a large one, with one job byte; then with any, into a room that is enough. Then a restart, which most nodes refuse, shows that the record is

@@ -4,7 +4,7 @@ use super::protocol::{next_command, run_by_model, Command, Held, Script};
 use super::tally::History;
 use comparison::child;
 use comparison::messages::hex;
-use comparison::model::choices::Choices;
+use comparison::model::choices::Asked;
 use comparison::record_bytes::{record_bytes, shown_counts, shown_record, Reader, RECORD};
 use comparison::report::Count;
 use std::io::Read;
@@ -60,8 +60,8 @@ fn shown_difference(command: &Command, got: &[u8], expected: &[u8]) -> String {
 
 fn shown_command(command: &Command) -> String {
     match *command {
-        Command::SetUp(Choices { n, k, m, lag }, own) => {
-            format!("set-up n = {n}, k = {k}, m = {m}, lag {lag}, own {own}")
+        Command::SetUp(Asked { n, k, m, lag, slots }, own) => {
+            format!("set-up n = {n}, k = {k}, m = {m}, lag {lag}, own {own}, table {:?}", slots.bytes())
         }
         Command::Slot(heard) => format!("slot, heard [{}]", hex(heard)),
         Command::Send { room, jobs } => format!("send jobs {jobs:02X} into {room} bytes"),

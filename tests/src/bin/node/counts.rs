@@ -145,9 +145,9 @@ fn every_call(random: &mut Random, script: &mut Script, node: &Node) {
         Command::Off,
         Command::Restart,
         Command::Slot(&bytes),
-        Command::SetUp(Choices { n: 4, k: 2, m: 8, lag: 2 }, 1),
-        Command::SetUp(Choices { n: 4, k: 2, m: 9, lag: 1 }, 1),
-        Command::SetUp(Choices { n: 4, k: 2, m: 8, lag: 1 }, 1),
+        Command::SetUp(Choices::of(4, 2, 8, 2).into(), 1),
+        Command::SetUp(Choices::of(4, 2, 9, 1).into(), 1),
+        Command::SetUp(Choices::of(4, 2, 8, 1).into(), 1),
     ] {
         script.push(&call);
         script.push(&Command::Counts);

@@ -14,6 +14,8 @@ mod plans;
 mod protocol;
 mod records;
 mod runs;
+mod table_vectors;
+mod tables;
 mod tally;
 mod vectors;
 
@@ -42,6 +44,16 @@ const CASES: &[Case] = &[
         run: lag_vectors::single_nodes,
     },
     Case {
+        name: "vectors: runs of single nodes with a slot table by request k, model and program",
+        meets: &[0, 4, 10],
+        run: table_vectors::single_nodes,
+    },
+    Case {
+        name: "vectors: set-up with slot tables by request k, model and program",
+        meets: &[0, 1, 2, 3, 14, 16, 17, 18],
+        run: tables::typed,
+    },
+    Case {
         name: "vectors: plans of whole cables, without jobs and with some, model and program",
         meets: &[0, 8, 10],
         run: plans::whole_cables,
@@ -60,6 +72,26 @@ const CASES: &[Case] = &[
         name: "set-up: lags that are one and that are not, k around the largest of each lag",
         meets: &[0, 1, 2, 3, 14, 16],
         run: calls::lags,
+    },
+    Case {
+        name: "set-up: slot tables of every n that it takes, kept as they are given",
+        meets: &[0, 10],
+        run: tables::taken,
+    },
+    Case {
+        name: "set-up: slot tables of every length from 0 to 40 and with a wrong place, for every n",
+        meets: &[0, 3, 17, 18],
+        run: tables::every_length,
+    },
+    Case {
+        name: "set-up: every byte at every place of a slot table",
+        meets: &[0, 18],
+        run: tables::every_byte,
+    },
+    Case {
+        name: "set-up: slot tables right and wrong among several causes at once",
+        meets: &[0, 1, 2, 3, 14, 16, 17, 18],
+        run: tables::order,
     },
     Case {
         name: "cables: every n, k and lag, with losses, misses, offs and restarts; counts at the end",
@@ -113,7 +145,7 @@ const CASES: &[Case] = &[
     },
     Case {
         name: "records: of bytes that no call writes, each of which a refused call leaves",
-        meets: &[0, 1, 2, 3, 4, 5, 9, 10, 11, 14, 16],
+        meets: &[0, 1, 2, 3, 4, 5, 9, 10, 11, 14, 16, 17, 18],
         run: bytes::left_by_refusals,
     },
     Case {

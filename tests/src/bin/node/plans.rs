@@ -197,7 +197,7 @@ const PLANS: &[Plan] = &[
 
 fn follow(count: &mut Count, random: &mut Random, m: u32, plan: &Plan) -> Result<Cable, String> {
     let (n, k, lag) = plan.ring;
-    let mut cable = Cable::new(Choices { n, k, m, lag });
+    let mut cable = Cable::new(Choices::of(n, k, m, lag));
     for &(times, ref line) in plan.lines {
         for _ in 0..times {
             let fate = match *line {

@@ -1,9 +1,10 @@
 //! What the program `node_runs` takes and gives: commands on one current record and the counts beside it, all numbers
 //! lowest byte first.
 
-use comparison::model::choices::Choices;
+use comparison::model::choices::{Asked, Choices};
 use comparison::model::counts::{Counts, NONE};
 use comparison::model::node::Node;
+use comparison::model::slot_table::Slots;
 use comparison::record_bytes::{push_counts, record_bytes, Reader, RECORD};
 
 /// Each byte of a lent buffer before the node sends into it.
@@ -40,16 +41,16 @@ impl Held {
     }
 
     /// "only set-up clears them"
-    fn set_up(&mut self, chosen: Choices, own: u32) -> Result<Node, u32> {
-        let node = Node::set_up(chosen, own)?;
+    fn set_up(&mut self, asked: Asked, own: u32) -> Result<Node, u32> {
+        let node = Node::set_up(asked, own)?;
         self.counts = NONE;
         Ok(node)
     }
 }
 
 pub enum Command<'a> {
-    /// The choices and the own number.
-    SetUp(Choices, u32),
+    /// What set-up is given, and the own number.
+    SetUp(Asked, u32),
     Slot(&'a [u8]),
     Send {
         room: u8,
@@ -88,7 +89,7 @@ impl Script {
 
     pub fn load_bytes(&mut self, bytes: [u8; RECORD]) {
         if self.counted {
-            self.push(&Command::SetUp(Choices::plain(3, 2), 1));
+            self.push(&Command::SetUp(Choices::plain(3, 2).into(), 1));
         }
         self.push(&Command::Load(bytes));
     }
@@ -96,7 +97,7 @@ impl Script {
     /// Follows whether a count may be above 0: a job that is reported stands in the last byte heard.
     fn note(&mut self, command: &Command) {
         match *command {
-            Command::SetUp(chosen, own) if Node::set_up(chosen, own).is_ok() => self.counted = false,
+            Command::SetUp(asked, own) if Node::set_up(asked, own).is_ok() => self.counted = false,
             Command::Slot(heard) => self.counted |= heard.last().is_some_and(|&jobs| jobs != 0),
             Command::Count { count, .. } => self.counted |= count != 0,
             _ => {}
@@ -107,11 +108,12 @@ impl Script {
         self.note(command);
         let out = &mut self.bytes;
         match *command {
-            Command::SetUp(Choices { n, k, m, lag }, own) => {
-                out.push(b'U');
+            Command::SetUp(Asked { n, k, m, lag, slots }, own) => {
+                out.extend([b'U', slots.bytes().len() as u8]);
                 for number in [n, k, m, lag, own] {
                     out.extend(number.to_le_bytes());
                 }
+                out.extend(slots.bytes());
             }
             Command::Slot(heard) => {
                 out.push(b'S');
@@ -147,8 +149,9 @@ pub fn next_command<'a>(script: &mut Reader<'a>) -> Option<Command<'a>> {
     }
     Some(match script.u8() {
         b'U' => {
-            let chosen = Choices { n: script.u32(), k: script.u32(), m: script.u32(), lag: script.u32() };
-            Command::SetUp(chosen, script.u32())
+            let places = usize::from(script.u8());
+            let [n, k, m, lag, own] = [(); 5].map(|()| script.u32());
+            Command::SetUp(Asked { n, k, m, lag, slots: Slots::new(script.take(places)) }, own)
         }
         b'S' => {
             let length = script.u8();
@@ -157,7 +160,7 @@ pub fn next_command<'a>(script: &mut Reader<'a>) -> Option<Command<'a>> {
         b'T' => Command::Send { room: script.u8(), jobs: script.u8() },
         b'F' => Command::Off,
         b'R' => Command::Restart,
-        b'L' => Command::Load(script.take(RECORD).try_into().expect("60 bytes")),
+        b'L' => Command::Load(script.take(RECORD).try_into().expect("92 bytes")),
         b'C' => Command::Count { row: script.u8(), job: script.u8(), count: script.u64() },
         b'K' => Command::Counts,
         other => panic!("{other:#04X} is no command"),
@@ -190,7 +193,7 @@ pub fn run_by_model(held: &mut Held, command: &Command, out: &mut Vec<u8>) -> Op
             out.extend_from_slice(lent);
             return Some(number);
         }
-        Command::SetUp(chosen, own) => held.set_up(chosen, own),
+        Command::SetUp(asked, own) => held.set_up(asked, own),
         Command::Slot(heard) => held.node.counted_slot(&mut held.counts, heard),
         Command::Off => held.node.off(),
         Command::Restart => held.node.restart(),

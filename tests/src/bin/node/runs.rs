@@ -11,6 +11,7 @@ use comparison::model::ring::{self, Set};
 use comparison::random::Random;
 use comparison::records::job_count;
 use comparison::report::Count;
+use comparison::slot_tables;
 
 /// What goes wrong for some slots.
 #[derive(Clone, Copy)]
@@ -129,10 +130,12 @@ pub struct Kind {
     pub tampered: u64,
 }
 
-/// Runs a cable with any number of jobs.
+/// Runs a cable with any number of jobs and any slot table.
 fn run(count: &mut Count, random: &mut Random, (n, k, lag): (u32, u32, u32), kind: &Kind) -> Cable {
     let m = job_count(random);
-    run_on(count, random, Cable::new(Choices { n, k, m, lag }), kind)
+    let order = slot_tables::order(random, n);
+    slot_tables::note(count, n, order);
+    run_on(count, random, Cable::new(Choices { n, k, m, lag, order }), kind)
 }
 
 /// Runs a cable whose counts are asked for after each call.
@@ -172,6 +175,7 @@ pub fn every_n_and_k(count: &mut Count) -> Result<(), String> {
             run(count, &mut random, (n, k, lag), &kind).into_script(&mut script);
         }
     }
+    count.needs(&slot_tables::KINDS)?;
     compare(count, &script)
 }
 
@@ -188,6 +192,7 @@ fn long_runs(count: &mut Count, seed: u64, lag: u32, kind: impl Fn(u32) -> Kind)
     count.needs(events::OF_CABLES)?;
     count.needs(if lag == 0 { events::OF_CABLES_WITHOUT_LAG } else { events::OF_CABLES_WITH_LAG })?;
     count.needs(events::OF_REPORTS)?;
+    count.needs(&slot_tables::KINDS)?;
     compare(count, &script)
 }
 

@@ -8,6 +8,7 @@ use comparison::model::choices::Choices;
 use comparison::model::counts::{Counts, NONE};
 use comparison::model::node::{Cause, ListeningData, Node, State};
 use comparison::model::ring::Set;
+use comparison::model::slot_table::Order;
 use comparison::record_bytes::{shown_counts, shown_record};
 use comparison::report::Count;
 
@@ -697,7 +698,7 @@ fn start(script: &mut Script, (chosen, own): (Choices, u32), run: &Run) -> Resul
         script.load(&node);
         return Ok(node);
     }
-    script.push(&Command::SetUp(chosen, own));
+    script.push(&Command::SetUp(chosen.into(), own));
     Node::set_up(chosen, own).map_err(|number| format!("{}: refusal {number}", run.what))
 }
 
@@ -745,8 +746,38 @@ fn stays(
 
 /// The model against the document, step by step, on a cable of this m and lag; the script is for the program.
 pub fn follow(count: &mut Count, script: &mut Script, (m, lag): (u32, u32), run: &Run) -> Result<(), String> {
+    follow_by(count, script, (m, lag, Order::plain(run.ring.0)), run)
+}
+
+/// What a step that may change the record asks of the program, and of the model; and what is expected. None for the
+/// others.
+type Asks = (Command<'static>, Result<Node, u32>, Result<Is, u32>);
+
+fn asks((chosen, own): (Choices, u32), (node, counts): (&Node, &mut Counts), step: &Step) -> Option<Asks> {
+    Some(match *step {
+        Slot(bytes, is) => (Command::Slot(bytes), node.counted_slot(counts, bytes), Ok(is)),
+        SlotRefused(bytes, number) => (Command::Slot(bytes), node.counted_slot(counts, bytes), Err(number)),
+        SetUp(is) => {
+            *counts = NONE;
+            (Command::SetUp(chosen.into(), own), Node::set_up(chosen, own), Ok(is))
+        }
+        Off => (Command::Off, node.off(), Ok(Out(Cause::SwitchedOff))),
+        OffRefused(number) => (Command::Off, node.off(), Err(number)),
+        Restart(is) => (Command::Restart, node.restart(), Ok(is)),
+        RestartRefused => (Command::Restart, node.restart(), Err(11)),
+        _ => return None,
+    })
+}
+
+/// The same with this slot table.
+pub fn follow_by(
+    count: &mut Count,
+    script: &mut Script,
+    (m, lag, order): (u32, u32, Order),
+    run: &Run,
+) -> Result<(), String> {
     let (n, k, own) = run.ring;
-    let chosen = Choices { n, k, m, lag };
+    let chosen = Choices { n, k, m, lag, order };
     let mut node = start(script, (chosen, own), run)?;
     let mut counts = NONE;
     let mut slots = node.slots;
@@ -755,24 +786,13 @@ pub fn follow(count: &mut Count, script: &mut Script, (m, lag): (u32, u32), run:
         if stays(count, script, &what, (&node, &mut counts), step)? {
             continue;
         }
-        let (command, got, expected) = match *step {
-            Slot(bytes, is) => {
-                slots += 1;
-                (Command::Slot(bytes), node.counted_slot(&mut counts, bytes), Ok(is))
-            }
-            SlotRefused(bytes, number) => {
-                (Command::Slot(bytes), node.counted_slot(&mut counts, bytes), Err(number))
-            }
-            SetUp(is) => {
-                (slots, counts) = (0, NONE);
-                (Command::SetUp(chosen, own), Node::set_up(chosen, own), Ok(is))
-            }
-            Off => (Command::Off, node.off(), Ok(Out(Cause::SwitchedOff))),
-            OffRefused(number) => (Command::Off, node.off(), Err(number)),
-            Restart(is) => (Command::Restart, node.restart(), Ok(is)),
-            RestartRefused => (Command::Restart, node.restart(), Err(11)),
-            // Those that leave the record.
-            _ => continue,
+        let Some((command, got, expected)) = asks((chosen, own), (&node, &mut counts), step) else {
+            continue;
+        };
+        slots = match *step {
+            Slot(..) => slots + 1,
+            SetUp(_) => 0,
+            _ => slots,
         };
         script.push(&command);
         let expected = expected.map(|is| record(chosen, own, slots, is));

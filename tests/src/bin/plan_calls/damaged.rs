@@ -7,6 +7,7 @@ use comparison::model::bench;
 use comparison::random::Random;
 use comparison::records::{choices_of, disturb};
 use comparison::report::Count;
+use comparison::slot_tables;
 
 fn numbers(random: &mut Random, n: u32) -> Command {
     let lines = match random.below(4) {
@@ -49,14 +50,15 @@ fn piece(random: &mut Random) -> Vec<u8> {
     piece
 }
 
-/// Tables of every n, most of them with a record that was disturbed or is missing. A table of another m or lag than
-/// 0 is one, too, and no line reports a job.
+/// Tables of every n, most of them with a record that was disturbed or is missing. A table of another m or lag than 0 or
+/// of another slot table than the plain one is one, too, and no line reports a job.
 pub fn plans(count: &mut Count) -> Result<(), String> {
     let mut random = Random::new(79);
     let mut commands = Vec::new();
     for i in 0..3_000 {
         let n = 3 + i % 30;
         let chosen = choices_of(&mut random, n);
+        slot_tables::note(count, n, chosen.order);
         let table = bench::set_up(chosen, n as usize).expect("the choices are in range");
         commands.push(Command::New);
         for (row, node) in (0..).zip(&table) {
@@ -76,5 +78,6 @@ pub fn plans(count: &mut Count) -> Result<(), String> {
         }
         commands.push(Command::Call(Call::Finish(if random.below(8) == 0 { 79 } else { 80 })));
     }
+    count.needs(&slot_tables::KINDS)?;
     compare(count, &commands)
 }

@@ -1,11 +1,27 @@
 //! The sets and rings that are tried.
 
 use comparison::model::choices::Choices;
+use comparison::model::ring::is_size;
 use comparison::random::Random;
+use comparison::slot_tables;
 
-/// A ring of n nodes, where k and the lag do not matter.
+/// A ring of n nodes in number order, where k and the lag do not matter.
 pub fn ring_of(n: u32) -> Choices {
     Choices::plain(n, 2)
+}
+
+/// The same in any order.
+pub fn any_ring_of(random: &mut Random, n: u32) -> Choices {
+    in_any_order(random, Choices::plain(n, 2))
+}
+
+/// These choices with any slot table, where n is in range.
+pub fn in_any_order(random: &mut Random, chosen: Choices) -> Choices {
+    if is_size(chosen.n) {
+        Choices { order: slot_tables::order(random, chosen.n), ..chosen }
+    } else {
+        chosen
+    }
 }
 
 /// All 512 sets of the nodes 1 to 9.

@@ -4,6 +4,7 @@ mod answers;
 mod inputs;
 mod sets;
 mod slots;
+mod table_vectors;
 mod vectors;
 mod walks;
 
@@ -20,6 +21,16 @@ const CASES: &[Case] = &[
         name: "vectors: members sponsored and decided, slots back, by document 01 and requests b and j, model and library",
         meets: &[0, 1, 2, 3, 16],
         run: vectors::walks,
+    },
+    Case {
+        name: "vectors: senders by slot tables of request k, model and library",
+        meets: &[0, 1],
+        run: table_vectors::senders,
+    },
+    Case {
+        name: "vectors: members sponsored and decided, slots back, by slot tables of request k, model and library",
+        meets: &[0, 1, 2, 3, 16],
+        run: table_vectors::walks,
     },
     Case {
         name: "sets: one set and any number, as a node and as n; all sets of 1 to 9 and chosen ones",
@@ -39,6 +50,16 @@ const CASES: &[Case] = &[
         run: slots::senders,
     },
     Case {
+        name: "senders: slot tables of n from 3 to 32, such slots",
+        meets: &[0],
+        run: slots::senders_by_table,
+    },
+    Case {
+        name: "senders: slot tables with a wrong place, and of lengths 0 to 40",
+        meets: &[],
+        run: slots::senders_by_damaged_table,
+    },
+    Case {
         name: "walks: n from 0 to 8, all sets of 1 to 9; nodes, k and j from 0 to n + 1, both lags and none",
         meets: &[0, 1, 2, 3, 16],
         run: walks::small_rings,
@@ -49,11 +70,21 @@ const CASES: &[Case] = &[
         run: walks::large_rings,
     },
     Case {
-        name: "walks: n from 3 to 32, random sets; nodes, k and j from 0 to n + 1, both lags and none",
+        name: "walks: n from 3 to 32, random sets and slot tables; nodes, k and j from 0 to n + 1, both lags and none",
         meets: &[0, 2, 3, 16],
         run: walks::all_rings,
     },
-    Case { name: "walks: random calls, some with large numbers", meets: &[0, 1, 2, 3, 16], run: walks::random },
+    Case {
+        name: "walks: every slot table and every set of n from 3 to 5",
+        meets: &[0, 2, 3, 16],
+        run: walks::every_table,
+    },
+    Case {
+        name: "walks: slot tables with a wrong place, members before a node that stands in them once",
+        meets: &[0],
+        run: walks::damaged_tables,
+    },
+    Case { name: "walks: random calls and slot tables, some with large numbers", meets: &[0, 1, 2, 3, 16], run: walks::random },
 ];
 
 fn main() -> ExitCode {

@@ -1,15 +1,15 @@
 //! Literal inputs and answers, typed from document 01 and requests b and j; neither side makes an expected answer.
 
 use super::answers::{found, Expected};
-use super::inputs::ring_of;
 use comparison::library::{self, Found};
 use comparison::model::choices::Choices;
 use comparison::model::refusal;
 use comparison::model::ring::{self, Met, Set};
+use comparison::model::slot_table::Order;
 use comparison::report::Count;
 
 /// n, the slot, its sender or the number of the refusal.
-type Sender = (u32, u64, Result<u32, u32>);
+pub type Sender = (u32, u64, Result<u32, u32>);
 
 #[rustfmt::skip]
 const SENDERS: &[Sender] = &[
@@ -32,25 +32,29 @@ const SENDERS: &[Sender] = &[
 ];
 
 pub fn senders(count: &mut Count) -> Result<(), String> {
-    for &(n, slot, expected) in SENDERS {
-        count.expected(expected.err().unwrap_or(0));
-        let by_model = if ring::is_size(n) { Ok(ring::sender(ring_of(n), slot)) } else { Err(refusal::N) };
-        let sides = [
-            ("model", by_model.map(u64::from).map_err(u64::from)),
-            ("library", library::sender(n, slot - 1)),
-        ];
-        for (who, got) in sides {
-            count.check(got == expected.map(u64::from).map_err(u64::from), || {
-                format!("sender n = {n}, slot {slot}: {who} {got:?}, document 01 {expected:?}")
-            })?;
-        }
+    SENDERS.iter().try_for_each(|&row| sender(count, Order::plain(row.0), row))
+}
+
+/// Both sides beside what is typed, with this slot table.
+pub fn sender(count: &mut Count, order: Order, (n, slot, expected): Sender) -> Result<(), String> {
+    count.expected(expected.err().unwrap_or(0));
+    let chosen = Choices { order, ..Choices::plain(n, 2) };
+    let by_model = if ring::is_size(n) { Ok(ring::sender(chosen, slot)) } else { Err(refusal::N) };
+    let sides = [
+        ("model", by_model.map(u64::from).map_err(u64::from)),
+        ("library", library::sender(&chosen.into(), slot - 1)),
+    ];
+    for (who, got) in sides {
+        count.check(got == expected.map(u64::from).map_err(u64::from), || {
+            format!("sender {chosen:?}, slot {slot}: {who} {got:?}, expected {expected:?}")
+        })?;
     }
     Ok(())
 }
 
 /// n, k, the lag, the set, the node; the members that it sponsors, the nearest first, each with the number of slots
 /// back, of which it decides the last; or the number of the refusal.
-type Walk = (u32, u32, u32, u32, u32, Result<&'static [(u32, u32)], u32>);
+pub type Walk = (u32, u32, u32, u32, u32, Result<&'static [(u32, u32)], u32>);
 
 #[rustfmt::skip]
 const WALKS: &[Walk] = &[
@@ -153,30 +157,31 @@ fn same(
     Ok(())
 }
 
+pub fn walks(count: &mut Count) -> Result<(), String> {
+    WALKS.iter().try_for_each(|&row| walk(count, Order::plain(row.0), row))
+}
+
 /// The members sponsored, from the 0th, which is nobody, to the 40th; those before the node, as far as they are
 /// typed, the first of them the nearest or with lag 1 the second; and the one decided.
-pub fn walks(count: &mut Count) -> Result<(), String> {
-    for &(n, k, lag, set, x, expected) in WALKS {
-        count.expected(expected.err().unwrap_or(0));
-        let chosen = Choices { n, k, m: 0, lag };
-        let call = |name: String| format!("{name} n = {n}, k = {k}, lag {lag}, set = {set:#X}, node {x}");
-        let checked = chosen.check_ring().and_then(|()| ring::check_node(n, x));
-        let sponsored = |j: u32| ring::sponsored(chosen, Set(set), x).nth(j.checked_sub(1)? as usize);
-        for j in 0..=40u32 {
-            let typed = expected.map(|members| members.get(j.checked_sub(1)? as usize).map(met));
-            let by_library = library::sponsored(chosen, set, x, j);
-            same(count, typed, checked.map(|()| sponsored(j)), by_library, || {
-                call(format!("{j}. sponsored"))
-            })?;
-        }
-        for (j, member) in (lag.saturating_add(1)..).zip(expected.into_iter().flatten()) {
-            let by_model = ring::members_before(chosen, Set(set), x).nth(j as usize - 1);
-            let by_library = library::before(n, set, x, j);
-            same(count, Ok(Some(met(member))), Ok(by_model), by_library, || call(format!("{j}. before")))?;
-        }
-        let typed = expected.map(|members| members.last().map(met));
-        let by_model = checked.map(|()| ring::decided(chosen, Set(set), x));
-        same(count, typed, by_model, library::decided(chosen, set, x), || call("decided".to_string()))?;
+pub fn walk(count: &mut Count, order: Order, row: Walk) -> Result<(), String> {
+    let (n, k, lag, set, x, expected) = row;
+    count.expected(expected.err().unwrap_or(0));
+    let chosen = Choices { n, k, m: 0, lag, order };
+    let asked = chosen.into();
+    let call = |name: String| format!("{name} {chosen:?}, set = {set:#X}, node {x}");
+    let checked = chosen.check_ring().and_then(|()| ring::check_node(n, x));
+    let sponsored = |j: u32| ring::sponsored(chosen, Set(set), x).nth(j.checked_sub(1)? as usize);
+    for j in 0..=40u32 {
+        let typed = expected.map(|members| members.get(j.checked_sub(1)? as usize).map(met));
+        let by_library = library::sponsored(&asked, set, x, j);
+        same(count, typed, checked.map(|()| sponsored(j)), by_library, || call(format!("{j}. sponsored")))?;
     }
-    Ok(())
+    for (j, member) in (lag.saturating_add(1)..).zip(expected.into_iter().flatten()) {
+        let by_model = ring::members_before(chosen, Set(set), x).nth(j as usize - 1);
+        let by_library = library::before(&asked, set, x, j);
+        same(count, Ok(Some(met(member))), Ok(by_model), by_library, || call(format!("{j}. before")))?;
+    }
+    let typed = expected.map(|members| members.last().map(met));
+    let by_model = checked.map(|()| ring::decided(chosen, Set(set), x));
+    same(count, typed, by_model, library::decided(&asked, set, x), || call("decided".to_string()))
 }

@@ -1,19 +1,22 @@
 //! The walk back: the members before a node, sponsored and decided, and how many slots back each speaks.
 
 use super::answers::{found, Expected};
-use super::inputs::{chosen_sets, ring_of, small_sets};
+use super::inputs::{any_ring_of, chosen_sets, in_any_order, ring_of, small_sets};
 use comparison::library::{self, Found};
 use comparison::model::choices::Choices;
 use comparison::model::ring::{self, Met, Set};
 use comparison::model::roll::Roll;
+use comparison::model::slot_table::Order;
 use comparison::numbers::small_and_large;
 use comparison::random::Random;
+use comparison::records::choices;
 use comparison::report::Count;
+use comparison::slot_tables;
 
-/// A node x of a ring of n with this set, and a number of members.
+/// A node x of a ring with this set, and a number of members.
 #[derive(Clone, Copy)]
 struct Walk {
-    n: u32,
+    chosen: Choices,
     set: u32,
     x: u32,
     j: u32,
@@ -23,10 +26,12 @@ impl Walk {
     /// Counted by slots: the member is that of so many slots before a slot of x, 1 to n - 1, and just j members
     /// speak from there on, it the first.
     fn meets(self, met: Met) -> bool {
-        let slot = u64::from(self.n + self.x);
-        let speaker = |back: u32| ring::sender(ring_of(self.n), slot - u64::from(back));
+        let n = u64::from(self.chosen.n);
+        let speaker_of = |slot| ring::sender(self.chosen, slot);
+        let own = (n + 1..=2 * n).find(|&slot| speaker_of(slot) == self.x).expect("each node has a slot");
+        let speaker = |back: u32| speaker_of(own - u64::from(back));
         let set = Roll::of(self.set);
-        (1..self.n).contains(&met.back)
+        (1..self.chosen.n).contains(&met.back)
             && speaker(met.back) == met.member
             && set.has(met.member)
             && (1..=met.back).filter(|&back| set.has(speaker(back))).count() == self.j as usize
@@ -57,7 +62,7 @@ fn same(
     got: Found,
     call: impl Fn() -> String,
 ) -> Result<(), String> {
-    note(count, walk.n, expected);
+    note(count, walk.chosen.n, expected);
     count.check(got == found(expected), || format!("{}: library {got:?}, model {expected:?}", call()))?;
     match expected {
         Ok(Some(met)) => count.check(walk.meets(met), || format!("{}: by slots not {met:?}", call())),
@@ -70,33 +75,31 @@ fn jth(mut members: impl Iterator<Item = Met>, j: u32) -> Option<Met> {
     members.nth(j.checked_sub(1)? as usize)
 }
 
-fn before(count: &mut Count, n: u32, set: u32, x: u32, j: u32) -> Result<(), String> {
-    let checked = ring::check_size(n).and_then(|()| ring::check_node(n, x));
-    let expected = checked.map(|()| jth(ring::members_before(ring_of(n), Set(set), x), j));
-    same(count, Walk { n, set, x, j }, expected, library::before(n, set, x, j), || {
-        format!("before n = {n}, set = {set:#X}, node {x}, j = {j}")
+fn before(count: &mut Count, chosen: Choices, set: u32, x: u32, j: u32) -> Result<(), String> {
+    let checked = ring::check_size(chosen.n).and_then(|()| ring::check_node(chosen.n, x));
+    let expected = checked.map(|()| jth(ring::members_before(chosen, Set(set), x), j));
+    same(count, Walk { chosen, set, x, j }, expected, library::before(&chosen.into(), set, x, j), || {
+        format!("before {chosen:?}, set = {set:#X}, node {x}, j = {j}")
     })
 }
 
 /// Numbers above n in the set are no members.
 fn sponsored(count: &mut Count, chosen: Choices, set: u32, x: u32, j: u32) -> Result<(), String> {
-    let Choices { n, k, lag, .. } = chosen;
-    let members = Set(set).up_to(n);
+    let members = Set(set).up_to(chosen.n);
     let expected = checked(chosen, x).map(|()| jth(ring::sponsored(chosen, members, x), j));
-    let walk = Walk { n, set, x, j: j.saturating_add(lag) };
-    same(count, walk, expected, library::sponsored(chosen, set, x, j), || {
-        format!("sponsored n = {n}, k = {k}, lag {lag}, set = {set:#X}, node {x}, j = {j}")
+    let walk = Walk { chosen, set, x, j: j.saturating_add(chosen.lag) };
+    same(count, walk, expected, library::sponsored(&chosen.into(), set, x, j), || {
+        format!("sponsored {chosen:?}, set = {set:#X}, node {x}, j = {j}")
     })
 }
 
 /// The (ks + lag)-th member before it.
 fn decided(count: &mut Count, chosen: Choices, set: u32, x: u32) -> Result<(), String> {
-    let Choices { n, k, lag, .. } = chosen;
-    let members = Set(set).up_to(n);
+    let members = Set(set).up_to(chosen.n);
     let expected = checked(chosen, x).map(|()| ring::decided(chosen, members, x));
-    let j = ring::ks(chosen, Roll::of(set).up_to(n).count()).saturating_add(lag);
-    same(count, Walk { n, set, x, j }, expected, library::decided(chosen, set, x), || {
-        format!("decided n = {n}, k = {k}, lag {lag}, set = {set:#X}, node {x}")
+    let j = ring::ks(chosen, Roll::of(set).up_to(chosen.n).count()).saturating_add(chosen.lag);
+    same(count, Walk { chosen, set, x, j }, expected, library::decided(&chosen.into(), set, x), || {
+        format!("decided {chosen:?}, set = {set:#X}, node {x}")
     })
 }
 
@@ -106,13 +109,14 @@ fn checked(chosen: Choices, x: u32) -> Result<(), u32> {
 }
 
 /// One node, with each lag, two that are none, and each k and j to n + 1.
-fn node(count: &mut Count, n: u32, set: u32, x: u32) -> Result<(), String> {
+fn node(count: &mut Count, ring: Choices, set: u32, x: u32) -> Result<(), String> {
+    let n = ring.n;
     for j in 0..=n + 1 {
-        before(count, n, set, x, j)?;
+        before(count, ring, set, x, j)?;
     }
     for k in 0..=n + 1 {
         for lag in [0, 1, 2, u32::MAX] {
-            let chosen = Choices { n, k, m: 0, lag };
+            let chosen = Choices { k, lag, ..ring };
             decided(count, chosen, set, x)?;
             // A lag that is none is refused whatever j.
             for j in 0..=if lag > 1 { 1 } else { n + 1 } {
@@ -124,9 +128,9 @@ fn node(count: &mut Count, n: u32, set: u32, x: u32) -> Result<(), String> {
 }
 
 /// One set, with each node to n + 1.
-fn every_node(count: &mut Count, n: u32, set: u32) -> Result<(), String> {
-    for x in 0..=n + 1 {
-        node(count, n, set, x)?;
+fn every_node(count: &mut Count, ring: Choices, set: u32) -> Result<(), String> {
+    for x in 0..=ring.n + 1 {
+        node(count, ring, set, x)?;
     }
     Ok(())
 }
@@ -140,22 +144,74 @@ fn all_found(count: &Count) -> Result<(), String> {
 pub fn small_rings(count: &mut Count) -> Result<(), String> {
     for n in 0..=8 {
         for set in small_sets() {
-            every_node(count, n, set)?;
+            every_node(count, ring_of(n), set)?;
         }
     }
+    all_found(count)
+}
+
+/// The same nodes in every order.
+fn orders(n: u8) -> Vec<Vec<u8>> {
+    if n == 0 {
+        return vec![Vec::new()];
+    }
+    let mut all = Vec::new();
+    for shorter in orders(n - 1) {
+        for at in 0..=shorter.len() {
+            let mut order = shorter.clone();
+            order.insert(at, n);
+            all.push(order);
+        }
+    }
+    all
+}
+
+/// Every slot table of so few nodes, and every set.
+pub fn every_table(count: &mut Count) -> Result<(), String> {
+    for n in 3..=5 {
+        for order in orders(n).iter().map(|order| Order::kept(order)) {
+            let ring = Choices { order, ..ring_of(u32::from(n)) };
+            slot_tables::note(count, ring.n, order);
+            for set in 0..1 << n {
+                every_node(count, ring, set)?;
+            }
+        }
+    }
+    all_found(count)
+}
+
+/// The members before a node that stands in the table once, where another is missing: the places are walked as they
+/// are, and a node that stands at two of them is met twice.
+pub fn damaged_tables(count: &mut Count) -> Result<(), String> {
+    let mut random = Random::new(19);
+    for i in 0..200_000 {
+        let chosen = choices(&mut random);
+        let n = chosen.n as usize;
+        let mut order = chosen.order;
+        slot_tables::make_wrong(&mut random, &mut order.0[..n], i % 4);
+        let x = random.within(1, n as u64) as u32;
+        if order.0[..n].iter().filter(|&&speaker| u32::from(speaker) == x).count() != 1 {
+            continue;
+        }
+        count.event(slot_tables::WRONG[i % 4]);
+        let set = Set(random.number() as u32 | random.number() as u32);
+        let j = random.below(n as u64 + 2) as u32;
+        before(count, Choices { order, ..chosen }, set.up_to(chosen.n).0, x, j)?;
+    }
+    count.needs(&slot_tables::WRONG)?;
     all_found(count)
 }
 
 pub fn large_rings(count: &mut Count) -> Result<(), String> {
     for n in 31..=33 {
         for set in chosen_sets() {
-            every_node(count, n, set)?;
+            every_node(count, ring_of(n), set)?;
         }
     }
     all_found(count)
 }
 
-/// Random sets for each n: with numbers above n, without these, and with about half of the rest.
+/// Random sets for each n: with numbers above n, without these, and with about half of the rest. Each with a slot table.
 pub fn all_rings(count: &mut Count) -> Result<(), String> {
     let mut random = Random::new(7);
     for n in 3..=32 {
@@ -163,10 +219,13 @@ pub fn all_rings(count: &mut Count) -> Result<(), String> {
             let any = Set(random.number() as u32);
             let half = random.some_of(any.up_to(n));
             for set in [any, any.up_to(n), half] {
-                every_node(count, n, set.0)?;
+                let ring = any_ring_of(&mut random, n);
+                slot_tables::note(count, n, ring.order);
+                every_node(count, ring, set.0)?;
             }
         }
     }
+    count.needs(&slot_tables::KINDS)?;
     all_found(count)
 }
 
@@ -187,12 +246,12 @@ pub fn random(count: &mut Count) -> Result<(), String> {
         let k = number(&mut random, n, &numbers);
         let lag =
             if random.below(8) == 0 { number(&mut random, n, &numbers) } else { random.below(2) as u32 };
-        let chosen = Choices { n, k, m: 0, lag };
+        let chosen = in_any_order(&mut random, Choices::of(n, k, 0, lag));
         let x = number(&mut random, n, &numbers);
         let j = number(&mut random, n, &numbers);
         let any = random.number() as u32;
         let set = if random.bit() { any } else { any & random.number() as u32 };
-        before(count, n, set, x, j)?;
+        before(count, chosen, set, x, j)?;
         sponsored(count, chosen, set, x, j)?;
         decided(count, chosen, set, x)?;
     }

@@ -1,0 +1,5 @@
+pub mod Entries
+pub mod Sums
+pub mod Places
+pub mod Same
+pub mod Numbers
