@@ -30,3 +30,4 @@ pub mod Differs
 pub mod Demanded
 pub mod Throughout
 pub mod Plain
+pub mod ByNumber

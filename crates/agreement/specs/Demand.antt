@@ -166,7 +166,7 @@ module _ (cable : Cable) (start : Table) where
 
 -- ---- demand 3
 
--- For every cable ("n from 3 to 32", "k is from 2 to n - 1" less the lag, a lag of 0 or 1, "shown once for both lags") and whatever table of n records was lent to set-up: every sequence of calls from there that keeps
+-- For every cable ("n from 3 to 32", "k is from 2 to n - 1" less the lag, a lag of 0 or 1, "shown once for both lags", any slot table: "agreement .. must hold for every table", document 02, k) and whatever table of n records was lent to set-up: every sequence of calls from there that keeps
 -- what is assumed has what is claimed.
 unfoldable pub EverySequence : (assumed claimed : Cable → Table → List Call → Type 0) → Type 0
 EverySequence assumed claimed =

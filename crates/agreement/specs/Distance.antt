@@ -24,7 +24,7 @@ module _ (cable : Cable) (start : Table) where
   abbrev pub LookTells : List Call → Type 0
   LookTells cs = (lost : Bool) (slots : List ℕ) (room : ℕ) → NoDistance (endedOf (command.Look lost) slots room (tableAfter start cs) .reply .outcome)
 
-  -- So does the call c, made after the calls cs, if it is a slot that runs, whatever job byte its sender is given.
+  -- So does the call c, made after the calls cs, if it is a slot that runs, whatever job byte its sender is given and whatever slot table is lent.
   abbrev pub SlotTells : Call → List Call → Type 0
   SlotTells (slot lost missed room) cs =
       (jobs : ℕ) (slots : List ℕ) → isDone (calledOf (command.Slot lost missed jobs) slots room (tableAfter start cs) .answer) ≡ true

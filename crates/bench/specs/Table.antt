@@ -17,7 +17,7 @@ Table = List Node
 unfoldable pub recordOf : Table → ℕ → Node
 recordOf t i = getD t (i - 1) noNode
 
--- Each record made anew from its place and itself; the first of them stands at place i.
+-- Each record made anew from its row and itself; the first of them stands in row i.
 unfoldable pub eachFrom : (ℕ → Node → Node) → ℕ → Table → Table
 eachFrom f i [] = []
 eachFrom f i (v ∷ t) = f i v ∷ eachFrom f (suc i) t
@@ -27,7 +27,7 @@ each f t = eachFrom f 1 t
 
 -- ---- a table that is not refused by 4
 
--- A sound record at place i of a table on this cable after so many slots.
+-- A sound record in row i, that of node i, of a table on this cable after so many slots.
 abbrev pub inPlace : Cable → ℕ → ℕ → Node → Bool
 inPlace cable slots i v = sound v && (sameCable (v .cable) cable && (eqb (v .slots) slots && eqb (v .own) i))
 

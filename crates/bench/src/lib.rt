@@ -4,9 +4,9 @@
 use refusal::Refusal;
 use ring::Choices;
 
-// A call over the table: set-up with the cable's choices, beside which the slot table is lent; off and restart of a node; a slot, whose
-// message is lost or not, which these nodes miss, and with the sender's job byte; a look, which changes
-// nothing and tells of the next slot's message, lost or not.
+// A call over the table: set-up with the cable's choices, beside which the slot table is lent; off and
+// restart of a node; a slot, whose message is lost or not, which these nodes miss, and with the sender's
+// job byte; a look, which changes nothing and tells of the next slot's message, lost or not.
 pub enum Command {
     SetUp(Choices),
     Off(u32),

@@ -1,6 +1,7 @@
 // The bench (document 01, "The bench"): one function carries out every call over a lent table of node
-// records, a lent ledger, lent counts and lent bytes. It has no branches; what it decides stands in the functions by
-// value, the walks over the table in `bench_walks`, what is entered in the ledger in `ledger`.
+// records, a lent ledger, lent counts, lent bytes for the pairs and a lent slot table. It has no branches;
+// what it decides stands in the functions by value, the walks over the table in `bench_walks`, what is
+// entered in the ledger in `ledger`.
 use bench::Command;
 use bench::Listed;
 use bench::Outcome;
@@ -327,9 +328,9 @@ fn tell(pairs: &mut [u8], order: Order, work: Work) -> Reply
 // Carries a call out. The nodes whose state a slot changed stand in `pairs`, those that left first, each with
 // the kind of its change; who left or joined in an off or a slot is entered in `ledger`; the reports heard in
 // a slot are counted in `counts`, which set-up clears. The table is tested once; sets are compared only where
-// two members hold different ones.
-// Set-up, to which the slot table is lent in `slots`, refuses by 1, 16, 2, 14, 17, 18 and 4, off by 4, 3 and 13, restart by 4, 3 and 11, a slot by 4, 3, 13, 5, 8 and
-// 9, a look by 4.
+// two members hold different ones. The slot table lent in `slots` is looked at by set-up alone.
+// Set-up refuses by 1, 16, 2, 14, 17, 18 and 4, off by 4, 3 and 13, restart by 4, 3 and 11, a slot by 4, 3,
+// 13, 5, 8 and 9, a look by 4.
 pub fn call(
     table: &mut [Node],
     ledger: &mut [[u64; 3]],

@@ -123,9 +123,9 @@ errandOf o beside = record { order = o; cable = beside .cable }
 
 -- ---- carrying an order out
 
--- The node at index i, of the first 32.
-abbrev pub placeOf : ℕ → ℕ
-placeOf i = cond (ltb i 32) (i + 1) 0
+-- The number of the node at index i, of the first 32.
+abbrev pub numberAt : ℕ → ℕ
+numberAt i = cond (ltb i 32) (i + 1) 0
 
 abbrev pub offAt : ℕ → Node → Node
 offAt a v = cond (eqb (v .own) a) (outFor SwitchedOff v) v
@@ -142,7 +142,7 @@ stepAt turn v = afterBy (turn .digest) (turn .sender) (heardAt turn v) (numbered
 
 unfoldable pub carriedBy : Order → Cable → ℕ → Node → Node
 carriedBy (order.Refuse cause) cable i v = v
-carriedBy order.Start cable i v = starting cable (placeOf i)
+carriedBy order.Start cable i v = starting cable (numberAt i)
 carriedBy (order.Off a) cable i v = offAt a v
 carriedBy (order.Restart a) cable i v = restartAt a v
 carriedBy (order.Slot turn) cable i v = stepAt turn v

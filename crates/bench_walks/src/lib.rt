@@ -19,8 +19,8 @@ use orders::off_order;
 use orders::restart_order;
 use orders::set_up_order;
 use orders::slot_order;
+use records::number_at;
 use records::off_at;
-use records::place_of;
 use records::restart_at;
 use records::step_at;
 use refusal::Refusal;
@@ -171,7 +171,7 @@ fn carried(errand: Errand, i: usize, v: Node) -> Node
     let cable = errand.cable;
     match order {
         Order::Refuse(_) => v,
-        Order::Start => node_changes::starting(cable, place_of(i)),
+        Order::Start => node_changes::starting(cable, number_at(i)),
         Order::Off(a) => off_at(a, v),
         Order::Restart(a) => restart_at(a, v),
         Order::Slot(turn) => step_at(turn, v),

@@ -7,11 +7,11 @@ use node_record::Node;
 use refusal::Refusal;
 ghost use mathlib.Core.Path.{_≡_};
 ghost use Rattle.node_changes.specs.Changes.{numbered};
-ghost use Rattle.bench_walks.specs.Orders.{placeOf, offAt, restartAt, heardAt, stepAt};
+ghost use Rattle.bench_walks.specs.Orders.{numberAt, offAt, restartAt, heardAt, stepAt};
 
 // The number of the node at index i, of the first 32.
-pub fn place_of(i: usize) -> u32
-    ensures { λ r. ⌜ r ≡ placeOf i ⌝ }
+pub fn number_at(i: usize) -> u32
+    ensures { λ r. ⌜ r ≡ numberAt i ⌝ }
 {
     if 32 <= i {
         return 0;

@@ -38,7 +38,7 @@ pub fn begun(fine: bool, v: Node) -> Survey
 }
 
 // Whether own is the number of the node at index i.
-pub fn is_place(own: u32, i: usize) -> bool
+pub fn is_number_at(own: u32, i: usize) -> bool
     ensures { λ r. ⌜ r ≡ eqb own (i + 1) ⌝ }
 {
     if own == 0 {
@@ -54,7 +54,7 @@ pub fn stands(s: Survey, i: usize, v: Node) -> bool
     let cable = v.cable;
     let first = s.cable;
     node_record::is_sound(v)
-        & (ring::is_same_cable(cable, first) & ((v.slots == s.slots) & is_place(v.own, i)))
+        & (ring::is_same_cable(cable, first) & ((v.slots == s.slots) & is_number_at(v.own, i)))
 }
 
 // The nodes that are out, with one record more.

@@ -1,4 +1,4 @@
--- Demand 2: every slot changes a node's record exactly as document 01 says, with requests e and f in it; a message written is read back as the same, and each readable message is the one
+-- Demand 2: every slot changes a node's record exactly as document 01 says, with requests e, f, h, j and k in it; a message written is read back as the same, and each readable message is the one
 -- that would be written.
 use Prim.Native.Nat.{ℕ, _+_, _≤_, _<_, _-_}
 use mathlib.Core.Path.{_≡_}

@@ -1,4 +1,4 @@
--- A call with a ledger, counts and a job byte that is made is the call without them; a refused one leaves the table (specs/Runs). Assumes nothing.
+-- A call with a ledger, counts, a job byte and a slot table that is made is the call without them; a refused one leaves the table (specs/Runs). Assumes nothing.
 use Prim.Native.Nat.{ℕ}
 use mathlib.Core.Path.{_≡_, refl, _∙_}
 use mathlib.Core.Bool.{Bool, true, false, true≢false}
@@ -57,7 +57,7 @@ module _ (g : Given) (ledger : Ledger) (t : Table) where
   unfolding slotWith offWith
   refused-stays = go (g .call)
     where
-      go : (c : Call) → Keeps t (calledBy (record { call = c; counts = g .counts; jobs = g .jobs }) ledger t)
+      go : (c : Call) → Keeps t (calledBy (record { call = c; counts = g .counts; jobs = g .jobs; slots = g .slots }) ledger t)
       go (slot lost missed room) =
           keeps-if (tableSound t) 4 t _ (keeps-if (reportsFit t (g .counts)) 4 t _ (keeps-if (within (nodeCount t) missed) 3 t _ (keeps-if (ledgerFits (nodeCount t) (slotsOf t) ledger) 13 t _ (given-keeps lost missed (g .jobs) room t))))
       go (off a) = keeps-if (tableSound t) 4 t _ (keeps-if (nodeNumber (nodeCount t) a) 3 t _ (keeps-if (ledgerFits (nodeCount t) (slotsOf t) ledger) 13 t _ (off-keeps a t)))
@@ -67,7 +67,7 @@ module _ (g : Given) (ledger : Ledger) (t : Table) where
   unfolding slotWith offWith callOf
   made-is = go (g .call)
     where
-      go : (c : Call) → let called = calledBy (record { call = c; counts = g .counts; jobs = g .jobs }) ledger t in isDone (called .answer) ≡ true → called ≡ callOf c t
+      go : (c : Call) → let called = calledBy (record { call = c; counts = g .counts; jobs = g .jobs; slots = g .slots }) ledger t in isDone (called .answer) ≡ true → called ≡ callOf c t
       go (slot lost missed room) e =
           let e₁ = after (tableSound t) 4 t _ e in
           let e₂ = after (reportsFit t (g .counts)) 4 t _ e₁ in

@@ -53,7 +53,7 @@ not-4 g ledger t ok fits = go (g .call)
     none : _≢_ {A = ℕ} 0 4
     none e = omega arith
 
-    go : (c : Call) → numberIn (calledBy (record { call = c; counts = g .counts; jobs = g .jobs }) ledger t .answer) ≢ 4
+    go : (c : Call) → numberIn (calledBy (record { call = c; counts = g .counts; jobs = g .jobs; slots = g .slots }) ledger t .answer) ≢ 4
     go (slot lost missed room) =
         rw (ok, fits) (unless 4 (within (nodeCount t) missed) 3 t _ refl (unless 4 (ledgerFits (nodeCount t) (slotsOf t) ledger) 13 t _ refl
         (unless 4 (within (nodeCount t) missed) 3 t _ refl (unless 4 (ltb (slotsOf t) limit) 5 t _ refl (unless 4 (jobsWithin (jobsOn t) (g .jobs)) 8 t _ refl
@@ -180,7 +180,7 @@ module _ (cable : Cable) (fits : cableFits cable ≡ true) (lent : Table) (one-e
     refused : isDone (called .answer) ≡ false → Kept (a ∷ asks) ms
     refused e = quiet ms (refused-stays g (a .ledger) (b .table) e ∙ k .tables) (go (a .call)) (omega arith) (λ i x j. refl)
       where
-        go : (c : Call) → reportsWith (commanded (record { call = c; counts = from asks .counts; jobs = a .jobs })) (from asks .table) called (from asks .counts) ≡ from asks .counts
+        go : (c : Call) → reportsWith (commanded (record { call = c; counts = from asks .counts; jobs = a .jobs; slots = a .slots })) (from asks .table) called (from asks .counts) ≡ from asks .counts
         go (slot lost missed room) = when-refused (called .answer) _ _ e
         go (off x) = refl
         go (restart x) = refl
@@ -200,7 +200,7 @@ module _ (cable : Cable) (fits : cableFits cable ≡ true) (lent : Table) (one-e
       module _ (lost : Bool) (missed room : ℕ) (is-slot : a .call ≡ slot lost missed room) where
         counts-are : after ≡ reportsAfterSlot lost missed (a .jobs) t (b .counts)
         counts-are =
-            ap (λ (c : Call). reportsWith (commanded (record { call = c; counts = from asks .counts; jobs = a .jobs })) (from asks .table) called (from asks .counts)) is-slot
+            ap (λ (c : Call). reportsWith (commanded (record { call = c; counts = from asks .counts; jobs = a .jobs; slots = a .slots })) (from asks .table) called (from asks .counts)) is-slot
             ∙ when-done (called .answer) _ _ made ∙ ap (λ (u : Table). reportsAfterSlot lost missed (a .jobs) u (b .counts)) (k .tables)
 
         runs : isSlot (a .call) t ≡ true
@@ -267,8 +267,8 @@ module _ (cable : Cable) (fits : cableFits cable ≡ true) (lent : Table) (one-e
         where
           go : (c : Call) → a .call ≡ c → Kept (a ∷ asks) (record { call = a .call; jobs = a .jobs } ∷ ms)
           go (slot lost missed room) e = a-slot lost missed room e
-          go (off x) e = no-slot (off x) e refl (ap (λ (c : Call). reportsWith (commanded (record { call = c; counts = from asks .counts; jobs = a .jobs })) (from asks .table) called (from asks .counts)) e) (λ i y j. refl)
-          go (restart x) e = no-slot (restart x) e refl (ap (λ (c : Call). reportsWith (commanded (record { call = c; counts = from asks .counts; jobs = a .jobs })) (from asks .table) called (from asks .counts)) e) (λ i y j. refl)
+          go (off x) e = no-slot (off x) e refl (ap (λ (c : Call). reportsWith (commanded (record { call = c; counts = from asks .counts; jobs = a .jobs; slots = a .slots })) (from asks .table) called (from asks .counts)) e) (λ i y j. refl)
+          go (restart x) e = no-slot (restart x) e refl (ap (λ (c : Call). reportsWith (commanded (record { call = c; counts = from asks .counts; jobs = a .jobs; slots = a .slots })) (from asks .table) called (from asks .counts)) e) (λ i y j. refl)
 
   none-at : (i : ℕ) → i < n → getD (noReportsAt n) i [] ≡ noReports
   none-at i h = getD-replicate {A = Counts} n i noReports [] h

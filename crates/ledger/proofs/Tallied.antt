@@ -258,7 +258,7 @@ not-13 g ledger t fits = go (g .call)
     none : _≢_ {A = ℕ} 0 13
     none e = omega arith
 
-    go : (c : Call) → numberIn (calledBy (record { call = c; counts = g .counts; jobs = g .jobs }) ledger t .answer) ≢ 13
+    go : (c : Call) → numberIn (calledBy (record { call = c; counts = g .counts; jobs = g .jobs; slots = g .slots }) ledger t .answer) ≢ 13
     go (slot lost missed room) =
         unless 13 (tableSound t) 4 t _ refl (unless 13 (reportsFit t (g .counts)) 4 t _ refl (unless 13 (within (nodeCount t) missed) 3 t _ refl (rw fits
         (unless 13 (tableSound t) 4 t _ refl (unless 13 (within (nodeCount t) missed) 3 t _ refl (unless 13 (ltb (slotsOf t) limit) 5 t _ refl (unless 13 (jobsWithin (jobsOn t) (g .jobs)) 8 t _ refl

@@ -24,14 +24,15 @@ use Rattle.ledger.specs.Runs.{Given, calledBy, keptBy}
 
 -- ---- a run that keeps the counts
 
--- A call, the ledger that is lent with it, and the job byte that a slot's sender is given.
+-- A call, the ledger and the slot table that are lent with it, and the job byte that a slot's sender is given.
 pub record Asked : Type 0 where
   pub call : Call
   pub ledger : Ledger
   pub jobs : ℕ
+  pub slots : List ℕ
 
 abbrev pub withCounts : Asked → List Counts → Given
-withCounts a counts = record { call = a .call; counts = counts; jobs = a .jobs }
+withCounts a counts = record { call = a .call; counts = counts; jobs = a .jobs; slots = a .slots }
 
 -- A call that is made, and its job byte.
 pub record Made : Type 0 where

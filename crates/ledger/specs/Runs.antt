@@ -15,11 +15,12 @@ use Rattle.bench.specs.Ledger.{Ledger, figures}
 use Rattle.bench.specs.Kept.{Kept, calledWith, keptOf}
 use Rattle.bench.specs.Runs.{Call, slot, off, restart, tableAfter}
 
--- A call, the counts of failure reports that are lent with it, and the job byte that a slot's sender is given.
+-- A call, the counts of failure reports that are lent with it, the job byte that a slot's sender is given, and the slot table that is lent with it: any, as only set-up looks at it.
 pub record Given : Type 0 where
   pub call : Call
   pub counts : List Counts
   pub jobs : ℕ
+  pub slots : List ℕ
 
 -- The command of a call, and how many bytes are lent with it for the pairs.
 abbrev pub commandOf : Call → ℕ → Command
@@ -32,15 +33,15 @@ roomOf (slot lost missed room) = room
 roomOf (off a) = 0
 roomOf (restart a) = 0
 
--- What a call makes of a table and a ledger. (No slot table is lent: only set-up looks at it.)
+-- What a call makes of a table and a ledger.
 abbrev pub commanded : Given → Command
 commanded g = commandOf (g .call) (g .jobs)
 
 abbrev pub calledBy : Given → Ledger → Table → Called
-calledBy g ledger t = calledWith (commanded g) [] (roomOf (g .call)) ledger (g .counts) t
+calledBy g ledger t = calledWith (commanded g) (g .slots) (roomOf (g .call)) ledger (g .counts) t
 
 abbrev pub keptBy : Given → Ledger → Table → Kept
-keptBy g ledger t = keptOf (commanded g) [] (roomOf (g .call)) ledger (g .counts) t
+keptBy g ledger t = keptOf (commanded g) (g .slots) (roomOf (g .call)) ledger (g .counts) t
 
 -- The calls with one more, if it is made: a refused one is no slot, and changes nothing.
 abbrev pub withMade : Bool → Call → List Call → List Call
@@ -85,6 +86,6 @@ module _ (start : Table) where
   taken [] = []
   taken (l ∷ ls) = withMade (isDone (calledBy (l .given) (l .ledger) (tableLent ls) .answer)) (l .given .call) (taken ls)
 
--- Whatever ledgers, counts and job bytes are given, the tables are those of the calls that are made, without them: what is said of all sequences of these (demand 3, requests f and g) is said of the bench's calls.
+-- Whatever ledgers, counts, job bytes and slot tables are given, the tables are those of the calls that are made, without them: what is said of all sequences of these (demand 3, requests f and g) is said of the bench's calls.
 abbrev pub AnyLent : Type 0
 AnyLent = (start : Table) (ls : List Lent) → tableLent start ls ≡ tableAfter start (taken start ls)

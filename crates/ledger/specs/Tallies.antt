@@ -48,7 +48,7 @@ fromZeros cable start gs = benchAfter (record { table = start; ledger = zeros (c
 abbrev pub madeFrom : Cable → Table → List Given → List Call
 madeFrom cable start gs = madeOf (record { table = start; ledger = zeros (cable .n) }) gs
 
--- Over every sequence of calls from the common start and a ledger of zeros, whatever counts and job bytes are given: the tables are those of the calls that are made, without a ledger, the ledger has an
+-- Over every sequence of calls from the common start and a ledger of zeros, whatever counts, job bytes and slot tables are given: the tables are those of the calls that are made, without a ledger, the ledger has an
 -- entry for each node, each figure is its tally, and no call is refused by 13.
 pub record Tallied (cable : Cable) (start : Table) (gs : List Given) : Type 0 where
   pub tables : fromZeros cable start gs .table ≡ tableAfter start (madeFrom cable start gs)

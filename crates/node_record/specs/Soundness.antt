@@ -21,7 +21,7 @@ implies a b = not a || b
 abbrev pub exactly : Bool → Bool → Bool
 exactly a b = Bool·beq a b
 
--- "n, k and own number are in range, the slot count is at most the limit"; "The record keeps m and later choices of set-up", and "a kept choice out of range" is refused, too (document 02, h)
+-- "n, k and own number are in range, the slot count is at most the limit"; "The record keeps m and later choices of set-up", and "a kept choice out of range" is refused, too (document 02, h), as is a slot table "kept so" (a node missing or doubled), "or with a spare place used" (k)
 abbrev pub numbersSound : Node → Bool
 numbersSound v = cableFits (v .cable) && (nodeNumber (v .cable .n) (v .own) && leb (v .slots) limit)
 

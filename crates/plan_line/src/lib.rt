@@ -1,6 +1,7 @@
 // The lines of a plan (document 01, "The bench program"): what a line says, or by which cause it is
 // refused. A line comes without its line feed. An inner layer: it takes every n as it is.
 use refusal::Refusal;
+use ring::Choices;
 ghost use mathlib.Core.Path.{_≡_};
 ghost use mathlib.Core.Bool.{true, false, _&&_};
 ghost use Prim.Native.Nat.{_+_, min};
@@ -282,7 +283,7 @@ fn ring_of(n: u32, k: u32) -> Opening
     if !ring::is_ring_size(n) {
         return Opening::Refused(Refusal::RingSize);
     }
-    if !ring::is_sponsor_count(ring::cable_of(n, k)) {
+    if !ring::is_sponsor_count(ring::plain_cable(Choices { n, k, m: 0, lag: 0 })) {
         return Opening::Refused(Refusal::SponsorCount);
     }
     Opening::Ring(n, k)

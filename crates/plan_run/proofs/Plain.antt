@@ -10,11 +10,10 @@ use Rattle.slot_table.specs.Order.{numbersFrom}
 use Rattle.slot_table.proofs.Numbers.{count-of, numbers-kept}
 use Rattle.ring.specs.declared.Cable.{Cable}
 use Rattle.ring.specs.declared.Choices.{Choices}
-use Rattle.ring.specs.Ring.{cableWith, cableFits, maySetUp}
+use Rattle.ring.specs.Ring.{plainCable, cableWith, cableFits, maySetUp}
 use Rattle.ring.specs.Answers.{faultOf}
 use Rattle.bench.specs.Table.{Table}
 use Rattle.bench.specs.Calls.{done, ifPassed, startTable, setUpOf, setUpGiven}
-use Rattle.plan_run.specs.Inner.{plainCable}
 
 module _ (choices : Choices) where
   pub cable-is : cableWith choices (numbersFrom (choices .n) 1) ≡ plainCable choices

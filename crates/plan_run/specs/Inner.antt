@@ -1,10 +1,7 @@
 -- Inner: what a line has a lent table do, where the table is taken as it is. The laws in proofs/Glimpses tie it to specs/Run.
 use Prim.Native.Nat.{ℕ}
 use lib.ListN.{length}
-use Rattle.slot_table.specs.Order.{plain}
-use Rattle.ring.specs.declared.Cable.{Cable}
-use Rattle.ring.specs.declared.Choices.{Choices}
-use Rattle.ring.specs.Ring.{cableOf}
+use Rattle.ring.specs.Ring.{plainCable, cableOf}
 use Rattle.bench.specs.Table.{Table}
 use Rattle.bench.specs.declared.Command.{Command}
 use Rattle.bench.specs.declared.Command.the-variants as command
@@ -40,10 +37,6 @@ askedBy (command.Look lost) = 0
 abbrev pub asked : Act → ℕ
 asked (act.Call c) = askedBy c
 asked (act.Refuse cause) = 0
-
--- The cable with these choices and the plain table.
-abbrev pub plainCable : Choices → Cable
-plainCable choices = record { n = choices .n; k = choices .k; m = choices .m; lag = choices .lag; order = plain (choices .n) }
 
 -- What is lent beside the table: set-up is asked for with the plain table. Neither ledger nor counts are kept.
 abbrev pub besideBy : Command → Beside

@@ -66,8 +66,8 @@ choicesOf n k = record { n = n; k = k; m = 0; lag = 0 }
 
 -- "Line one: n, space, k."
 abbrev pub openedBy : Opening → Opened
-openedBy (opening.Ring n k) = openedAs n (callOf n (command.SetUp (choicesOf n k)) (numbersFrom n 1) 64 noRows)
-openedBy (opening.Refused cause) = openedAs 0 (refused noRows cause)
+openedBy (opening.Ring n k) = openedAs n (ranBy n noRows (act.Call (command.SetUp (choicesOf n k))))
+openedBy (opening.Refused cause) = openedAs 0 (ranBy 0 noRows (act.Refuse cause))
 
 unfoldable pub openedOf : List ℕ → Opened
 openedOf line = openedBy (openingOf line)

@@ -20,7 +20,7 @@ ghost use lib.ListN.{length};
 ghost use Rattle.bench_walks.specs.Orders.{carriedFrom};
 ghost use Rattle.plan_line.specs.Plan.{lineOf, openingOf};
 ghost use Rattle.plan_run.specs.Run.{actOf, noRows, openedOf};
-ghost use Rattle.plan_run.specs.Inner.{asked, askedBy, besideBy, besideOf, errandBy, errandOn, openingAct, orderBy, outcomeOn, plainCable, told};
+ghost use Rattle.plan_run.specs.Inner.{asked, askedBy, besideBy, besideOf, errandBy, errandOn, openingAct, orderBy, outcomeOn, told};
 
 // What a line has the bench do.
 pub enum Act {
@@ -122,20 +122,6 @@ fn asked(act: Act) -> u32
     }
 }
 
-// The cable with these choices and the plain table.
-fn plain_cable(choices: Choices) -> Cable
-    ensures { λ r. ⌜ r ≡ plainCable choices ⌝ }
-{
-    let order = slot_table::plain(choices.n);
-    Cable {
-        n: choices.n,
-        k: choices.k,
-        m: choices.m,
-        lag: choices.lag,
-        order,
-    }
-}
-
 // What is lent beside the table: set-up is asked for with the plain table. Neither ledger nor counts are
 // kept.
 fn beside_by(command: Command) -> Beside
@@ -143,7 +129,7 @@ fn beside_by(command: Command) -> Beside
 {
     match command {
         Command::SetUp(choices) => {
-            let cable = plain_cable(choices);
+            let cable = ring::plain_cable(choices);
             Beside {
                 ledger: true,
                 reports: true,

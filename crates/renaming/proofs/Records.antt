@@ -33,36 +33,47 @@ use Rattle.node_slot.specs.Slot.{slotIn, afterSlot}
 use Rattle.node.specs.declared.Stepped.{Stepped}
 use Rattle.node.specs.Calls.{done, refused, stepOf, offOf, restartOf}
 use Rattle.bench.proofs.Choices.{choose}
-use Rattle.renaming.specs.Renamed.{plainCable, called, renamed}
-use Rattle.renaming.proofs.Names.{cond-by, R, R-lt, R-none, R-full, R-with, R-without, R-size, R-subset, has-name, eqb-name, eqb-none, eqb-sets, eqb-empty, called-none, called-le, called-number, Named, named-in, named-is, before-name, sponsors-name, sponsored-name, decided-name, sender-name, plain-sender}
-
--- what a call on a record answers, renamed
-abbrev pub renamedStepped : Cable → Stepped → Stepped
-renamedStepped cable x = record { node = renamed cable (x .node); answer = x .answer }
+use Rattle.renaming.specs.Renamed.{plainOf, nameOf, renamed}
+use Rattle.renaming.proofs.Names.{cond-by, R, R-lt, R-none, R-full, R-with, R-without, R-size, R-subset, has-name, eqb-name, eqb-none, eqb-sets, eqb-empty, name-none, name-le, name-number, Named, named-in, named-is, before-name, sponsors-name, sponsored-name, decided-name, sender-name, plain-sender}
 
 -- the record with other choices of set-up
 abbrev withCable : Cable → Node → Node
 withCable c v = record { cable = c; own = v .own; slots = v .slots; state = v .state; set = v .set; present = v .present; returning = v .returning; «return_heard» = v .«return_heard»; «yes_heard» = v .«yes_heard»; listening = v .listening }
+
+-- the record with the plain table
+abbrev pub onPlain : Cable → Node → Node
+onPlain cable v = withCable (plainOf cable) v
+
+pub is-plain : (cable : Cable) (v : Node) → v .cable ≡ plainOf cable → v ≡ onPlain cable v
+is-plain cable v e = ap (λ (c : Cable). withCable c v) e
+
+-- renamed, it is on the cable, whatever choices it had
+abbrev pub renamedPlain : Cable → Node → Node
+renamedPlain cable v = renamed cable (onPlain cable v)
+
+-- what a call on a record answers, renamed
+abbrev pub renamedStepped : Cable → Stepped → Stepped
+renamedStepped cable x = record { node = renamedPlain cable (x .node); answer = x .answer }
 
 module _ (cable : Cable) (fits : cableFits cable ≡ true) where
   open Cable cable using (n)
 
   -- a node renamed, a set, a record and its listening data
   abbrev f : ℕ → ℕ
-  f x = called cable x
+  f x = nameOf cable x
 
   abbrev S : ℕ → ℕ
   S s = R cable fits s
 
   abbrev ren : Node → Node
-  ren v = renamed cable v
+  ren v = renamedPlain cable v
 
   abbrev renWindow : Window → Window
   renWindow w = record { done = w .done; heard = S (w .heard); shortest = w .shortest; «return_seen» = w .«return_seen»; last = S (w .last) }
 
   -- The record has the plain table, and its numbers are in range.
   record Fit (c : Cable) (own returning heard last : ℕ) : Type 0 where
-    on-plain : c ≡ plainCable cable
+    on-plain : c ≡ plainOf cable
     own-pos : 1 ≤ own
     own-le : own ≤ n
     returning-le : returning ≤ n
@@ -74,7 +85,7 @@ module _ (cable : Cable) (fits : cableFits cable ≡ true) where
 
   -- ---- the ring of a record
 
-  module _ (v : Node) (e : v .cable ≡ plainCable cable) where
+  module _ (v : Node) (e : v .cable ≡ plainOf cable) where
     n-is : v .cable .n ≡ n
     n-is = ap (λ (c : Cable). c .n) e
 
@@ -85,7 +96,7 @@ module _ (cable : Cable) (fits : cableFits cable ≡ true) where
     sponsors-ren = sponsors-name cable fits (v .set) ∙ sym (ap (λ (c : Cable). sponsors c (v .set)) e)
 
     -- what is found with the plain table is found with the record's
-    found-ren : {found′ : Found} (look : Cable → Found) → Named cable fits found′ (look (plainCable cable)) → Named cable fits found′ (look (v .cable))
+    found-ren : {found′ : Found} (look : Cable → Found) → Named cable fits found′ (look (plainOf cable)) → Named cable fits found′ (look (v .cable))
     found-ren {found′} look r = subst⁻¹ (λ (c : Cable). Named cable fits found′ (look c)) e r
 
     module _ (s : ℕ) (pos : 1 ≤ s) (le : s ≤ n) where
@@ -102,24 +113,24 @@ module _ (cable : Cable) (fits : cableFits cable ≡ true) where
 
   out-ren : (cause : Cause) (v : Node) → outFor cause (ren v) ≡ ren (outFor cause v)
   unfolding renamed
-  out-ren cause v = rw (R-none cable fits, called-none cable fits) refl
+  out-ren cause v = rw (R-none cable fits, name-none cable fits) refl
 
-  listening-ren : (last : ℕ) (v : Node) → v .cable ≡ plainCable cable → listeningAfter (S last) (ren v) ≡ ren (listeningAfter last v)
+  listening-ren : (last : ℕ) (v : Node) → v .cable ≡ plainOf cable → listeningAfter (S last) (ren v) ≡ ren (listeningAfter last v)
   unfolding renamed
-  listening-ren last v e = rw (R-none cable fits, called-none cable fits, ap (λ (c : Cable). c .k) e) refl
+  listening-ren last v e = rw (R-none cable fits, name-none cable fits, ap (λ (c : Cable). c .k) e) refl
 
-  fresh-ren : (v : Node) → v .cable ≡ plainCable cable → fresh (ren v) ≡ ren (fresh v)
+  fresh-ren : (v : Node) → v .cable ≡ plainOf cable → fresh (ren v) ≡ ren (fresh v)
   fresh-ren v e = ap (λ (last : ℕ). listeningAfter last (ren v)) (sym (R-none cable fits)) ∙ listening-ren 0 v e
 
   following-ren : (s : ℕ) (v : Node) → followingWith (S s) (ren v) ≡ ren (followingWith s v)
   unfolding renamed
-  following-ren s v = rw (R-none cable fits, called-none cable fits) refl
+  following-ren s v = rw (R-none cable fits, name-none cable fits) refl
 
-  pub starting-renamed : (p : ℕ) → starting cable (f p) ≡ ren (starting (plainCable cable) p)
+  pub starting-renamed : (p : ℕ) → starting cable (f p) ≡ ren (starting (plainOf cable) p)
   unfolding renamed
-  starting-renamed p = rw (R-none cable fits, R-full cable fits, called-none cable fits) refl
+  starting-renamed p = rw (R-none cable fits, R-full cable fits, name-none cable fits) refl
 
-  leave-ren : (cause : Cause) (v : Node) → v .cable ≡ plainCable cable → leave cause (ren v) ≡ ren (leave cause v)
+  leave-ren : (cause : Cause) (v : Node) → v .cable ≡ plainOf cable → leave cause (ren v) ≡ ren (leave cause v)
   unfolding renamed leave
   leave-ren cause v e = cond-by ren (isMember (v .state)) (outFor cause v) (fresh v) refl (out-ren cause v) (fresh-ren v e)
 
@@ -303,13 +314,13 @@ module _ (cable : Cable) (fits : cableFits cable ≡ true) where
 
     joined-ren : (v : Node) → Good v → joined (ren v) ≡ ren (joined v)
     unfolding renamed
-    joined-ren v G = rw (R-with cable fits (v .set) (v .returning) (G .returning-le), R-with cable fits (v .present) (v .returning) (G .returning-le), called-none cable fits) refl
+    joined-ren v G = rw (R-with cable fits (v .set) (v .returning) (G .returning-le), R-with cable fits (v .present) (v .returning) (G .returning-le), name-none cable fits) refl
 
     join-ren : (v : Node) → Good v → join (ren v) ≡ ren (join v)
     unfolding renamed join
     join-ren v G =
         cond-by ren (isKnocking (v .state) && not (v .«return_heard»)) (withReturning Following 0 v) (joined v) refl
-        (ap (λ (r : ℕ). withReturning Following r (ren v)) (sym (called-none cable fits))) (joined-ren v G)
+        (ap (λ (r : ℕ). withReturning Following r (ren v)) (sym (name-none cable fits))) (joined-ren v G)
 
     settle-ren : (inside : Bool) (v : Node) → Good v → settle inside (f s) (ren v) ≡ ren (settle inside s v)
     unfolding settle
@@ -376,11 +387,11 @@ module _ (cable : Cable) (fits : cableFits cable ≡ true) where
         go (reading.Heard bits returnBit) = (with-lt n (v .listening .heard) s le (G .heard-lt), G .last-lt)
         go (reading.Refused r) = (G .heard-lt, G .last-lt)
 
-    clean-ren : (w : Window) → clean cable (renWindow w) ≡ clean (plainCable cable) w
+    clean-ren : (w : Window) → clean cable (renWindow w) ≡ clean (plainOf cable) w
     unfolding clean
     clean-ren w = ap (λ (count : ℕ). leb 2 count && (not (w .«return_seen») && leb (ks cable count) (w .shortest))) (R-size cable fits (w .heard))
 
-    window-end : (w : Window) (v : Node) → InRange w → v .cable ≡ plainCable cable → windowEnd (renWindow w) (ren v) ≡ ren (windowEnd w v)
+    window-end : (w : Window) (v : Node) → InRange w → v .cable ≡ plainOf cable → windowEnd (renWindow w) (ren v) ≡ ren (windowEnd w v)
     unfolding renamed windowEnd InRange
     window-end w v r e =
         cond-by ren (clean (v .cable) w) _ _ (clean-ren w ∙ sym (ap (λ (c : Cable). clean c w) e))
@@ -409,14 +420,7 @@ module _ (cable : Cable) (fits : cableFits cable ≡ true) where
 
   -- ---- soundness
 
-  -- the record with the plain table
-  abbrev onPlain : Node → Node
-  onPlain v = withCable (plainCable cable) v
-
-  is-plain : (v : Node) → v .cable ≡ plainCable cable → v ≡ onPlain v
-  is-plain v e = ap (λ (c : Cable). withCable c v) e
-
-  module _ (v : Node) (c : Clauses (onPlain v)) where
+  module _ (v : Node) (c : Clauses (onPlain cable v)) where
     own-range : (1 ≤ v .own) × (v .own ≤ n)
     own-range = node-number n (v .own) (c .own)
 
@@ -434,20 +438,20 @@ module _ (cable : Cable) (fits : cableFits cable ≡ true) where
         let w = v .listening in
         by-cases (isListening (v .state))
         (λ l.
-        let b₁ = both (ltb (w .done) n) _ (window-listening (onPlain v) (c .window) l) in
+        let b₁ = both (ltb (w .done) n) _ (window-listening (onPlain cable v) (c .window) l) in
         let b₂ = both (within n (w .heard)) _ (b₁ .1) in
         let b₃ = both (leb (w .shortest) (cable .k)) _ (b₂ .1) in
         let b₄ = both (implies (eqb (w .heard) 0) (eqb (w .shortest) (cable .k))) _ (b₃ .1) in
         let b₅ = both (within n (w .last)) _ (b₄ .1) in
         (ltb-true (w .heard) (2 ^ n) (b₂ .0), ltb-true (w .last) (2 ^ n) (b₅ .0)))
         (λ l.
-        let b₁ = both (eqb (w .done) 0) _ (window-other (onPlain v) (c .window) l) in
+        let b₁ = both (eqb (w .done) 0) _ (window-other (onPlain cable v) (c .window) l) in
         let b₂ = both (eqb (w .heard) 0) _ (b₁ .1) in
         let b₃ = both (eqb (w .shortest) 0) _ (b₂ .1) in
         let b₄ = both (not (w .«return_seen»)) (eqb (w .last) 0) (b₃ .1) in
         (omega (arith, eqb-true (w .heard) 0 (b₂ .0), lib.Pow.pow-pos n), omega (arith, eqb-true (w .last) 0 (b₄ .1), lib.Pow.pow-pos n)))
 
-    good-plain : Good (onPlain v)
+    good-plain : Good (onPlain cable v)
     good-plain = record {
       on-plain = refl;
       own-pos = own-range .0;
@@ -468,10 +472,10 @@ module _ (cable : Cable) (fits : cableFits cable ≡ true) where
         let last = window-parts .1 in
         sound-by (ren v) (record {
           choices = fitting cable fits;
-          own = called-number cable fits (v .own) ∙ c .own;
+          own = name-number cable fits (v .own) ∙ c .own;
           slots = c .slots;
           sets = all (lt-ltb (S (v .set)) (2 ^ n) (R-lt cable fits (v .set))) (all (lt-ltb (S (v .present)) (2 ^ n) (R-lt cable fits (v .present))) (R-subset cable fits (v .present) (v .set) (sets-parts .1) (sets-parts .2)));
-          returning = all (le-leb (f (v .returning)) n (called-le cable fits (v .returning) (returning-parts .0))) (ap not (has-name cable fits (v .set) (v .returning) (returning-parts .0)) ∙ returning-parts .1);
+          returning = all (le-leb (f (v .returning)) n (name-le cable fits (v .returning) (returning-parts .0))) (ap not (has-name cable fits (v .set) (v .returning) (returning-parts .0)) ∙ returning-parts .1);
           ownIn = rw (has-name cable fits (v .set) (v .own) (own-range .1)) (c .ownIn);
           knock = rw (eqb-name cable fits (v .returning) (v .own)) (c .knock);
           empty = rw (eqb-empty cable fits (v .set) (sets-parts .0), eqb-empty cable fits (v .present) (sets-parts .1), eqb-none cable fits (v .returning)) (c .empty);
@@ -491,15 +495,15 @@ module _ (cable : Cable) (fits : cableFits cable ≡ true) where
 
   -- ---- the calls on a sound record with the plain table
 
-  module _ (v : Node) (on-plain : v .cable ≡ plainCable cable) (good : sound v ≡ true) where
-    plain-clauses : Clauses (onPlain v)
-    plain-clauses = clauses (onPlain v) (sym (ap sound (is-plain v on-plain)) ∙ good)
+  module _ (v : Node) (on-plain : v .cable ≡ plainOf cable) (good : sound v ≡ true) where
+    plain-clauses : Clauses (onPlain cable v)
+    plain-clauses = clauses (onPlain cable v) (sym (ap sound (is-plain cable v on-plain)) ∙ good)
 
     pub sound-renamed : sound (ren v) ≡ true
     sound-renamed = sound-ren v plain-clauses
 
     good-of : Good v
-    good-of = subst⁻¹ Good (is-plain v on-plain) (good-plain v plain-clauses)
+    good-of = subst⁻¹ Good (is-plain cable v on-plain) (good-plain v plain-clauses)
 
     -- both are answered as sound records are
     answered : {x′ : Stepped} (x : Stepped) → x′ ≡ renamedStepped cable x → cond (sound (ren v)) x′ (refused 4 (ren v)) ≡ renamedStepped cable (cond (sound v) x (refused 4 v))
@@ -521,13 +525,13 @@ module _ (cable : Cable) (fits : cableFits cable ≡ true) where
   after-ren : (heard : Reading) (v : Node) → Good v → afterSlot (sender cable (v .slots + 1)) heard (counted (ren v)) ≡ ren (afterSlot (sender (v .cable) (v .slots + 1)) heard (counted v))
   unfolding renamed
   after-ren heard v G =
-      let s = sender (plainCable cable) (v .slots + 1) in
+      let s = sender (plainOf cable) (v .slots + 1) in
       let r = plain-sender cable fits (v .slots + 1) in
       ap (λ (x : ℕ). afterSlot x heard (counted (ren v))) (sender-name cable fits (v .slots + 1))
       ∙ slot-ren s (r .0) (r .1) heard (counted v) G
       ∙ sym (ap (λ (c : Cable). ren (afterSlot (sender c (v .slots + 1)) heard (counted v))) (G .on-plain))
 
-  pub step-renamed : (heard : Reading) (v : Node) → v .cable ≡ plainCable cable → sound v ≡ true → stepOf heard (ren v) ≡ renamedStepped cable (stepOf heard v)
+  pub step-renamed : (heard : Reading) (v : Node) → v .cable ≡ plainOf cable → sound v ≡ true → stepOf heard (ren v) ≡ renamedStepped cable (stepOf heard v)
   unfolding renamed stepOf
   step-renamed heard v on-plain good =
       let after = done (afterSlot (sender (v .cable) (v .slots + 1)) heard (counted v)) in

@@ -16,6 +16,7 @@ use Rattle.bench.specs.Pairs.{pairsIn}
 use Rattle.bench.specs.Runs.{Call}
 use Rattle.renaming.specs.Renamed.{placed, renamed, ran, ranPlain, isTold, Renamed}
 use Rattle.renaming.proofs.Names.{placed-in, placed-range}
+use Rattle.renaming.proofs.Records.{is-plain}
 use Rattle.renaming.proofs.Tables.{by-node, call-alike, run-same}
 use Rattle.renaming.proofs.Distances.{distance-renamed}
 use Rattle.renaming.proofs.Pairs.{toldOf, told-pairs}
@@ -32,7 +33,10 @@ module _ (cable : Cable) (fits : cableFits cable ≡ true) (lent other : Table) 
   records-are : (cs : List Call) (x : ℕ) → nodeNumber n x ≡ true → recordOf (run cs) x ≡ renamed cable (recordOf (plainRun cs) (place order x))
   records-are cs x e =
       let r = node-number n x e in
-      by-node cable fits (run cs) (plainRun cs) (run-same cable fits lent other one-each one-too cs) x (r .0) (r .1)
+      let s = placed-range cable fits x (r .0) (r .1) in
+      let S = run-same cable fits lent other one-each one-too cs in
+      by-node cable fits (run cs) (plainRun cs) S x (r .0) (r .1)
+      ∙ ap (renamed cable) (sym (is-plain cable (recordOf (plainRun cs) (placed cable x)) (S .there .at (placed cable x) (s .0) (s .1) .cable-is)))
       ∙ ap (λ (p : ℕ). renamed cable (recordOf (plainRun cs) p)) (placed-in cable fits x (r .0) (r .1))
 
   states-are : (cs : List Call) (x : ℕ) → nodeNumber n x ≡ true → recordOf (run cs) x .state ≡ recordOf (plainRun cs) (place order x) .state

@@ -24,9 +24,9 @@ use Rattle.bench.specs.Calls.{Called, ifPassed, setUpOf, transmits, unheard, sp
 use Rattle.bench.specs.Runs.{Call, slot, off, restart, callOf, tableAfter}
 use Rattle.bench.proofs.Places.{record-each, InPlace, Placed, placed-sound}
 use Rattle.bench.proofs.Runs.{after-slot-record, start-record, start-placed, placed-run}
-use Rattle.renaming.specs.Renamed.{plainCable, called, placed, renamed, missedAt, callAt, callsAt, ran, ranPlain}
-use Rattle.renaming.proofs.Names.{cond-by, plain-fits, called-range, placed-range, called-placed, placed-number, eqb-name, has-missed, within-missed, sender-name, plain-sender}
-use Rattle.renaming.proofs.Records.{renamedStepped, starting-renamed, sends-renamed, return-renamed, bits-renamed, step-renamed, off-renamed, restart-renamed}
+use Rattle.renaming.specs.Renamed.{plainOf, nameOf, placed, renamed, missedAt, callAt, callsAt, ran, ranPlain}
+use Rattle.renaming.proofs.Names.{cond-by, plain-fits, name-range, placed-range, name-placed, placed-number, eqb-name, has-missed, within-missed, sender-name, plain-sender}
+use Rattle.renaming.proofs.Records.{renamedPlain, renamedStepped, starting-renamed, sends-renamed, return-renamed, bits-renamed, step-renamed, off-renamed, restart-renamed}
 
 speaker-is : (cable : Cable) (t : Table) → 1 ≤ cable .n → Placed cable (slotsOf t) t → speaker t ≡ sender cable (slotsOf t + 1)
 unfolding speaker
@@ -36,14 +36,14 @@ module _ (cable : Cable) (fits : cableFits cable ≡ true) where
   open Cable cable using (n)
 
   abbrev plainly : Cable
-  plainly = plainCable cable
+  plainly = plainOf cable
 
   pub some : 1 ≤ n
   some = omega (arith, ring-size n (fitting cable fits .ring) .0)
 
   -- node by node, the table of the plain run renamed
   abbrev pub Its : Table → Table → Type 0
-  Its t u = (p : ℕ) → 1 ≤ p → p ≤ n → recordOf t (called cable p) ≡ renamed cable (recordOf u p)
+  Its t u = (p : ℕ) → 1 ≤ p → p ≤ n → recordOf t (nameOf cable p) ≡ renamedPlain cable (recordOf u p)
 
   -- so it is of two tables whose records are in their places
   pub record Same (t u : Table) : Type 0 where
@@ -69,14 +69,14 @@ module _ (cable : Cable) (fits : cableFits cable ≡ true) where
     plain-record p h l = S .there .at p h l
 
     -- by the nodes of the run with the slot table
-    pub by-node : (x : ℕ) → 1 ≤ x → x ≤ n → recordOf t x ≡ renamed cable (recordOf u (placed cable x))
-    by-node x h l = let r = placed-range cable fits x h l in ap (recordOf t) (sym (called-placed cable fits x)) ∙ S .its (placed cable x) (r .0) (r .1)
+    pub by-node : (x : ℕ) → 1 ≤ x → x ≤ n → recordOf t x ≡ renamedPlain cable (recordOf u (placed cable x))
+    by-node x h l = let r = placed-range cable fits x h l in ap (recordOf t) (sym (name-placed cable fits x)) ∙ S .its (placed cable x) (r .0) (r .1)
 
     slots-same : slotsOf t ≡ slotsOf u
     unfolding renamed
     slots-same =
-        let r = called-range cable fits 1 (omega arith) some in
-        sym (S .here .at (called cable 1) (r .0) (r .1) .slots-is) ∙ ap (λ (v : Node). v .slots) (S .its 1 (omega arith) some) ∙ plain-record 1 (omega arith) some .slots-is
+        let r = name-range cable fits 1 (omega arith) some in
+        sym (S .here .at (nameOf cable 1) (r .0) (r .1) .slots-is) ∙ ap (λ (v : Node). v .slots) (S .its 1 (omega arith) some) ∙ plain-record 1 (omega arith) some .slots-is
 
     -- ---- what is heard in a slot
 
@@ -84,14 +84,14 @@ module _ (cable : Cable) (fits : cableFits cable ≡ true) where
     speaker-range : (1 ≤ speaker u) × (speaker u ≤ n)
     speaker-range = let r = plain-sender cable fits (slotsOf u + 1) in let e = speaker-is plainly u some (S .there) in (omega arith, omega arith)
 
-    speaker-same : speaker t ≡ called cable (speaker u)
+    speaker-same : speaker t ≡ nameOf cable (speaker u)
     speaker-same =
         speaker-is cable t some (S .here)
         ∙ ap (λ (s : ℕ). sender cable (s + 1)) slots-same
         ∙ sender-name cable fits (slotsOf u + 1)
-        ∙ ap (called cable) (sym (speaker-is plainly u some (S .there)))
+        ∙ ap (nameOf cable) (sym (speaker-is plainly u some (S .there)))
 
-    speaks : recordOf t (speaker t) ≡ renamed cable (recordOf u (speaker u))
+    speaks : recordOf t (speaker t) ≡ renamedPlain cable (recordOf u (speaker u))
     speaks = ap (recordOf t) speaker-same ∙ S .its (speaker u) (speaker-range .0) (speaker-range .1)
 
     spoken-same : spoken t ≡ spoken u
@@ -100,10 +100,10 @@ module _ (cable : Cable) (fits : cableFits cable ≡ true) where
         let w : Node = recordOf u (speaker u) in
         let P = plain-record (speaker u) (speaker-range .0) (speaker-range .1) in
         ap (λ (v : Node). cond (sends v) (reading.Heard (bitsSent v) (returnSent v)) unheard) speaks
-        ∙ ap (λ (b : Bool). cond b (reading.Heard (bitsSent (renamed cable w)) (returnSent (renamed cable w))) unheard) (sends-renamed cable fits w)
+        ∙ ap (λ (b : Bool). cond b (reading.Heard (bitsSent (renamedPlain cable w)) (returnSent (renamedPlain cable w))) unheard) (sends-renamed cable fits w)
         ∙ ap₂ (λ (bits : ℕ) (b : Bool). cond (sends w) (reading.Heard bits b) unheard) (bits-renamed cable fits w (P .cable-is) (P .is-sound)) (return-renamed cable fits w)
 
-    heard-same : (lost : Bool) (missed p : ℕ) → within n missed ≡ true → 1 ≤ p → p ≤ n → heardBy lost missed t (called cable p) ≡ heardBy lost (missedAt cable missed) u p
+    heard-same : (lost : Bool) (missed p : ℕ) → within n missed ≡ true → 1 ≤ p → p ≤ n → heardBy lost missed t (nameOf cable p) ≡ heardBy lost (missedAt cable missed) u p
     unfolding heardBy
     heard-same lost missed p e h l =
         ap₂ (λ (b : Bool) (r : Reading). cond (lost || b) unheard r) (sym (has-missed cable fits missed p e h l)) spoken-same
@@ -112,25 +112,25 @@ module _ (cable : Cable) (fits : cableFits cable ≡ true) where
 
     slot-its : (lost : Bool) (missed : ℕ) → within n missed ≡ true → Its (tableAfterSlot lost missed t) (tableAfterSlot lost (missedAt cable missed) u)
     slot-its lost missed e p h l =
-        let r = called-range cable fits p h l in
+        let r = name-range cable fits p h l in
         let P = plain-record p h l in
-        after-slot-record lost missed t (called cable p) (r .0) (omega (arith, r .1, S .here .length-is))
+        after-slot-record lost missed t (nameOf cable p) (r .0) (omega (arith, r .1, S .here .length-is))
         ∙ ap₂ (λ (heard : Reading) (v : Node). node.stepOf heard v .node) (heard-same lost missed p e h l) (S .its p h l)
         ∙ ap (λ (x : Stepped). x .node) (step-renamed cable fits (heardBy lost (missedAt cable missed) u p) (recordOf u p) (P .cable-is) (P .is-sound))
-        ∙ sym (ap (renamed cable) (after-slot-record lost (missedAt cable missed) u p h (omega (arith, S .there .length-is))))
+        ∙ sym (ap (renamedPlain cable) (after-slot-record lost (missedAt cable missed) u p h (omega (arith, S .there .length-is))))
 
     -- one record is made anew
-    one-its : (a : ℕ) (f : Node → Stepped) → ((v : Node) → v .cable ≡ plainly → sound v ≡ true → f (renamed cable v) ≡ renamedStepped cable (f v))
+    one-its : (a : ℕ) (f : Node → Stepped) → ((v : Node) → v .cable ≡ plainly → sound v ≡ true → f (renamedPlain cable v) ≡ renamedStepped cable (f v))
         → Its (each (λ i v. cond (eqb i a) (f v .node) v) t) (each (λ i v. cond (eqb i (placed cable a)) (f v .node) v) u)
     one-its a f k p h l =
-        let r = called-range cable fits p h l in
+        let r = name-range cable fits p h l in
         let P = plain-record p h l in
         let w : Node = recordOf u p in
-        let e : eqb (called cable p) a ≡ eqb p (placed cable a) = ap (eqb (called cable p)) (sym (called-placed cable fits a)) ∙ eqb-name cable fits p (placed cable a) in
-        record-each (λ i v. cond (eqb i a) (f v .node) v) t (called cable p) (r .0) (omega (arith, r .1, S .here .length-is))
-        ∙ ap (λ (v : Node). cond (eqb (called cable p) a) (f v .node) v) (S .its p h l)
-        ∙ cond-by (renamed cable) (eqb p (placed cable a)) (f w .node) w e (ap (λ (x : Stepped). x .node) (k w (P .cable-is) (P .is-sound))) refl
-        ∙ sym (ap (renamed cable) (record-each (λ i v. cond (eqb i (placed cable a)) (f v .node) v) u p h (omega (arith, S .there .length-is))))
+        let e : eqb (nameOf cable p) a ≡ eqb p (placed cable a) = ap (eqb (nameOf cable p)) (sym (name-placed cable fits a)) ∙ eqb-name cable fits p (placed cable a) in
+        record-each (λ i v. cond (eqb i a) (f v .node) v) t (nameOf cable p) (r .0) (omega (arith, r .1, S .here .length-is))
+        ∙ ap (λ (v : Node). cond (eqb (nameOf cable p) a) (f v .node) v) (S .its p h l)
+        ∙ cond-by (renamedPlain cable) (eqb p (placed cable a)) (f w .node) w e (ap (λ (x : Stepped). x .node) (k w (P .cable-is) (P .is-sound))) refl
+        ∙ sym (ap (renamedPlain cable) (record-each (λ i v. cond (eqb i (placed cable a)) (f v .node) v) u p h (omega (arith, S .there .length-is))))
 
     -- ---- the tests of the calls
 
@@ -176,10 +176,10 @@ module _ (cable : Cable) (fits : cableFits cable ≡ true) where
   module _ (lent other : Table) (one-each : length lent ≡ n) (one-too : length other ≡ n) where
     start-its : Its (setUpOf cable lent .table) (setUpOf plainly other .table)
     start-its p h l =
-        let r = called-range cable fits p h l in
-        start-record cable fits lent one-each (called cable p) (r .0) (r .1)
+        let r = name-range cable fits p h l in
+        start-record cable fits lent one-each (nameOf cable p) (r .0) (r .1)
         ∙ starting-renamed cable fits p
-        ∙ sym (ap (renamed cable) (start-record plainly (plain-fits cable fits) other one-too p h l))
+        ∙ sym (ap (renamedPlain cable) (start-record plainly (plain-fits cable fits) other one-too p h l))
 
     run-with : (cs : List Call) → Its (ran cable lent cs) (ranPlain cable other cs) → Same (ran cable lent cs) (ranPlain cable other cs)
     run-with cs i = record {

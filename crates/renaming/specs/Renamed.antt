@@ -7,9 +7,9 @@ use mathlib.Core.List.{List, [], _∷_, map}
 use lib.Dec.{eqb}
 use lib.ListN.{length}
 use Rattle.nodeset.specs.Sets.{has, withIf, within}
-use Rattle.slot_table.specs.Order.{nodeAt, place, plain}
+use Rattle.slot_table.specs.Order.{nodeAt, place}
 use Rattle.ring.specs.declared.Cable.{Cable}
-use Rattle.ring.specs.Ring.{nodeNumber, cableFits}
+use Rattle.ring.specs.Ring.{plainCable, nodeNumber, cableFits}
 use Rattle.node_record.specs.declared.Node.{Node}
 use Rattle.bench.specs.Table.{Table, recordOf}
 use Rattle.bench.specs.Calls.{setUpOf, greatest}
@@ -17,44 +17,44 @@ use Rattle.bench.specs.Pairs.{Pair, pairsIn}
 use Rattle.bench.specs.Runs.{Call, slot, off, restart, callOf, tableAfter}
 
 -- The same cable with the plain table.
-abbrev pub plainCable : Cable → Cable
-plainCable cable = record { n = cable .n; k = cable .k; m = cable .m; lag = cable .lag; order = plain (cable .n) }
+abbrev pub plainOf : Cable → Cable
+plainOf cable = plainCable (record { n = cable .n; k = cable .k; m = cable .m; lag = cable .lag })
 
 -- ---- names
 
--- Node p of the plain run is called as the node at place p is. A number that is no node's stays.
-unfoldable pub called : Cable → ℕ → ℕ
-called cable p = cond (nodeNumber (cable .n) p) (nodeAt (cable .order) p) p
+-- Node p of the plain run has the name of the node at place p. A number that is no node's stays.
+unfoldable pub nameOf : Cable → ℕ → ℕ
+nameOf cable p = cond (nodeNumber (cable .n) p) (nodeAt (cable .order) p) p
 
--- The node that is called x is that of its place in the plain run.
+-- The node with the name x is that of its place in the plain run.
 unfoldable pub placed : Cable → ℕ → ℕ
 placed cable x = cond (nodeNumber (cable .n) x) (place (cable .order) x) x
 
 -- Those of 1 to m whose other name is in a set.
-unfoldable pub through : (ℕ → ℕ) → ℕ → ℕ → ℕ
-through other zero set = 0
-through other (suc m) set = withIf (has set (other (suc m))) (through other m set) (suc m)
+unfoldable pub renamedSet : (ℕ → ℕ) → ℕ → ℕ → ℕ
+renamedSet other zero set = 0
+renamedSet other (suc m) set = withIf (has set (other (suc m))) (renamedSet other m set) (suc m)
 
 -- ---- "renamed in records"
 
--- A record of the plain run, with its nodes called by the slot table, which it keeps.
+-- A record of the plain run, with its nodes named by the slot table, which it keeps in place of the plain one.
 unfoldable pub renamed : Cable → Node → Node
 renamed cable v = record {
-  cable = cable;
-  own = called cable (v .own);
+  cable = record { n = v .cable .n; k = v .cable .k; m = v .cable .m; lag = v .cable .lag; order = cable .order };
+  own = nameOf cable (v .own);
   slots = v .slots;
   state = v .state;
-  set = through (placed cable) (cable .n) (v .set);
-  present = through (placed cable) (cable .n) (v .present);
-  returning = called cable (v .returning);
+  set = renamedSet (placed cable) (cable .n) (v .set);
+  present = renamedSet (placed cable) (cable .n) (v .present);
+  returning = nameOf cable (v .returning);
   «return_heard» = v .«return_heard»;
   «yes_heard» = v .«yes_heard»;
   listening = record {
     done = v .listening .done;
-    heard = through (placed cable) (cable .n) (v .listening .heard);
+    heard = renamedSet (placed cable) (cable .n) (v .listening .heard);
     shortest = v .listening .shortest;
     «return_seen» = v .listening .«return_seen»;
-    last = through (placed cable) (cable .n) (v .listening .last);
+    last = renamedSet (placed cable) (cable .n) (v .listening .last);
   };
 }
 
@@ -62,7 +62,7 @@ renamed cable v = record {
 
 -- The nodes that miss a message, as the plain run calls them. A set with a number that is no node's stays.
 unfoldable pub missedAt : Cable → ℕ → ℕ
-missedAt cable missed = cond (within (cable .n) missed) (through (called cable) (cable .n) missed) missed
+missedAt cable missed = cond (within (cable .n) missed) (renamedSet (nameOf cable) (cable .n) missed) missed
 
 -- A call of the run with the slot table, as the plain run gets it.
 unfoldable pub callAt : Cable → Call → Call
@@ -80,7 +80,7 @@ abbrev pub ran : Cable → Table → List Call → Table
 ran cable lent cs = tableAfter (setUpOf cable lent .table) cs
 
 abbrev pub ranPlain : Cable → Table → List Call → Table
-ranPlain cable lent cs = ran (plainCable cable) lent (callsAt cable cs)
+ranPlain cable lent cs = ran (plainOf cable) lent (callsAt cable cs)
 
 -- A pair is told.
 unfoldable pub isTold : ℕ → ℕ → List Pair → Bool

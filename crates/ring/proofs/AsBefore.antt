@@ -21,24 +21,18 @@ use Rattle.ring.specs.Before.{fitsByNumber, faultByNumber, sameByNumber,
 use Rattle.ring.proofs.Ranges.{ring-size, node-number}
 use Rattle.ring.proofs.Senders.{turn-range, previous-range}
 
-module _ (cable : Cable) (ring : ringSize (cable .n) ≡ true) (is : cable .order ≡ plain (cable .n)) where
+module _ (cable : Cable) (is : cable .order ≡ plain (cable .n)) where
   open Cable cable using (n, order)
-
-  some : 3 ≤ n
-  some = ring-size n ring .0
-
-  most : n ≤ 32
-  most = ring-size n ring .1
 
   -- ---- set-up and the test of a table
 
-  table-kept : isKept n order ≡ true
-  table-kept = ap (isKept n) is ∙ plain-kept n most
-
   fits-is : cableFits cable ≡ fitsByNumber cable
   fits-is =
-      ap (λ (b : Bool). ringSize n && (lagFits (cable .lag) && (sponsorCount cable && (jobCount (cable .m) && b)))) table-kept
-      ∙ ap (λ (b : Bool). ringSize n && (lagFits (cable .lag) && (sponsorCount cable && b))) (and-true (jobCount (cable .m)))
+      by-cases (ringSize n)
+      (λ ring. ap (λ (b : Bool). ringSize n && (lagFits (cable .lag) && (sponsorCount cable && (jobCount (cable .m) && b)))) (ap (isKept n) is ∙ plain-kept n (ring-size n ring .1))
+      ∙ ap (λ (b : Bool). ringSize n && (lagFits (cable .lag) && (sponsorCount cable && b))) (and-true (jobCount (cable .m))))
+      (λ no. ap (λ (b : Bool). b && (lagFits (cable .lag) && (sponsorCount cable && (jobCount (cable .m) && isKept n order)))) no
+      ∙ sym (ap (λ (b : Bool). b && (lagFits (cable .lag) && (sponsorCount cable && jobCount (cable .m)))) no))
 
   fault-is : cableFits cable ≡ false → faultOf cable n ≡ faultByNumber cable
   fault-is e = go (ringSize n) (lagFits (cable .lag)) (sponsorCount cable) (jobCount (cable .m)) (sym fits-is ∙ e)
@@ -58,6 +52,15 @@ module _ (cable : Cable) (ring : ringSize (cable .n) ≡ true) (is : cable .orde
       (ap (λ (b : Bool). eqb (cable .lag) (other .lag) && b) (order-same order (other .order) (is ∙ ap plain (eqb-true n (other .n) t) ∙ sym e)) ∙ and-true (eqb (cable .lag) (other .lag))))
       (λ t. ap (λ (b : Bool). b && (eqb (cable .k) (other .k) && (eqb (cable .m) (other .m) && (eqb (cable .lag) (other .lag) && sameOrder order (other .order))))) t
       ∙ sym (ap (λ (b : Bool). b && (eqb (cable .k) (other .k) && (eqb (cable .m) (other .m) && eqb (cable .lag) (other .lag)))) t))
+
+module _ (cable : Cable) (is : cable .order ≡ plain (cable .n)) (ring : ringSize (cable .n) ≡ true) where
+  open Cable cable using (n, order)
+
+  some : 3 ≤ n
+  some = ring-size n ring .0
+
+  most : n ≤ 32
+  most = ring-size n ring .1
 
   -- ---- the walk
 
@@ -93,13 +96,13 @@ module _ (cable : Cable) (ring : ringSize (cable .n) ≡ true) (is : cable .orde
   sender-is s = let r = turn-range n (omega (arith, some)) s in node-is (turn n s) (r .0) (r .1)
 
 pub as-before : AsBefore
-as-before cable ring is = record {
+as-before cable is = record {
   keeps = numbers-kept (cable .n);
-  fits = fits-is cable ring is;
-  faults = fault-is cable ring is;
-  same = same-is cable ring is;
-  senders = sender-is cable ring is;
-  befores = before-is cable ring is;
-  sponsoreds = sponsored-is cable ring is;
-  decideds = decided-is cable ring is;
+  fits = fits-is cable is;
+  faults = fault-is cable is;
+  same = same-is cable is;
+  senders = sender-is cable is;
+  befores = before-is cable is;
+  sponsoreds = sponsored-is cable is;
+  decideds = decided-is cable is;
 }

@@ -56,11 +56,11 @@ pub record ByNumber (cable : Cable) : Type 0 where
   pub faults : cableFits cable ≡ false → faultOf cable (cable .n) ≡ faultByNumber cable
   -- records on cables with plain tables are on the same cable as before
   pub same : (other : Cable) → other .order ≡ plain (other .n) → sameCable cable other ≡ sameByNumber cable other
-  -- whose slot it is, and for each node the walk back, whom it sponsors and whom it decides
-  pub senders : (s : ℕ) → sender cable s ≡ senderByNumber (cable .n) s
-  pub befores : (set x j : ℕ) → nodeNumber (cable .n) x ≡ true → memberBefore cable set x j ≡ beforeByNumber (cable .n) set x j
-  pub sponsoreds : (set x j : ℕ) → nodeNumber (cable .n) x ≡ true → sponsored cable set x j ≡ sponsoredByNumber cable set x j
-  pub decideds : (set x : ℕ) → nodeNumber (cable .n) x ≡ true → decided cable set x ≡ decidedByNumber cable set x
+  -- on a ring of 3 to 32 nodes: whose slot it is, and for each node the walk back, whom it sponsors and whom it decides
+  pub senders : ringSize (cable .n) ≡ true → (s : ℕ) → sender cable s ≡ senderByNumber (cable .n) s
+  pub befores : ringSize (cable .n) ≡ true → (set x j : ℕ) → nodeNumber (cable .n) x ≡ true → memberBefore cable set x j ≡ beforeByNumber (cable .n) set x j
+  pub sponsoreds : ringSize (cable .n) ≡ true → (set x j : ℕ) → nodeNumber (cable .n) x ≡ true → sponsored cable set x j ≡ sponsoredByNumber cable set x j
+  pub decideds : ringSize (cable .n) ≡ true → (set x : ℕ) → nodeNumber (cable .n) x ≡ true → decided cable set x ≡ decidedByNumber cable set x
 
 abbrev pub AsBefore : Type 0
-AsBefore = (cable : Cable) → ringSize (cable .n) ≡ true → cable .order ≡ plain (cable .n) → ByNumber cable
+AsBefore = (cable : Cable) → cable .order ≡ plain (cable .n) → ByNumber cable

@@ -11,13 +11,16 @@ use Rattle.ring.specs.declared.Cable.{Cable}
 use Rattle.ring.specs.declared.Found.{Found}
 use Rattle.ring.specs.declared.Found.the-variants.{Member, Nobody}
 
--- The cable with these numbers, no jobs, no lag and the plain table.
-abbrev pub cableOf : ℕ → ℕ → Cable
-cableOf n k = record { n = n; k = k; m = 0; lag = 0; order = plain n }
+-- The cable with these choices and the plain table.
+abbrev pub plainCable : Choices → Cable
+plainCable choices = record { n = choices .n; k = choices .k; m = choices .m; lag = choices .lag; order = plain (choices .n) }
 
--- With this lag.
+-- With these numbers and no jobs: with this lag, and without.
 abbrev pub laggingCable : ℕ → ℕ → ℕ → Cable
-laggingCable n k lag = record { n = n; k = k; m = 0; lag = lag; order = plain n }
+laggingCable n k lag = plainCable (record { n = n; k = k; m = 0; lag = lag })
+
+abbrev pub cableOf : ℕ → ℕ → Cable
+cableOf n k = laggingCable n k 0
 
 -- With these choices and the slot table as it is given.
 abbrev pub cableWith : Choices → List ℕ → Cable

@@ -5,7 +5,7 @@ ghost use mathlib.Core.Path.{_≡_};
 ghost use Prim.Native.Nat.{_+_, _-_};
 ghost use Rattle.refusal.specs.Causes.{cause};
 ghost use Rattle.nodeset.specs.Sums.{num};
-ghost use Rattle.ring.specs.Ring.{cableOf, cableWith, sameCable, ringSize, nodeNumber, lagFits, sponsorCount, jobCount, cableFits, maySetUp, ks, previous, memberBefore, sponsors, sponsored, decided};
+ghost use Rattle.ring.specs.Ring.{plainCable, cableWith, sameCable, ringSize, nodeNumber, lagFits, sponsorCount, jobCount, cableFits, maySetUp, ks, previous, memberBefore, sponsors, sponsored, decided};
 ghost use Rattle.ring.specs.Answers.{faultOf, senderOf, beforeOf, sponsoredOf, decidedOf};
 ghost use Rattle.ring.specs.Places.{testsOf, startAt, reach, nearestOf, sponsorsFrom, foundAt};
 
@@ -52,16 +52,16 @@ enum Tests {
     Refused(Refusal),
 }
 
-// The cable with these numbers, no jobs, no lag and the plain table.
-pub fn cable_of(n: u32, k: u32) -> Cable
-    ensures { λ r. ⌜ r ≡ cableOf n k ⌝ }
+// The cable with these choices and the plain table.
+pub fn plain_cable(choices: Choices) -> Cable
+    ensures { λ r. ⌜ r ≡ plainCable choices ⌝ }
 {
-    let order = slot_table::plain(n);
+    let order = slot_table::plain(choices.n);
     Cable {
-        n,
-        k,
-        m: 0,
-        lag: 0,
+        n: choices.n,
+        k: choices.k,
+        m: choices.m,
+        lag: choices.lag,
         order,
     }
 }

@@ -1,6 +1,7 @@
 // The functions of nodeset and ring for callers in Rust and C, which take and give numbers and lend the
 // slot table as bytes. Each answers what the function of its name does; an answer that is an enum is one
-// number.
+// number. Every slot table is taken as it is, also one with too few places: at a place that it does not
+// have stands node 0.
 use ring::Cable;
 use ring::Choices;
 use ring::Found;
@@ -101,32 +102,18 @@ pub extern "C" fn ring_is_node_number(n: u32, x: u32) -> bool
     ring::is_node_number(n, x)
 }
 
-// The cable with these numbers, no jobs and the plain table.
-fn plain_cable(n: u32, k: u32, lag: u32) -> Cable
-    ensures { λ r. ⌜ r ≡ laggingCable n k lag ⌝ }
-{
-    let order = slot_table::plain(n);
-    Cable {
-        n,
-        k,
-        m: 0,
-        lag,
-        order,
-    }
-}
-
 #[no_mangle]
 pub extern "C" fn ring_is_sponsor_count(n: u32, k: u32, lag: u32) -> bool
     ensures { λ r. ⌜ r ≡ sponsorCount (laggingCable n k lag) ⌝ }
 {
-    ring::is_sponsor_count(plain_cable(n, k, lag))
+    ring::is_sponsor_count(ring::plain_cable(Choices { n, k, m: 0, lag }))
 }
 
 #[no_mangle]
 pub extern "C" fn ring_ks(n: u32, k: u32, lag: u32, c: u32) -> u32
     ensures { λ r. ⌜ r ≡ ks (laggingCable n k lag) c ⌝ }
 {
-    ring::ks(plain_cable(n, k, lag), c)
+    ring::ks(ring::plain_cable(Choices { n, k, m: 0, lag }), c)
 }
 
 // The cable with these numbers, no jobs and this slot table.

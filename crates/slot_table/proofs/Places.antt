@@ -1,6 +1,6 @@
 -- Laws of a slot table (specs/Order): at n places that hold all n nodes each stands once; so each place has a node, each node a place, and a sum over the places is the sum over the nodes.
 -- Assumes nothing.
-use Prim.Native.Nat.{ℕ, zero, suc, _+_, _-_, _≤_, _<_}
+use Prim.Native.Nat.{ℕ, zero, suc, _+_, _-_, _^_, _≤_, _<_}
 use mathlib.Core.Path.{_≡_, refl, sym, ap, _∙_}
 use mathlib.Core.Logic.{_≢_}
 use mathlib.Core.Bool.{Bool, true, false, cond, _&&_, true≢false}
@@ -9,13 +9,14 @@ use native.Mathlib.Omega.{arith}
 use native.Mathlib.Decide.{ℕ-discrete, decLt}
 use lib.Dec.{eqb, leb}
 use lib.ListN.{length}
-use borrow.Author.Tests.{eqb-true, eq-eqb, ne-eqb, leb-true}
+use lib.Pow.{pow-pos}
+use borrow.Author.Tests.{eqb-true, eq-eqb, ne-eqb, leb-true, le-leb}
 use Rattle.nodeset.specs.Sums.{sum, num}
-use Rattle.nodeset.specs.Sets.{has, full}
-use Rattle.nodeset.proofs.Tests.{both}
+use Rattle.nodeset.specs.Sets.{has, with, full}
+use Rattle.nodeset.proofs.Tests.{both, all}
 use Rattle.nodeset.proofs.Sums.{sum-none, sum-next, sum-same, sum-at, sum-zero}
 use Rattle.nodeset.proofs.Bits.{has-none}
-use Rattle.nodeset.proofs.Laws.{has-full, has-with-other}
+use Rattle.nodeset.proofs.Laws.{has-full, full-lt, has-with, has-with-other, with-lt, set-ext}
 use Rattle.slot_table.specs.Order.{nodeAt, nodesAt, isOrder, spareEmpty, isKept, placeFrom, place}
 use Rattle.slot_table.proofs.Sums.{sum-single, sum-some, sum-two, sum-all, sum-least, sum-swap}
 
@@ -163,3 +164,34 @@ module _ (n : ℕ) (order : List ℕ) (ordered : Ordered n order) where
           sum-single (λ q. g q x) 1 n p a (omega arith)
           (λ u c d ne. ap (λ (w : Bool). cond w (f x) 0) (ne-eqb x (nodeAt order u) (λ q. ne (same-place u p c (omega arith) a b (sym q ∙ sym e)))))
           ∙ ap (λ (w : Bool). cond w (f x) 0) (eq-eqb x (nodeAt order p) (sym e))
+
+  nodes-within : (m : ℕ) → m ≤ n → nodesAt m order < 2 ^ n
+  unfolding nodesAt
+  nodes-within zero h = pow-pos n
+  nodes-within (suc m) h = with-lt n (nodesAt m order) (nodeAt order (suc m)) (node-range (suc m) (omega arith) h .1) (nodes-within m (omega arith))
+
+  -- whoever stands at one of the first m places is among their nodes
+  held : n ≤ 32 → (m p : ℕ) → m ≤ n → 1 ≤ p → p ≤ m → has (nodesAt m order) (nodeAt order p) ≡ true
+  unfolding nodesAt
+  held most zero p h a b = let z : ⊥ = omega arith in absurd z
+  held most (suc m) p h a b = go (λ (q : p ≤ m). held most m p (omega arith) a q) (ℕ-discrete (nodeAt order (suc m)) (nodeAt order p)) (ℕ-discrete p (suc m))
+    where
+      go : (p ≤ m → has (nodesAt m order) (nodeAt order p) ≡ true) → Dec (nodeAt order (suc m) ≡ nodeAt order p) → Dec (p ≡ suc m)
+          → has (with (nodesAt m order) (nodeAt order (suc m))) (nodeAt order p) ≡ true
+      go r (yes e) _ =
+          let t = node-range p a (omega arith) in
+          ap (λ (x : ℕ). has (with (nodesAt m order) x) (nodeAt order p)) e ∙ has-with (nodesAt m order) (nodeAt order p) (t .0) (omega (arith, t .1))
+      go r (no e) (yes q) = absurd (e (ap (nodeAt order) (sym q)))
+      go r (no e) (no q) = has-with-other (nodesAt m order) (nodeAt order (suc m)) (nodeAt order p) e ∙ r (omega arith)
+
+-- so that n places hold each of n nodes once just where they hold them all
+pub order-of : (n : ℕ) (order : List ℕ) → n ≤ 32 → Ordered n order → isOrder n order ≡ true
+unfolding isOrder
+order-of n order most ordered =
+    all (le-leb n 32 most) (eq-eqb (nodesAt n order) (full n) (set-ext n (nodesAt n order) (full n) (nodes-within n order ordered n (omega arith)) (full-lt n) same))
+  where
+    same : (x : ℕ) → 1 ≤ x → x ≤ n → has (nodesAt n order) x ≡ has (full n) x
+    same x h l = go (node-place n order ordered x h l) ∙ sym (has-full n x h l (omega arith))
+      where
+        go : (p : ℕ) × (1 ≤ p) × (p ≤ n) × (nodeAt order p ≡ x) → has (nodesAt n order) x ≡ true
+        go (p, a, b, e) = ap (has (nodesAt n order)) (sym e) ∙ held n order ordered most n p (omega arith) a b

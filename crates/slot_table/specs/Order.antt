@@ -43,7 +43,7 @@ numbersFrom (suc m) i = i ∷ numbersFrom m (suc i)
 unfoldable pub plain : ℕ → List ℕ
 plain n = let count = min n 32 in numbersFrom count 1 ++ replicate (32 - count) 0
 
--- The place of node x: the first of `left` places from place p on; 0 where there is none.
+-- The place of node x: the first of `left` places from place p on; 0 where that node has none of them.
 unfoldable pub placeFrom : ℕ → List ℕ → ℕ → ℕ → ℕ
 placeFrom zero order x p = 0
 placeFrom (suc left) order x p = cond (eqb (nodeAt order p) x) p (placeFrom left order x (suc p))

@@ -96,7 +96,7 @@ pub fn plain(n: u32) -> [u8; 32]
     order
 }
 
-// The place of node x; 0 where it has none.
+// The place of node x; 0 where that node has none.
 pub fn place(order: [u8; 32], x: u32) -> u32
     ensures { λ r. ⌜ r ≡ place order x ⌝ }
 {

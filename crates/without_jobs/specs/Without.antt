@@ -34,7 +34,7 @@ SameMembership =
     (cable : Cable) → cableFits cable ≡ true → (lent other : Table) → length lent ≡ cable .n → length other ≡ cable .n → (cs : List Call)
     → forgetAll (tableAfter (setUpOf cable lent .table) cs) ≡ tableAfter (startWithout cable other) cs
 
--- The same of the calls as they are made, with any ledger, any counts and any job byte at each: the tables are those of the calls that no check refuses.
+-- The same of the calls as they are made, with any ledger, counts, job byte and slot table at each: the tables are those of the calls that no check refuses.
 abbrev pub SameAsMade : Type 0
 SameAsMade =
     (cable : Cable) → cableFits cable ≡ true → (lent other : Table) → length lent ≡ cable .n → length other ≡ cable .n → (ls : List Lent)

@@ -55,6 +55,7 @@ unfolding crossedSlots computed kept setUpGiven
 crossed-hold a b c d e =
     refl and refl and refl and refl  -- whose slot it is, sponsored and decided
     and refl and refl  -- leaving
+    and refl and refl  -- joining
     and refl and refl  -- refused
     and tt
 

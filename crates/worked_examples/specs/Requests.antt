@@ -20,7 +20,7 @@ use Rattle.bench.specs.Calls.{setUpGiven, slotOf}
 use Rattle.bench.specs.Pairs.{slotBytes}
 use Rattle.bench.specs.Runs.{Call, off, restart}
 use Rattle.bench.specs.Plans.{ok, lost}
-use Rattle.worked_examples.specs.Rows.{Row, _gives_, these, Standing, holds, out, standings, miss, afterOn, after}
+use Rattle.worked_examples.specs.Rows.{Row, _gives_, these, Standing, holds, out, other, standings, miss, afterOn, after}
 
 -- ---- c: changes in a fixed order
 
@@ -92,7 +92,7 @@ ownMarks lent =
 abbrev pub slow : ℕ → Cable
 slow n = laggingCable n 2 1
 
--- The message of node 2 in slot 2 is lost, and so many slots follow.
+-- The message of slot 2 is lost, and so many slots follow.
 abbrev pub secondLost : ℕ → List Call
 secondLost slots = ok ∷ lost ∷ replicate slots ok
 
@@ -135,10 +135,14 @@ five = record { n = 5; k = 2; m = 0; lag = 0 }
 abbrev pub crossed : Cable
 crossed = cableWith five (3 ∷ 1 ∷ 5 ∷ 2 ∷ 4 ∷ [])
 
+-- Node 1 leaves at slot 4 and is restarted, and so many slots follow.
+abbrev pub firstReturns : ℕ → List Call
+firstReturns slots = secondLost 2 ++ restart 1 ∷ replicate slots ok
+
 -- Over any table of five records that was lent to set-up.
 unfoldable pub crossedSlots : Table → List Row
 crossedSlots lent =
-    -- "Slots, ring, sponsoring and joining follow the table": before node 3 speak 4 and 2,
+    -- "Slots, ring, sponsoring .. follow the table": before node 3 speak 4 and 2,
     (senderOf crossed 1 gives speaker.Node 3)
     ∷ (senderOf crossed 7 gives speaker.Node 1)
     ∷ (sponsoredOf crossed (these (1 ∷ 2 ∷ 3 ∷ 4 ∷ 5 ∷ [])) 3 1 gives finds (found.Member 4 1))
@@ -146,6 +150,9 @@ crossedSlots lent =
     -- and the message of slot 2 is that of node 1, which node 2 decides in slot 4; "sets and printed figures keep node numbers."
     ∷ (standings (afterOn crossed lent (secondLost 1)) gives replicate 5 (holds (these (1 ∷ 2 ∷ 3 ∷ 4 ∷ 5 ∷ []))))
     ∷ (standings (afterOn crossed lent (secondLost 2)) gives out 1 ∷ replicate 4 (holds (these (2 ∷ 3 ∷ 4 ∷ 5 ∷ []))))
+    -- "And joining": node 1, which knocks in slot 17, joins in slot 21, that of node 3, which speaks just before it.
+    ∷ (standings (afterOn crossed lent (firstReturns 16)) gives other ∷ replicate 4 (holds (these (2 ∷ 3 ∷ 4 ∷ 5 ∷ []))))
+    ∷ (standings (afterOn crossed lent (firstReturns 17)) gives replicate 5 (holds (these (1 ∷ 2 ∷ 3 ∷ 4 ∷ 5 ∷ []))))
     -- "Table of the wrong length: 17, after 14. A node missing or doubled: 18, next".
     ∷ (setUpGiven five (3 ∷ 1 ∷ 5 ∷ 2 ∷ []) lent .answer gives answer.Refused (cause 17))
     ∷ (setUpGiven five (3 ∷ 1 ∷ 5 ∷ 2 ∷ 2 ∷ []) lent .answer gives answer.Refused (cause 18))

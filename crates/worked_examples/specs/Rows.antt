@@ -72,11 +72,11 @@ miss nodes = slot false (these nodes) 64
 abbrev pub afterOn : Cable → Table → List Call → Table
 afterOn cable lent plan = tableAfter (setUpOf cable lent .table) (reverse plan)
 
--- With no jobs and no lag.
+-- With no jobs, no lag and the plain table.
 abbrev pub after : ℕ → ℕ → Table → List Call → Table
 after n k lent plan = afterOn (cableOf n k) lent plan
 
--- The failures in the first m slots of a plan.
+-- The failures in the first m slots of a plan on such a cable.
 abbrev pub failures : ℕ → ℕ → Table → List Call → ℕ → ℕ
 failures n k lent plan m = sum (λ u. entry (setUpOf (cableOf n k) lent .table) (reverse plan) u .failures) 1 m
 

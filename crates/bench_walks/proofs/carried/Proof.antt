@@ -16,8 +16,8 @@ enum-told c = search needs
 enum-told-2 : tie.Need-enum-told-2
 enum-told-2 c = search needs
 
-place-of-requires : tie.Need-place-of-requires
-place-of-requires c κs = search needs
+number-at-requires : tie.Need-number-at-requires
+number-at-requires c κs = search needs
 
 starting-requires : tie.Need-starting-requires
 starting-requires c κs = search needs
@@ -49,7 +49,7 @@ returns c = ordered (c .before .before .before) (c .enum-told .given .1)
 
 returns-2 : tie.Need-returns-2
 unfolding carriedBy
-returns-2 c = c .starting .ensures ∙ ap (starting _) (c .before .place-of .ensures) ∙ ordered (c .before .before .before .before .before) (c .before .before .enum-told2 .given .1)
+returns-2 c = c .starting .ensures ∙ ap (starting _) (c .before .number-at .ensures) ∙ ordered (c .before .before .before .before .before) (c .before .before .enum-told2 .given .1)
 
 returns-3 : tie.Need-returns-3
 unfolding carriedBy
@@ -73,7 +73,7 @@ carried-spec =
     (tie.spec
     enum-told
     enum-told-2
-    place-of-requires
+    number-at-requires
     starting-requires
     enum-known-order
     off-at-requires

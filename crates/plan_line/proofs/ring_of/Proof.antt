@@ -15,7 +15,7 @@ sized c = sym (c .before .is-ring-size .ensures) ∙ not-false (c .before .is-ri
 
 -- k is tested for the cable with these numbers
 counted : (c : tie.After-is-sponsor-count) → c .is-sponsor-count .result ≡ sponsorCount (cableOf (c .before .before .before .before .args .n) (c .before .before .before .before .args .k))
-counted c = c .is-sponsor-count .ensures ∙ ap sponsorCount (c .before .cable-of .ensures)
+counted c = c .is-sponsor-count .ensures ∙ ap sponsorCount (c .before .plain-cable .ensures)
 
 is-ring-size-requires : tie.Need-is-ring-size-requires
 is-ring-size-requires c κs = search needs
@@ -24,8 +24,8 @@ returns : tie.Need-returns
 unfolding ringOf
 returns c = simp (sym (c .before .is-ring-size .ensures) ∙ not-true (c .before .is-ring-size .result) (c .if1 .taken))
 
-cable-of-requires : tie.Need-cable-of-requires
-cable-of-requires c κs = search needs
+plain-cable-requires : tie.Need-plain-cable-requires
+plain-cable-requires c κs = search needs
 
 is-sponsor-count-requires : tie.Need-is-sponsor-count-requires
 is-sponsor-count-requires c κs = search needs
@@ -43,4 +43,4 @@ returns-3 c =
 pub ring-of-spec : {M : Type 1} → statement M
 ring-of-spec =
     tie.close
-    (tie.spec is-ring-size-requires returns cable-of-requires is-sponsor-count-requires returns-2 returns-3)
+    (tie.spec is-ring-size-requires returns plain-cable-requires is-sponsor-count-requires returns-2 returns-3)

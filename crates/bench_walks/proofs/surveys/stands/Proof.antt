@@ -12,14 +12,14 @@ is-sound-requires c κs = search needs
 is-same-cable-requires : tie.Need-is-same-cable-requires
 is-same-cable-requires c κs = search needs
 
-is-place-requires : tie.Need-is-place-requires
-is-place-requires c κs = search needs
+is-number-at-requires : tie.Need-is-number-at-requires
+is-number-at-requires c κs = search needs
 
 returns : tie.Need-returns
 returns c =
     let q = c .before .before .before in
     let a = q .before .before .before .before .args in
-    ap₂ _&&_ (q .before .is-sound .ensures) (ap₂ _&&_ (q .is-same-cable .ensures) (ap (λ (b : Bool). eqb (a .v .slots) (a .s .slots) && b) (c .is-place .ensures)))
+    ap₂ _&&_ (q .before .is-sound .ensures) (ap₂ _&&_ (q .is-same-cable .ensures) (ap (λ (b : Bool). eqb (a .v .slots) (a .s .slots) && b) (c .is-number-at .ensures)))
 
 pub stands-spec : {M : Type 1} → statement M
-stands-spec = tie.close (tie.spec is-sound-requires is-same-cable-requires is-place-requires returns)
+stands-spec = tie.close (tie.spec is-sound-requires is-same-cable-requires is-number-at-requires returns)

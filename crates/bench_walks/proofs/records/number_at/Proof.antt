@@ -1,10 +1,10 @@
--- `bench_walks::records::place_of` meets its contract: its test is that of the definition. Assumes nothing.
+-- `bench_walks::records::number_at` meets its contract: its test is that of the definition. Assumes nothing.
 use borrow.Author.Needs.{needs}
 use mathlib.Core.Path.{sym}
 use Rattle.nodeset.proofs.Tests.{chosen, otherwise}
 use borrow.Author.Tests.{lt-ltb, le-ltb}
-use Rattle.bench_walks.proofs.records.place_of.Statement.{statement}
-use Rattle.bench_walks.proofs.records.place_of.Tie as tie
+use Rattle.bench_walks.proofs.records.number_at.Statement.{statement}
+use Rattle.bench_walks.proofs.records.number_at.Tie as tie
 
 returns : tie.Need-returns
 returns c = sym (otherwise _ _ (le-ltb _ _ (c .if1 .taken)))
@@ -18,5 +18,5 @@ add-result c = search needs
 returns-2 : tie.Need-returns-2
 returns-2 c = sym (chosen _ _ (lt-ltb _ _ (c .if1 .left)))
 
-pub place-of-spec : {M : Type 1} → statement M
-place-of-spec = tie.close (tie.spec returns cast-result add-result returns-2)
+pub number-at-spec : {M : Type 1} → statement M
+number-at-spec = tie.close (tie.spec returns cast-result add-result returns-2)

@@ -1,10 +1,10 @@
--- `plan_run::plain_cable` meets its contract. Assumes nothing.
+-- `ring::plain_cable` meets its contract: it has the plain table. Assumes nothing.
 use Prim.Native.Nat.{ℕ}
 use mathlib.Core.Path.{ap}
 use mathlib.Core.List.{List}
 use borrow.Author.Needs.{needs}
-use Rattle.plan_run.proofs.plain_cable.Statement.{statement}
-use Rattle.plan_run.proofs.plain_cable.Tie as tie
+use Rattle.ring.proofs.plain_cable.Statement.{statement}
+use Rattle.ring.proofs.plain_cable.Tie as tie
 
 plain-requires : tie.Need-plain-requires
 plain-requires c κs = search needs
