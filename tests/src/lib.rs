@@ -20,4 +20,6 @@ pub mod record_bytes;
 pub mod recorded_lines;
 pub mod records;
 pub mod report;
+pub mod rows;
 pub mod slot_tables;
+pub mod typed_rows;

@@ -1,14 +1,23 @@
-//! A record as the programs under test take and give it: 92 bytes, all numbers lowest byte first; and the counts that
-//! stand beside one.
+//! A record as the programs under test take and give it, all numbers lowest byte first: the record of the rules, 92
+//! bytes, and the record as it is held, which has its row's length where that one has its set, and its row's 32 places
+//! after all else; and the counts that stand beside one.
 
 use crate::model::choices::Choices;
 use crate::model::counts::{Counts, NONE};
+use crate::model::held::Record;
 use crate::model::node::{Cause, ListeningData, Node, State};
 use crate::model::ring::Set;
+use crate::model::row::Row;
 use crate::model::slot_table::Order;
 
-/// The bytes of a record.
-pub const RECORD: usize = 92;
+/// The bytes of a record of the rules.
+pub const RULES: usize = 92;
+
+/// The bytes of a record as it is held.
+pub const RECORD: usize = RULES + Row::PLACES;
+
+/// Where the set stands, or the row's length.
+const SET: usize = 21;
 
 const CAUSES: [Cause; 4] = [Cause::Unconfirmed, Cause::NothingHeard, Cause::MissedReturn, Cause::SwitchedOff];
 
@@ -34,8 +43,8 @@ fn state_of(number: u8) -> State {
     }
 }
 
-pub fn record_bytes(record: &Node) -> [u8; RECORD] {
-    let mut out = Vec::with_capacity(RECORD);
+pub fn rules_bytes(record: &Node) -> [u8; RULES] {
+    let mut out = Vec::with_capacity(RULES);
     let ListeningData { done, heard, shortest, return_seen, last } = record.listening;
     for number in [record.chosen.n, record.chosen.k, record.own] {
         out.extend(number.to_le_bytes());
@@ -57,6 +66,15 @@ pub fn record_bytes(record: &Node) -> [u8; RECORD] {
     }
     out.extend(record.chosen.order.0);
     out.try_into().expect("92 bytes")
+}
+
+pub fn record_bytes(record: &Record) -> [u8; RECORD] {
+    let mut out = [0; RECORD];
+    let (rules, places) = out.split_at_mut(RULES);
+    rules.copy_from_slice(&rules_bytes(&record.node));
+    rules[SET..SET + 4].copy_from_slice(&record.row.length.to_le_bytes());
+    places.copy_from_slice(&record.row.nodes);
+    out
 }
 
 /// Puts the counts of one node: 32 rows of 8, eight bytes each.
@@ -106,8 +124,15 @@ impl<'a> Reader<'a> {
         counts
     }
 
+    pub fn record(&mut self) -> Record {
+        let node = self.rules();
+        // Where the set stands there is the length.
+        let length = node.set.0;
+        Record::new(node, Row { length, nodes: self.take(Row::PLACES).try_into().expect("32 bytes") })
+    }
+
     /// Fields are taken in the order in which they are written here.
-    pub fn record(&mut self) -> Node {
+    pub fn rules(&mut self) -> Node {
         let (n, k) = (self.u32(), self.u32());
         let node = Node {
             chosen: Choices::plain(n, k),
@@ -135,6 +160,12 @@ impl<'a> Reader<'a> {
 
 fn shown_set(set: Set) -> String {
     format!("{:?}", set.nodes().collect::<Vec<u32>>())
+}
+
+/// A record as it is held.
+pub fn shown_held(record: &Record) -> String {
+    let Row { length, nodes } = record.row;
+    format!("row {length} {nodes:?} {}", shown_record(&record.node))
 }
 
 pub fn shown_record(record: &Node) -> String {

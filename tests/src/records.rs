@@ -2,10 +2,13 @@
 //! clause.
 
 use crate::model::choices::Choices;
+use crate::model::held::Record;
 use crate::model::node::{Cause, ListeningData, Node, State, CLAUSES};
 use crate::model::ring::{Set, LIMIT};
+use crate::model::row;
 use crate::model::slot_table::Order;
 use crate::random::Random;
+use crate::rows;
 use crate::slot_tables;
 
 pub const STATES: [State; 8] = [
@@ -182,6 +185,15 @@ pub struct Break {
     pub make: fn(&mut Random, &mut Node) -> Option<()>,
 }
 
+impl Break {
+    /// The record broken, as it is held: where its set stays, so does its row, whatever becomes of the slot table.
+    pub fn of(&self, random: &mut Random, mut node: Node) -> Option<Record> {
+        let before = Record::from(node);
+        (self.make)(random, &mut node)?;
+        Some(if node.set == before.node.set { Record::new(node, before.row) } else { node.into() })
+    }
+}
+
 const ANY: &[State] = &STATES;
 const MEMBER: &[State] = &[State::Member];
 const LISTENING: &[State] = &[State::Listening];
@@ -257,15 +269,8 @@ pub const BREAKS: &[Break] = &[
         r.slots = if random.bit() { LIMIT + 1 + random.below(40) } else { u64::MAX - random.below(3) };
         Some(())
     } },
-    Break { breaks: &["set holds only 1 to n"], states: KNOWING, make: |random, r| { r.set = r.set.with(node_past(random, r.chosen.n)?); Some(()) } },
     Break { breaks: &["marks hold only 1 to n", "each marked node is in the set"], states: KNOWING, make: |random, r| {
         r.marks = r.marks.with(node_past(random, r.chosen.n)?);
-        Some(())
-    } },
-    Break { breaks: &["set holds only 1 to n", "marks hold only 1 to n"], states: KNOWING, make: |random, r| {
-        let x = node_past(random, r.chosen.n)?;
-        r.set = r.set.with(x);
-        r.marks = r.marks.with(x);
         Some(())
     } },
     Break { breaks: &["each marked node is in the set"], states: KNOWING, make: |random, r| { r.marks = r.marks.with(one(random, unheld(r)?)); Some(()) } },
@@ -401,36 +406,46 @@ fn not_listening(random: &mut Random, r: &mut Node) -> Option<()> {
 }
 
 /// Makes a sound record one that is not, by yes heard outside the member state, by the listening data, by m, by the
-/// lag or by the slot table.
-pub fn spoil(random: &mut Random, node: &mut Node) {
-    match random.below(6) {
+/// lag, by the slot table or by the row.
+pub fn spoil(random: &mut Random, record: &mut Record) {
+    let node = &mut record.node;
+    match random.below(7) {
         0 => node.chosen.m = past(random, 8),
         1 => node.chosen.lag = past(random, 1),
         4 => wrong_place(random, node, 0),
+        5 => rows::use_spare(random, record),
         2 | 3 if node.state != State::Member => node.yes_heard = true,
         _ => node.listening.done = node.chosen.n,
     }
 }
 
 /// The clauses that a record does not keep.
-pub fn broken(node: &Node) -> Vec<&'static str> {
-    CLAUSES.iter().filter(|clause| !(clause.kept)(node)).map(|clause| clause.says).collect()
+pub fn broken(Record { node, row }: &Record) -> Vec<&'static str> {
+    let of_row = row::CLAUSES.iter().filter(|clause| !(clause.kept)(row, node.chosen.n, node.chosen.order));
+    let of_rest = CLAUSES.iter().filter(|clause| !(clause.kept)(node));
+    of_row.map(|clause| clause.says).chain(of_rest.map(|clause| clause.says)).collect()
+}
+
+/// The clauses that `BREAKS` must break: all of a record but those of its row.
+pub fn clauses() -> Vec<&'static str> {
+    CLAUSES.iter().map(|clause| clause.says).filter(|&says| says != rows::PAST_N).collect()
 }
 
 /// Gives one field another value.
-pub fn disturb(random: &mut Random, node: &mut Node) {
+pub fn disturb(random: &mut Random, record: &mut Record) {
     let number = match random.below(4) {
         0 => random.number() as u32,
         1 => 1 << random.below(32),
         _ => random.below(34) as u32,
     };
-    match random.below(18) {
+    let Record { node, row } = record;
+    match random.below(20) {
         0 => node.chosen.n = number,
         1 => node.chosen.k = number,
         2 => node.own = number,
         3 => node.slots = random.number() >> random.below(64),
         4 => node.state = STATES[random.below(8) as usize],
-        5 => node.set.0 ^= number,
+        5 => record.hold(Set(record.node.set.0 ^ number)),
         6 => node.marks.0 ^= number,
         7 => node.returning = number,
         8 => node.return_heard ^= true,
@@ -442,6 +457,9 @@ pub fn disturb(random: &mut Random, node: &mut Node) {
         14 => node.chosen.m = number,
         15 => node.chosen.lag = number,
         16 => node.chosen.order.0[random.below(32) as usize] = number as u8,
+        17 => row.length = number,
+        18 => row.nodes[random.below(32) as usize] = number as u8,
         _ => node.listening.last.0 ^= number,
     }
+    *record = Record::new(record.node, record.row);
 }

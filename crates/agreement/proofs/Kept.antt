@@ -12,7 +12,7 @@ use Rattle.ring.specs.declared.Cable.{Cable}
 use Rattle.ring.specs.Ring.{nodeNumber, cableFits}
 use Rattle.ring.proofs.Ranges.{ring-size, fitting}
 use Rattle.node_record.specs.declared.Cause.the-variants.{SwitchedOff}
-use Rattle.node.specs.declared.Stepped.{Stepped}
+use Rattle.node.specs.Calls.{Stepped}
 use Rattle.node.specs.Calls as node
 use Rattle.bench.specs.Table.{Table, tableSound, nodeCount, slotsOf}
 use Rattle.bench.specs.Calls.{setUpOf, tableAfterSlot}

@@ -22,7 +22,7 @@ use Rattle.node_sending.proofs.Laws.{has-markBits}
 use Rattle.node_slot.specs.Slot.{afterSlot}
 use Rattle.node_slot.specs.Inner.{readIn}
 use Rattle.node_slot.proofs.Read.{after-read}
-use Rattle.node.specs.declared.Stepped.{Stepped}
+use Rattle.node.specs.Calls.{Stepped}
 use Rattle.bench.specs.Table.{Table, recordOf, speaker}
 use Rattle.bench.specs.Calls.{transmits, unheard, spoken, heardBy, tableAfterSlot}
 use Rattle.bench.proofs.Counted.{step-done}

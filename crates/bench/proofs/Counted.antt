@@ -22,11 +22,10 @@ use Rattle.node_changes.specs.Changes.{listeningAfter, followingWith, withWindo
 use Rattle.node_steps.specs.Steps.{isHeard, noted, leaves, tooFew, nothingHeard, joins, joined, join, settle}
 use Rattle.node_steps.specs.Inner.{readReturn, readMarked, departing, insideSlot, outsideSlot, slotByCases}
 use Rattle.node_hearing.specs.Hearing.{overheard, clean, windowEnd, goesOn, listeningBy}
-use Rattle.node.specs.declared.Stepped.{Stepped}
 use Rattle.node_slot.specs.Slot.{afterSlot}
 use Rattle.node_slot.specs.Inner.{heardFrom, readIn}
 use Rattle.node_slot.proofs.Read.{after-read}
-use Rattle.node.specs.Calls.{done, refused, stepOf, offOf, restartOf}
+use Rattle.node.specs.Calls.{Stepped, done, refused, stepOf, offOf, restartOf}
 use Rattle.bench.proofs.Choices.{choose}
 
 pub record Numbers (cable : Cable) (own slots : ℕ) (v : Node) : Type 0 where

@@ -6,5 +6,6 @@ pub mod Runs
 pub mod SlotKinds
 pub mod Computed
 pub mod Ledgers
+pub mod Standing
 pub mod Reports
 pub mod Farthest

@@ -22,11 +22,10 @@ use Rattle.node_changes.specs.Changes.{outFor, fresh, leave, counted, withSet, 
 use Rattle.node_steps.specs.Steps.{isHeard, nothingHeard, joins, stateOnList, noted, leaves, join, settle}
 use Rattle.node_steps.specs.Inner.{readReturn, readMarked, departing, insideSlot, outsideSlot, slotByCases}
 use Rattle.node_hearing.specs.Hearing.{clean, windowEnd, overheard, goesOn, listeningBy}
-use Rattle.node.specs.declared.Stepped.{Stepped}
 use Rattle.node_slot.specs.Slot.{afterSlot}
 use Rattle.node_slot.specs.Inner.{heardFrom, readIn}
 use Rattle.node_slot.proofs.Read.{after-read}
-use Rattle.node.specs.Calls.{stepOf}
+use Rattle.node.specs.Calls.{Stepped, stepOf}
 use Rattle.bench.specs.Pairs.{sameState, kindFrom}
 
 -- the states that may follow a state

@@ -5,5 +5,6 @@ pub mod Pairs
 pub mod Outcomes
 pub mod Ledger
 pub mod Kept
+pub mod Held
 pub mod Runs
 pub mod Plans

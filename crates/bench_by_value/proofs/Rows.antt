@@ -24,13 +24,13 @@ use denote.Array.{Array, arrayVal, array-vals, array-tells, array-lawful, array-
 use denote.ArrayMemory.{array-apart, array-whole}
 use denote.Index.{row, place, whole-in, whole-out}
 use denote.Slice.{sliceVal, MutSlice, finally}
-use denote.Lend.{Held, lends-slice, slice-back}
+use denote.Lend.{Held as Borrowed, lends-slice, slice-back}
 use denote.Steps.{peeks}
 use denote.Struct.Laws as LL
 use Rattle.bench_walks.proofs.Turns.{rowBytes}
-use Rattle.node_record.specs.declared.Node.{Node}
-use Rattle.node_record.proofs.Node as N
-use Rattle.node_record.proofs.Node.Laws as N′
+use Rattle.node_record.specs.declared.Held.{Held}
+use Rattle.node_record.proofs.Held as N
+use Rattle.node_record.proofs.Held.Laws as N′
 
 module _ {M : Type 1} (𝓤 : URA M) (H : Heap 𝓤) (A : Atoms 𝓤) (W : Given 𝓤 H A) (R : RattleType) (q : Share) where
   pub rows-apart : (xs ys : List (R .Denot)) (b o : ℕ) → ent 𝓤 (sem 𝓤 H A (row R q (xs ++ ys) b o)) (sep 𝓤 (sem 𝓤 H A (row R q xs b o)) (sem 𝓤 H A (row R q ys b (place (mem R .size) o (length xs)))))
@@ -52,10 +52,10 @@ R = Array N.the-row 32
 abbrev pub τ : Ty
 τ = tyArray N′.mir 32
 
-abbrev pub val : List Node → Val
+abbrev pub val : List Held → Val
 val ys = arrayVal (map (LL.val N.the-type N′.the-laws) ys)
 
-abbrev pub vals : List Node → List Val
+abbrev pub vals : List Held → List Val
 vals = array-vals (LL.vals N.the-type N′.the-laws)
 
 roomy : (n : ℕ) → n ≤ 32 → (n < 2 ^ 64) × (n * rowBytes < 2 ^ 63)
@@ -73,14 +73,14 @@ module _ {M : Type 1} (𝓤 : URA M) (H : Heap 𝓤) (A : Atoms 𝓤) (W : Given
 
 -- ---- numbers
 -- the first n of 32 records
-pub few : (n : ℕ) (ys : List Node) → length ys ≡ 32 → length (take n ys) ≤ 32
+pub few : (n : ℕ) (ys : List Held) → length ys ≡ 32 → length (take n ys) ≤ 32
 few n ys len = omega (arith, len, length-take n ys)
 
-pub counted : (n : ℕ) (ys : List Node) → length ys ≡ 32 → min n 32 ≡ length (take n ys)
+pub counted : (n : ℕ) (ys : List Held) → length ys ≡ 32 → min n 32 ≡ length (take n ys)
 counted n ys len = omega (arith, len, length-take n ys)
 
 -- as many in their place, and the others
-pub in-all : (n : ℕ) (ys zs : List Node) → length ys ≡ 32 → length zs ≡ length (take n ys) → length (zs ++ drop n ys) ≡ 32
+pub in-all : (n : ℕ) (ys zs : List Held) → length ys ≡ 32 → length zs ≡ length (take n ys) → length (zs ++ drop n ys) ≡ 32
 in-all n ys zs len same = omega (arith, len, same, length-take n ys, length-drop n ys, length-append zs (drop n ys))
 
 -- where the records after m lie
@@ -89,18 +89,18 @@ after m = place (mem N.the-row .size) 0 m
 
 module _ {M : Type 1} (𝓤 : URA M) (H : Heap 𝓤) (A : Atoms 𝓤) (W : Given 𝓤 H A) where
   -- a local array is the row of its first m records and that of the rest
-  pub array-rows : (m : ℕ) (ys : List Node) (l : ℕ) → ent 𝓤 (sep 𝓤 (sem 𝓤 H A (fat fullShare τ l 0 (val ys))) (sem 𝓤 H A (R .own ys (vals ys))))
+  pub array-rows : (m : ℕ) (ys : List Held) (l : ℕ) → ent 𝓤 (sep 𝓤 (sem 𝓤 H A (fat fullShare τ l 0 (val ys))) (sem 𝓤 H A (R .own ys (vals ys))))
       (sep 𝓤 (sem 𝓤 H A (row N.the-row fullShare (take m ys) l 0)) (sem 𝓤 H A (row N.the-row fullShare (drop m ys) l (after (length (take m ys))))))
   unfolding partOf
   array-rows m ys l =
       qed W (‵ (fat fullShare τ l 0 (val ys)) ∷ ‵ (R .own ys (vals ys)) ∷ []) ∵ use1 W (‵ (fat fullShare (rawTy τ) l 0 (val ys))) (W .laws .at-raw fullShare τ l 0 (val ys)) $
       fjoin ! $ fpack ! (List Val) (λ vs. fsep (cellAt fullShare (R .mir) vs l 0) (R .own ys vs)) (vals ys) $
       use1 W (‵ (arr-parts (shares N.the-row) 32 .part fullShare ys l 0)) (array-apart 𝓤 H A W N.the-row fullShare tt 32 ys l 0) $ fsplit ! $ feqL ! (λ len.
-      rewrite ! 0 (λ (zs : List Node). ‵ (row N.the-row fullShare zs l 0)) (sym (take-append-drop m ys)) refl $
+      rewrite ! 0 (λ (zs : List Held). ‵ (row N.the-row fullShare zs l 0)) (sym (take-append-drop m ys)) refl $
       use1 W (‵ (row N.the-row fullShare (take m ys) l 0) ⊛ ‵ (row N.the-row fullShare (drop m ys) l (after (length (take m ys))))) (rows-apart 𝓤 H A W N.the-row fullShare (take m ys) (drop m ys) l 0) $ split ! $ done !)
 
   -- two rows of 32 records are a local array
-  pub rows-array : (xs ys : List Node) (l : ℕ) → length (xs ++ ys) ≡ 32 → ent 𝓤 (sep 𝓤 (sem 𝓤 H A (row N.the-row fullShare xs l 0)) (sem 𝓤 H A (row N.the-row fullShare ys l (after (length xs)))))
+  pub rows-array : (xs ys : List Held) (l : ℕ) → length (xs ++ ys) ≡ 32 → ent 𝓤 (sep 𝓤 (sem 𝓤 H A (row N.the-row fullShare xs l 0)) (sem 𝓤 H A (row N.the-row fullShare ys l (after (length xs)))))
       (guard 𝓤 (Is R (xs ++ ys) (vals (xs ++ ys))) (sem 𝓤 H A (fat fullShare τ l 0 (val (xs ++ ys)))))
   unfolding partOf
   rows-array xs ys l len =
@@ -114,11 +114,11 @@ module _ {M : Type 1} (𝓤 : URA M) (H : Heap 𝓤) (A : Atoms 𝓤) (W : Given
       keep ! (1 ∷ []) $ use1 W (‵ (fat fullShare τ l 0 (val (xs ++ ys)))) (W .laws .raw-at fullShare τ l 0 (val (xs ++ ys))) $ check ! gr $ done !)))
 
   -- a row of at most 32 records is lent, and comes back at the last list
-  pub lends-row : (κ : Lft) (ys : List Node) (l : ℕ) → length ys ≤ 32 → ent 𝓤 (sem 𝓤 H A (row N.the-row fullShare ys l 0))
-      (H .⇛ (ex 𝓤 (λ (δ : GName). sep 𝓤 (sem 𝓤 H A (MutSlice (named 0) κ N.the-row .own (record { ptr = (l, 0); name = δ; now = ys }) (sliceVal (l, 0) (length ys) ∷ []))) (sem 𝓤 H A (flent κ (Held N.the-row (length ys) l 0 δ))))))
+  pub lends-row : (κ : Lft) (ys : List Held) (l : ℕ) → length ys ≤ 32 → ent 𝓤 (sem 𝓤 H A (row N.the-row fullShare ys l 0))
+      (H .⇛ (ex 𝓤 (λ (δ : GName). sep 𝓤 (sem 𝓤 H A (MutSlice (named 0) κ N.the-row .own (record { ptr = (l, 0); name = δ; now = ys }) (sliceVal (l, 0) (length ys) ∷ []))) (sem 𝓤 H A (flent κ (Borrowed N.the-row (length ys) l 0 δ))))))
   lends-row κ ys l few = via 𝓤 _ (whole-in 𝓤 H A W N.the-row ys l 0) (lends-slice 𝓤 H A W N.the-row (named 0) κ ys l 0 (roomy (length ys) few))
 
-  pub row-back : (κ : Lft) (δ : GName) (ys : List Node) (n l : ℕ) → ent 𝓤 (sep 𝓤 (A .dead κ) (sep 𝓤 (sem 𝓤 H A (flent κ (Held N.the-row n l 0 δ))) (sem 𝓤 H A (finally N.the-row δ ys)))) (H .⇛ (sem 𝓤 H A (row N.the-row fullShare ys l 0)))
+  pub row-back : (κ : Lft) (δ : GName) (ys : List Held) (n l : ℕ) → ent 𝓤 (sep 𝓤 (A .dead κ) (sep 𝓤 (sem 𝓤 H A (flent κ (Borrowed N.the-row n l 0 δ))) (sem 𝓤 H A (finally N.the-row δ ys)))) (H .⇛ (sem 𝓤 H A (row N.the-row fullShare ys l 0)))
   row-back κ δ ys n l =
-      qed W (‵ (fdead κ) ∷ ‵ (flent κ (Held N.the-row n l 0 δ)) ∷ ‵ (finally N.the-row δ ys) ∷ []) ∵ updating ! $
+      qed W (‵ (fdead κ) ∷ ‵ (flent κ (Borrowed N.the-row n l 0 δ)) ∷ ‵ (finally N.the-row δ ys) ∷ []) ∵ updating ! $
       use3 W (later (‵ (Arr (mem N.the-row) n .lies ys l 0))) (slice-back 𝓤 H A W N.the-row κ δ ys n l 0) $ await ! tt $ at-once ! $ fsplit ! $ leave ! $ by ! (whole-out 𝓤 H A W N.the-row ys l 0)

@@ -4,7 +4,7 @@
 use bench::Command;
 use bench::Outcome;
 use bench::Reply;
-use node_record::Node;
+use node_record::Held;
 ghost use mathlib.Core.Path.{_≡_};
 ghost use Prim.Native.Nat.{min};
 ghost use lib.ListN.{length};
@@ -13,7 +13,7 @@ ghost use Rattle.bench_by_value.specs.ByValue.{tableOf, callWith};
 
 // The rows after a call, what there is to print of it, and the number of pairs told.
 pub struct Ran {
-    pub rows: [Node; 32],
+    pub rows: [Held; 32],
     pub outcome: Outcome,
     pub pairs: u32,
 }
@@ -25,7 +25,7 @@ fn size(n: u32) -> usize
     if n < 32 { n as usize } else { 32 }
 }
 
-fn told(rows: [Node; 32], reply: Reply) -> Ran
+fn told(rows: [Held; 32], reply: Reply) -> Ran
     ensures { λ r. ⌜ r ≡ record { rows = rows; outcome = reply .outcome; pairs = reply .pairs } ⌝ }
 {
     let outcome = reply.outcome;
@@ -43,7 +43,7 @@ pub fn call(
     counts: &mut [[[u64; 8]; 32]],
     pairs: &mut [u8],
     slots: &[u8],
-    mut rows: [Node; 32],
+    mut rows: [Held; 32],
     n: u32,
     command: Command,
 ) -> Ran

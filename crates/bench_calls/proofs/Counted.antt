@@ -39,6 +39,9 @@ use Rattle.bench.specs.declared.Command.the-variants as command
 use Rattle.bench.specs.Table.{Table, recordOf, tableSound, speaker}
 use Rattle.bench.specs.Calls as bench
 use Rattle.bench.specs.Calls.{unheard}
+use Rattle.node_record.specs.Held.{setted}
+use Rattle.node_record.proofs.Holding.{node-back}
+use Rattle.bench.specs.Held.{HeldTable, settedAll}
 use Rattle.bench.specs.Reports.{receivedBy, eachCountsFrom, reportsAfterSlot}
 use Rattle.bench.specs.Kept.{reportsWith}
 use Rattle.bench.proofs.Places.{sound-placed}
@@ -51,7 +54,7 @@ use Rattle.bench_walks.specs.Survey.{surveyOf, fineTable}
 use Rattle.bench_walks.specs.Orders.{ifGood, turnOf, orderFor, fateBy}
 use Rattle.bench_calls.specs.Work.{besideBy, hearersIn, reportedBy}
 use Rattle.bench_calls.proofs.Surveys.{fine-table, said}
-use Rattle.bench_calls.proofs.Works.{calledBy, hears}
+use Rattle.bench_calls.proofs.Works.{calledBy, hears, speaks}
 
 -- ---- who hears
 
@@ -60,7 +63,10 @@ heard-unless : (missed : Bool) (heard : Reading) → isHeard (cond missed unhear
 heard-unless true heard = refl
 heard-unless false heard = refl
 
-module _ (lost : Bool) (missed : ℕ) (t : Table) (ok : tableSound t ≡ true) (named : within (surveyOf t .cable .n) missed ≡ true) where
+module _ (lost : Bool) (missed : ℕ) (t : HeldTable) (ok : tableSound (settedAll t) ≡ true) (named : within (surveyOf t .cable .n) missed ≡ true) where
+  abbrev u : Table
+  u = settedAll t
+
   abbrev survey : Survey
   survey = surveyOf t
 
@@ -70,21 +76,21 @@ module _ (lost : Bool) (missed : ℕ) (t : Table) (ok : tableSound t ≡ true) (
   small : missed < 2 ^ 32
   small =
       let s = said t ok in
-      lt-of-lt-of-le (ltb-true missed (2 ^ surveyOf t .cable .n) named) (pow-mono {i = surveyOf t .cable .n} {j = 32} (omega (arith, s .n, ring-size (length t) (s .ring) .1)))
+      lt-of-lt-of-le (ltb-true missed (2 ^ surveyOf t .cable .n) named) (pow-mono {i = surveyOf t .cable .n} {j = 32} (omega (arith, s .n, ring-size (length u) (s .ring) .1)))
 
   -- of a node of the table
-  module _ (x : ℕ) (low : 1 ≤ x) (high : x ≤ length t) where
+  module _ (x : ℕ) (low : 1 ≤ x) (high : x ≤ length u) where
     abbrev v : Node
-    v = recordOf t x
+    v = recordOf u x
 
     own : v .own ≡ x
-    own = let p = sound-placed t ok in p .at x low (omega (arith, high, p .length-is)) .own-is
+    own = let p = sound-placed u ok in p .at x low (omega (arith, high, p .length-is)) .own-is
 
-    reading-is : bench.heardBy lost missed t x ≡ cond (has missed x) unheard (turn .heard)
-    reading-is = sym (hears lost missed t x (survey .speaker) (said t ok .spoken))
+    reading-is : bench.heardBy lost missed u x ≡ cond (has missed x) unheard (turn .heard)
+    reading-is = sym (hears lost missed u x (survey .speaker) (speaks u ok .is-sound) (said t ok .spoken))
 
-    listed : has (survey .listers) x ≡ has (v .set) (speaker t)
-    listed = said t ok .listers x (all (le-leb 1 x low) (le-leb x (length t) high))
+    listed : has (survey .listers) x ≡ has (v .set) (speaker u)
+    listed = said t ok .listers x (all (le-leb 1 x low) (le-leb x (length u) high))
 
     -- the tests of the set are those of the node
     tests : (own-slot heard away inside : Bool) → (not own-slot && ((not away && heard) && inside)) ≡ cond heard (cond own-slot false (inside && not away)) false
@@ -95,40 +101,40 @@ module _ (lost : Bool) (missed : ℕ) (t : Table) (ok : tableSound t ≡ true) (
     tests false false true inside = refl
     tests false false false inside = refl
 
-    in-set : has (without (minus (survey .listers) missed) (survey .sender)) x ≡ cond (eqb (speaker t) (v .own)) false (has (v .set) (speaker t) && not (has missed x))
-    in-set = go (ℕ-discrete (speaker t) x)
+    in-set : has (without (minus (survey .listers) missed) (survey .sender)) x ≡ cond (eqb (speaker u) (v .own)) false (has (v .set) (speaker u) && not (has missed x))
+    in-set = go (ℕ-discrete (speaker u) x)
       where
         most : x ≤ 32
-        most = omega (arith, high, ring-size (length t) (said t ok .ring) .1)
+        most = omega (arith, high, ring-size (length u) (said t ok .ring) .1)
 
-        go : Dec (speaker t ≡ x) → has (without (minus (survey .listers) missed) (survey .sender)) x ≡ cond (eqb (speaker t) (v .own)) false (has (v .set) (speaker t) && not (has missed x))
+        go : Dec (speaker u ≡ x) → has (without (minus (survey .listers) missed) (survey .sender)) x ≡ cond (eqb (speaker u) (v .own)) false (has (v .set) (speaker u) && not (has missed x))
         go (yes e) =
             ap (λ (y : ℕ). has (without (minus (survey .listers) missed) y) x) (said t ok .sender ∙ e) ∙ has-without (minus (survey .listers) missed) x
-            ∙ sym (ap (λ (b : Bool). cond b false (has (v .set) (speaker t) && not (has missed x))) (eq-eqb (speaker t) (v .own) (e ∙ sym own)))
+            ∙ sym (ap (λ (b : Bool). cond b false (has (v .set) (speaker u) && not (has missed x))) (eq-eqb (speaker u) (v .own) (e ∙ sym own)))
         go (no d) =
             has-without-other (minus (survey .listers) missed) (survey .sender) x (λ e. d (sym (said t ok .sender) ∙ e))
             ∙ has-minus (survey .listers) missed x low most small
             ∙ ap (λ (b : Bool). b && not (has missed x)) listed
-            ∙ sym (ap (λ (b : Bool). cond b false (has (v .set) (speaker t) && not (has missed x))) (ne-eqb (speaker t) (v .own) (λ e. d (e ∙ own))))
+            ∙ sym (ap (λ (b : Bool). cond b false (has (v .set) (speaker u) && not (has missed x))) (ne-eqb (speaker u) (v .own) (λ e. d (e ∙ own))))
 
-    hears-is : has (hearersIn turn (survey .listers)) x ≡ hearsReport (speaker t) (bench.heardBy lost missed t x) (recordOf t x)
+    hears-is : has (hearersIn turn (survey .listers)) x ≡ hearsReport (speaker u) (bench.heardBy lost missed u x) (recordOf u x)
     hears-is =
         go (isHeard (turn .heard))
-        ∙ sym (tests (eqb (speaker t) (v .own)) (isHeard (turn .heard)) (has missed x) (has (v .set) (speaker t)))
-        ∙ ap (λ (b : Bool). not (eqb (speaker t) (v .own)) && (b && has (v .set) (speaker t))) (sym (heard-unless (has missed x) (turn .heard)) ∙ ap isHeard (sym reading-is))
+        ∙ sym (tests (eqb (speaker u) (v .own)) (isHeard (turn .heard)) (has missed x) (has (v .set) (speaker u)))
+        ∙ ap (λ (b : Bool). not (eqb (speaker u) (v .own)) && (b && has (v .set) (speaker u))) (sym (heard-unless (has missed x) (turn .heard)) ∙ ap isHeard (sym reading-is))
       where
-        go : (b : Bool) → has (cond b (without (minus (survey .listers) missed) (survey .sender)) 0) x ≡ cond b (cond (eqb (speaker t) (v .own)) false (has (v .set) (speaker t) && not (has missed x))) false
+        go : (b : Bool) → has (cond b (without (minus (survey .listers) missed) (survey .sender)) 0) x ≡ cond b (cond (eqb (speaker u) (v .own)) false (has (v .set) (speaker u) && not (has missed x))) false
         go true = in-set
         go false = has-none x
 
     -- the node's counts after the slot
     counts-are : (jobs : ℕ) (c : Counts)
-        → cond (has (hearersIn turn (survey .listers)) x) (countsWith (survey .sender) (jobsSent jobs (survey .speaker)) c) c ≡ countsAfter (receivedBy lost missed jobs t x) (recordOf t x) c
+        → cond (has (hearersIn turn (survey .listers)) x) (countsWith (survey .sender) (jobsSent jobs (setted (survey .speaker))) c) c ≡ countsAfter (receivedBy lost missed jobs u x) (recordOf u x) c
     unfolding countsAfter
     counts-are jobs c =
-        ap (λ (b : Bool). cond b (countsWith (survey .sender) (jobsSent jobs (survey .speaker)) c) c) hears-is
-        ∙ ap₂ (λ (y : ℕ) (w : Node). cond (hearsReport (speaker t) (bench.heardBy lost missed t x) v) (countsWith y (jobsSent jobs w) c) c) (said t ok .sender) (said t ok .spoken)
-        ∙ ap (λ (y : ℕ). cond (hearsReport y (bench.heardBy lost missed t x) v) (countsWith y (jobsSent jobs (recordOf t (speaker t))) c) c) (sym (next-sender t ok x low high))
+        ap (λ (b : Bool). cond b (countsWith (survey .sender) (jobsSent jobs (setted (survey .speaker))) c) c) hears-is
+        ∙ ap₂ (λ (y : ℕ) (w : Node). cond (hearsReport (speaker u) (bench.heardBy lost missed u x) v) (countsWith y (jobsSent jobs w) c) c) (said t ok .sender) (ap setted (said t ok .spoken) ∙ node-back (recordOf u (speaker u)) (speaks u ok .is-sound))
+        ∙ ap (λ (y : ℕ). cond (hearsReport y (bench.heardBy lost missed u x) v) (countsWith y (jobsSent jobs (recordOf u (speaker u))) c) c) (sym (next-sender u ok x low high))
 
 -- ---- the counts of all nodes
 
@@ -139,18 +145,18 @@ each-heard hearers s jobs f i [] h = refl
 each-heard hearers s jobs f i (c ∷ counts) h =
     ap₂ {C = List Counts} (λ x r. x ∷ r) (h i (omega arith) (omega arith) c) (each-heard hearers s jobs f (suc i) counts (λ x l m. h x (omega (arith, l)) (omega (arith, m))))
 
-slot-reported : (lost : Bool) (missed jobs : ℕ) (t : Table) (counts : List Counts) → tableSound t ≡ true → within (surveyOf t .cable .n) missed ≡ true → length counts ≡ length t
-    → heardBy (hearersIn (turnOf lost missed (surveyOf t)) (surveyOf t .listers)) (surveyOf t .sender) (jobsSent jobs (surveyOf t .speaker)) counts ≡ reportsAfterSlot lost missed jobs t counts
+slot-reported : (lost : Bool) (missed jobs : ℕ) (t : HeldTable) (counts : List Counts) → tableSound (settedAll t) ≡ true → within (surveyOf t .cable .n) missed ≡ true → length counts ≡ length (settedAll t)
+    → heardBy (hearersIn (turnOf lost missed (surveyOf t)) (surveyOf t .listers)) (surveyOf t .sender) (jobsSent jobs (setted (surveyOf t .speaker))) counts ≡ reportsAfterSlot lost missed jobs (settedAll t) counts
 unfolding reportsAfterSlot
 slot-reported lost missed jobs t counts ok named l =
-    each-heard _ _ _ (λ i c. countsAfter (receivedBy lost missed jobs t i) (recordOf t i) c) 1 counts (λ x low high c. counts-are lost missed t ok named x low (omega (arith, high, l)) jobs c)
+    each-heard _ _ _ (λ i c. countsAfter (receivedBy lost missed jobs (settedAll t) i) (recordOf (settedAll t) i) c) 1 counts (λ x low high c. counts-are lost missed t ok named x low (omega (arith, high, l)) jobs c)
 
 -- ---- each call
 
-abbrev Reported : Beside → Command → Table → List Counts → Order → Type 0
-Reported fits c t counts o = reportedBy o c (surveyOf t) counts ≡ reportsWith c t (calledBy fits o t) counts
+abbrev Reported : Beside → Command → HeldTable → List Counts → Order → Type 0
+Reported fits c t counts o = reportedBy o c (surveyOf t) counts ≡ reportsWith c (settedAll t) (calledBy fits o t) counts
 
-reported-if : (fits : Beside) (c : Command) (t : Table) (counts : List Counts) (b : Bool) (cause : Refusal) (o : Order) → (b ≡ true → Reported fits c t counts o) → Reported fits c t counts (ifGood b cause o)
+reported-if : (fits : Beside) (c : Command) (t : HeldTable) (counts : List Counts) (b : Bool) (cause : Refusal) (o : Order) → (b ≡ true → Reported fits c t counts o) → Reported fits c t counts (ifGood b cause o)
 reported-if fits c t counts true cause o h = h refl
 reported-if fits (command.SetUp choices) t counts false cause o h = nobody-hears _ _ counts
 reported-if fits (command.Off a) t counts false cause o h = nobody-hears _ _ counts
@@ -158,7 +164,7 @@ reported-if fits (command.Restart a) t counts false cause o h = nobody-hears _ _
 reported-if fits (command.Slot lost missed jobs) t counts false cause o h = nobody-hears _ _ counts
 reported-if fits (command.Look lost) t counts false cause o h = nobody-hears _ _ counts
 
-module _ (slots : List ℕ) (room : ℕ) (fits : Bool) (t : Table) (counts : List Counts) where
+module _ (slots : List ℕ) (room : ℕ) (fits : Bool) (t : HeldTable) (counts : List Counts) where
   abbrev lent : Command → Beside
   lent c = besideBy c slots (surveyOf t) fits counts
 

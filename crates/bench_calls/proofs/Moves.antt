@@ -1,6 +1,6 @@
 -- Who left and who joined, as it is noted while an order is carried out on a sound table, are the leavers and the joiners of the two tables (ledger's specs/Entered). Assumes nothing.
 use Prim.Native.Nat.{ℕ, suc, _+_, _-_, _<_}
-use mathlib.Core.Path.{_≡_, refl, sym, ap, ap₂, _∙_}
+use mathlib.Core.Path.{_≡_, refl, ap, ap₂, _∙_}
 use mathlib.Core.Bool.{Bool, true, false, cond, false≢true, true≢false}
 use mathlib.Core.List.{[], _∷_}
 use native.Mathlib.Omega.{arith}
@@ -9,6 +9,8 @@ use Rattle.nodeset.specs.Sets.{withIf}
 use Rattle.nodeset.proofs.Tests.{by-cases}
 use Rattle.ring.specs.declared.Cable.{Cable}
 use Rattle.node_record.specs.declared.Node.{Node}
+use Rattle.node_record.specs.declared.Held.{Held}
+use Rattle.node_record.specs.Held.{setted}
 use Rattle.node_record.specs.declared.State.{State}
 use Rattle.node_record.specs.declared.State.the-variants.{Member, Listening, Following, Knocking, Out}
 use Rattle.node_record.specs.States.{isMember}
@@ -16,12 +18,13 @@ use Rattle.node.specs.Calls.{noNode}
 use Rattle.bench.specs.Table.{Table, recordOf, placedFrom, slotsOf, tableSound}
 use Rattle.bench.specs.Pairs.{sameState}
 use Rattle.bench.specs.Ledger.{isLeaving, isJoining}
-use Rattle.bench.proofs.Places.{record-from}
 use Rattle.ledger.specs.Entered.{nodesWhere, leavers, joiners}
 use Rattle.bench_walks.specs.declared.Errand.{Errand}
 use Rattle.bench_walks.specs.declared.Moves.{Moves}
 use Rattle.bench_walks.specs.declared.Notes.{Notes}
-use Rattle.bench_walks.specs.Survey.{foldFrom}
+use Rattle.bench.specs.Held.{HeldTable, settedAll}
+use Rattle.bench.proofs.Standing.{length-setted}
+use Rattle.bench_walks.specs.Survey.{foldFrom, mapFrom}
 use Rattle.bench_walks.specs.Orders.{carried, carriedFrom, movesWith, noticed, noNotes, noticedFrom, notesOf}
 use Rattle.bench_calls.proofs.Surveys.{placed, said}
 
@@ -79,18 +82,15 @@ one-moved a b l j own =
 
 -- ---- the records one after the other
 
-abbrev movesFrom : Errand → Moves → ℕ → Table → Moves
+abbrev movesFrom : Errand → Moves → ℕ → HeldTable → Moves
 movesFrom o m i t = foldFrom (λ m i v. movesWith m v (carried o i v)) m i t
 
-moves-part : (o : Errand) (m : Notes) (i : ℕ) (t : Table) → noticedFrom o m i t .moves ≡ movesFrom o (m .moves) i t
+moves-part : (o : Errand) (m : Notes) (i : ℕ) (t : HeldTable) → noticedFrom o m i t .moves ≡ movesFrom o (m .moves) i t
 unfolding foldFrom noticed
 moves-part o m i [] = refl
 moves-part o m i (v ∷ t) = moves-part o (noticed m v (carried o i v)) (suc i) t
 
-module _ (o : Errand) (whole : Table) where
-  abbrev after : Table
-  after = carriedFrom o 0 whole
-
+module _ (whole after : Table) where
   abbrev leaving : ℕ → Bool
   leaving i = isLeaving (recordOf whole i .state) (recordOf after i .state)
 
@@ -101,41 +101,42 @@ module _ (o : Errand) (whole : Table) where
   abbrev upTo : ℕ → Moves
   upTo i = moves (nodesWhere leaving i) (nodesWhere joining i)
 
-  before-is : (i : ℕ) → getD whole i noNode ≡ recordOf whole (suc i)
+  -- the record at index i of a table
+  at-index : (u : Table) (i : ℕ) → getD u i noNode ≡ recordOf u (suc i)
   unfolding recordOf
-  before-is i = let z : i ≡ suc i - 1 = omega arith in ap (λ (j : ℕ). getD whole j noNode) z
+  at-index u i = let z : i ≡ suc i - 1 = omega arith in ap (λ (j : ℕ). getD u j noNode) z
 
-  after-is : (i : ℕ) → i < length whole → carried o i (getD whole i noNode) ≡ recordOf after (suc i)
-  unfolding recordOf
-  after-is i h =
-      let z : i ≡ suc i - 1 = omega arith in
-      let first : i ≡ 0 + i = omega arith in
-      ap (λ (j : ℕ). carried o j (getD whole i noNode)) first ∙ sym (record-from (carried o) 0 i whole h) ∙ ap (λ (j : ℕ). getD after j noNode) z
-
-  next : (i : ℕ) (v : Node) → i < length whole → v ≡ getD whole i noNode → v .own ≡ suc i → movesWith (upTo i) v (carried o i v) ≡ upTo (suc i)
+  next : (o : Errand) (i : ℕ) (v : Held) → setted v ≡ getD whole i noNode → setted (carried o i v) ≡ getD after i noNode → v .own ≡ suc i → movesWith (upTo i) v (carried o i v) ≡ upTo (suc i)
   unfolding movesWith nodesWhere
-  next i v h is own =
+  next o i v is becomes own =
       let a = v .state in
       let b = carried o i v .state in
-      let a-is : a ≡ recordOf whole (suc i) .state = ap (λ (w : Node). w .state) (is ∙ before-is i) in
-      let b-is : b ≡ recordOf after (suc i) .state = ap (λ (w : Node). w .state) (ap (carried o i) is ∙ after-is i h) in
+      let a-is : a ≡ recordOf whole (suc i) .state = ap (λ (w : Node). w .state) (is ∙ at-index whole i) in
+      let b-is : b ≡ recordOf after (suc i) .state = ap (λ (w : Node). w .state) (becomes ∙ at-index after i) in
       one-moved a b (nodesWhere leaving i) (nodesWhere joining i) (v .own)
       ∙ ap₂ (λ (x : State) (own : ℕ). moves (withIf (isLeaving x b) (nodesWhere leaving i) own) (withIf (isJoining x b) (nodesWhere joining i) own)) a-is own
       ∙ ap (λ (y : State). moves (withIf (isLeaving (recordOf whole (suc i) .state) y) (nodesWhere leaving i) (suc i)) (withIf (isJoining (recordOf whole (suc i) .state) y) (nodesWhere joining i) (suc i))) b-is
 
-  moved-from : (cable : Cable) (slots i : ℕ) (t : Table) → placedFrom cable slots (suc i) t ≡ true → ((j : ℕ) → j < length t → getD t j noNode ≡ getD whole (i + j) noNode)
-      → i + length t ≡ length whole → movesFrom o (upTo i) i t ≡ upTo (length whole)
-  unfolding foldFrom
-  moved-from cable slots i [] rows is size = let z : i ≡ length whole = omega arith in ap upTo z
-  moved-from cable slots i (v ∷ t) rows is size =
+  -- the records of t stand from index i on
+  moved-from : (o : Errand) (cable : Cable) (slots i : ℕ) (t : HeldTable) → placedFrom cable slots (suc i) (settedAll t) ≡ true → ((j : ℕ) → j < length t → getD (settedAll t) j noNode ≡ getD whole (i + j) noNode)
+      → ((j : ℕ) → j < length t → getD (settedAll (mapFrom (carried o) i t)) j noNode ≡ getD after (i + j) noNode) → i + length t ≡ length whole → movesFrom o (upTo i) i t ≡ upTo (length whole)
+  unfolding foldFrom mapFrom
+  moved-from o cable slots i [] rows is becomes size = let z : i ≡ length whole = omega arith in ap upTo z
+  moved-from o cable slots i (v ∷ t) rows is becomes size =
       let p = placed cable slots (suc i) v t rows in
       let first : i + 0 ≡ i = omega arith in
-      ap (λ (m : Moves). movesFrom o m (suc i) t) (next i v (omega arith) (is 0 (omega arith) ∙ ap (λ (j : ℕ). getD whole j noNode) first) (p .own))
-      ∙ moved-from cable slots (suc i) t (p .rest) (λ j h. let z : i + suc j ≡ suc i + j = omega arith in is (suc j) (omega (arith, h)) ∙ ap (λ (k : ℕ). getD whole k noNode) z) (omega arith)
+      let later : (u : Table) (j : ℕ) → getD u (i + suc j) noNode ≡ getD u (suc i + j) noNode = λ u j. let z : i + suc j ≡ suc i + j = omega arith in ap (λ (k : ℕ). getD u k noNode) z in
+      ap (λ (m : Moves). movesFrom o m (suc i) t)
+      (next o i v (is 0 (omega arith) ∙ ap (λ (j : ℕ). getD whole j noNode) first) (becomes 0 (omega arith) ∙ ap (λ (j : ℕ). getD after j noNode) first) (p .own))
+      ∙ moved-from o cable slots (suc i) t (p .rest) (λ j h. is (suc j) (omega (arith, h)) ∙ later whole j) (λ j h. becomes (suc j) (omega (arith, h)) ∙ later after j) (omega arith)
 
-pub moved : (o : Errand) (t : Table) → tableSound t ≡ true → notesOf o t .moves ≡ moves (leavers t (carriedFrom o 0 t)) (joiners t (carriedFrom o 0 t))
+pub moved : (o : Errand) (t : HeldTable) → tableSound (settedAll t) ≡ true
+    → let after = settedAll (carriedFrom o 0 t) in notesOf o t .moves ≡ moves (leavers (settedAll t) after) (joiners (settedAll t) after)
 unfolding notesOf noNotes nodesWhere
 moved o t ok =
+    let u = settedAll t in
+    let after = settedAll (carriedFrom o 0 t) in
     let z : (j : ℕ) → j ≡ 0 + j = λ j. omega arith in
-    let size : 0 + length t ≡ length t = omega arith in
-    moves-part o noNotes 0 t ∙ moved-from o t (recordOf t 1 .cable) (slotsOf t) 0 t (said t ok .rows) (λ j h. ap (λ (k : ℕ). getD t k noNode) (z j)) size
+    let size : 0 + length t ≡ length u = omega (arith, length-setted t) in
+    moves-part o noNotes 0 t
+    ∙ moved-from u after o (recordOf u 1 .cable) (slotsOf u) 0 t (said t ok .rows) (λ j h. ap (λ (k : ℕ). getD u k noNode) (z j)) (λ j h. ap (λ (k : ℕ). getD after k noNode) (z j)) size

@@ -1,4 +1,4 @@
--- What is gathered of the members of a table is their greatest distance (bench's specs/Calls): each member's set is compared with those of the members before it, which gives
+-- What is gathered of the members of a held table is their greatest distance in the table that it stands for (bench's specs/Calls): each member's set is compared with those of the members before it, which gives
 -- every two once. Assumes nothing.
 use Prim.Native.Nat.{ℕ, zero, suc, _+_, _<_, _≤_, max}
 use mathlib.Core.Path.{_≡_, refl, sym, ap, ap₂, subst, _∙_}
@@ -13,11 +13,17 @@ use Rattle.nodeset.specs.Sets.{distance}
 use Rattle.nodeset.proofs.Tests.{by-cases}
 use Rattle.ring.specs.declared.Cable.{Cable}
 use Rattle.ring.proofs.Ranges.{ring-size}
-use Rattle.node_record.specs.declared.Node.{Node}
+use Rattle.row.specs.Rows.{nodesIn}
+use Rattle.node_record.specs.declared.Held.{Held}
+use Rattle.node_record.specs.Soundness.{sound}
+use Rattle.node_record.specs.Held.{setted}
 use Rattle.node_record.specs.States.{isMember}
 use Rattle.bench_walks.specs.declared.Members.{Members}
 use Rattle.bench.specs.Table.{Table, recordOf, placedFrom, tableSound, slotsOf}
 use Rattle.bench.specs.Calls.{farthest, greatest}
+use Rattle.bench.specs.Held.{HeldTable, settedAll}
+use Rattle.bench.proofs.Standing.{length-setted}
+use Rattle.node.proofs.Holding.{set-held}
 use Rattle.bench_walks.specs.Survey.{foldFrom, farFrom, memberSeen, gathered, noMembers, membersOf}
 use Rattle.bench_calls.proofs.Surveys.{placed, said}
 
@@ -75,8 +81,8 @@ cross-none n sets (v ∷ t) = ap₂ max (go (isMember (v .state))) (cross-none n
 -- ---- what one record adds
 
 -- what is gathered from the rest, where c sets are there already
-abbrev Gathers : ℕ → Members → ℕ → Table → Type 0
-Gathers n m i t = foldFrom gathered m i t .greatest ≡ max (m .greatest) (max (crossOf n (m .sets) (m .count) t) (greatest n t))
+abbrev Gathers : ℕ → Members → ℕ → HeldTable → Type 0
+Gathers n m i t = foldFrom gathered m i t .greatest ≡ max (m .greatest) (max (crossOf n (m .sets) (m .count) (settedAll t)) (greatest n (settedAll t)))
 
 grouped : (a b c : ℕ) → max (max a b) c ≡ max a (max b c)
 grouped a b c = omega arith
@@ -88,24 +94,30 @@ pushed-max g f c t w =
 passed-max : (g c w : ℕ) → max g (max c w) ≡ max g (max (max 0 c) (max 0 w))
 passed-max g c w = omega arith
 
-one-record : (n : ℕ) (m : Members) (i : ℕ) (v : Node) (t : Table) → v .cable .n ≡ n → m .count < 32 → length (m .sets) ≡ 32
+one-record : (n : ℕ) (m : Members) (i : ℕ) (v : Held) (t : HeldTable) → sound (setted v) ≡ true → v .cable .n ≡ n → m .count < 32 → length (m .sets) ≡ 32
     → ((m′ : Members) → m′ .count ≤ m .count + 1 → length (m′ .sets) ≡ 32 → Gathers n m′ (suc i) t) → Gathers n m i (v ∷ t)
 unfolding foldFrom greatest gathered
-one-record n m i v t e l h ih = by-cases (isMember (v .state)) member other
+one-record n m i v t good e l h ih = by-cases (isMember (v .state)) member other
   where
+    u : Table
+    u = settedAll t
+
+    set-of : ℕ
+    set-of = setted v .set
+
     Goal : Bool → Type 0
-    Goal b = foldFrom gathered (cond (b && ltb (m .count) 32) (memberSeen (v .cable .n) m (v .set)) m) (suc i) t .greatest
-        ≡ max (m .greatest) (max (max (cond b (farFrom n (v .set) (m .sets) (m .count)) 0) (crossOf n (m .sets) (m .count) t)) (max (cond b (farthest n (v .set) t) 0) (greatest n t)))
+    Goal b = foldFrom gathered (cond (b && ltb (m .count) 32) (memberSeen (v .cable .n) m (nodesIn (v .row))) m) (suc i) t .greatest
+        ≡ max (m .greatest) (max (max (cond b (farFrom n set-of (m .sets) (m .count)) 0) (crossOf n (m .sets) (m .count) u)) (max (cond b (farthest n set-of u) 0) (greatest n u)))
 
     in-list : Goal true
     in-list =
-        ap (λ (b : Bool). foldFrom gathered (cond b (memberSeen (v .cable .n) m (v .set)) m) (suc i) t .greatest) (lt-ltb (m .count) 32 l)
-        ∙ ih (memberSeen (v .cable .n) m (v .set)) (omega arith) (length-set (m .sets) (m .count) (v .set) ∙ h)
-        ∙ ap₂ (λ (k x : ℕ). max (max (m .greatest) (farFrom k (v .set) (m .sets) (m .count))) (max x (greatest n t))) e (cross-push n (m .count) (v .set) (m .sets) t (omega (arith, l, h)))
-        ∙ pushed-max (m .greatest) (farFrom n (v .set) (m .sets) (m .count)) (crossOf n (m .sets) (m .count) t) (farthest n (v .set) t) (greatest n t)
+        ap₂ (λ (b : Bool) (x : ℕ). foldFrom gathered (cond b (memberSeen (v .cable .n) m x) m) (suc i) t .greatest) (lt-ltb (m .count) 32 l) (set-held v good)
+        ∙ ih (memberSeen (v .cable .n) m set-of) (omega arith) (length-set (m .sets) (m .count) set-of ∙ h)
+        ∙ ap₂ (λ (k x : ℕ). max (max (m .greatest) (farFrom k set-of (m .sets) (m .count))) (max x (greatest n u))) e (cross-push n (m .count) set-of (m .sets) u (omega (arith, l, h)))
+        ∙ pushed-max (m .greatest) (farFrom n set-of (m .sets) (m .count)) (crossOf n (m .sets) (m .count) u) (farthest n set-of u) (greatest n u)
 
     not-in : Goal false
-    not-in = ih m (omega arith) h ∙ passed-max (m .greatest) (crossOf n (m .sets) (m .count) t) (greatest n t)
+    not-in = ih m (omega arith) h ∙ passed-max (m .greatest) (crossOf n (m .sets) (m .count) u) (greatest n u)
 
     member : isMember (v .state) ≡ true → Gathers n m i (v ∷ t)
     member b = subst Goal (sym b) in-list
@@ -115,24 +127,26 @@ one-record n m i v t e l h ih = by-cases (isMember (v .state)) member other
 
 -- ---- the whole table
 
-gathers : (cable : Cable) (slots : ℕ) (m : Members) (i : ℕ) (t : Table) → placedFrom cable slots (suc i) t ≡ true → m .count ≤ i → length (m .sets) ≡ 32 → i + length t ≤ 32 → Gathers (cable .n) m i t
+gathers : (cable : Cable) (slots : ℕ) (m : Members) (i : ℕ) (t : HeldTable) → placedFrom cable slots (suc i) (settedAll t) ≡ true → m .count ≤ i → length (m .sets) ≡ 32 → i + length t ≤ 32 → Gathers (cable .n) m i t
 unfolding foldFrom greatest
 gathers cable slots m i [] e l h r = omega arith
 gathers cable slots m i (v ∷ t) e l h r =
     let p = placed cable slots (suc i) v t e in
-    one-record (cable .n) m i v t (ap (λ (c : Cable). c .n) (p .cable-of)) (omega (arith, l, r)) h
+    one-record (cable .n) m i v t (p .good) (ap (λ (c : Cable). c .n) (p .cable-of)) (omega (arith, l, r)) h
     (λ m′ l′ h′. gathers cable slots m′ (suc i) t (p .rest) (omega (arith, l, l′)) h′ (omega (arith, r)))
 
-placed-distance : (cable : Cable) (slots : ℕ) (t : Table) → placedFrom cable slots 1 t ≡ true → length t ≤ 32 → membersOf t .greatest ≡ greatest (cable .n) t
+placed-distance : (cable : Cable) (slots : ℕ) (t : HeldTable) → placedFrom cable slots 1 (settedAll t) ≡ true → length t ≤ 32 → membersOf t .greatest ≡ greatest (cable .n) (settedAll t)
 unfolding membersOf noMembers
 placed-distance cable slots t e r =
+    let u = settedAll t in
     gathers cable slots noMembers 0 t e (omega arith) (length-replicate {A = ℕ} 32 0) (omega (arith, r))
-    ∙ ap (λ (x : ℕ). max 0 (max x (greatest (cable .n) t))) (cross-none (cable .n) (replicate 32 0) t) ∙ least (greatest (cable .n) t)
+    ∙ ap (λ (x : ℕ). max 0 (max x (greatest (cable .n) u))) (cross-none (cable .n) (replicate 32 0) u) ∙ least (greatest (cable .n) u)
   where
     least : (x : ℕ) → max 0 (max 0 x) ≡ x
     least x = omega arith
 
-pub of-sound : (t : Table) → tableSound t ≡ true → membersOf t .greatest ≡ greatest (length t) t
+pub of-sound : (t : HeldTable) → tableSound (settedAll t) ≡ true → membersOf t .greatest ≡ greatest (length (settedAll t)) (settedAll t)
 of-sound t e =
     let s = said t e in
-    placed-distance (recordOf t 1 .cable) (slotsOf t) t (s .rows) (ring-size (length t) (s .ring) .1) ∙ ap (λ (n : ℕ). greatest n t) (s .count)
+    let u = settedAll t in
+    placed-distance (recordOf u 1 .cable) (slotsOf u) t (s .rows) (omega (arith, ring-size (length u) (s .ring) .1, length-setted t)) ∙ ap (λ (n : ℕ). greatest n u) (s .count)

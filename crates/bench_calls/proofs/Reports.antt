@@ -22,7 +22,7 @@ use Rattle.ring.specs.Answers.{faultOf}
 use Rattle.ring.proofs.Ranges.{ring-size}
 use Rattle.message.specs.Message.{jobsWithin}
 use Rattle.bench_walks.specs.declared.Beside.{Beside}
-use Rattle.node_record.specs.declared.Node.{Node}
+use Rattle.node_record.specs.declared.Held.{Held}
 use Rattle.node_record.specs.declared.State.{State}
 use Rattle.node_record.specs.Soundness.{limit}
 use Rattle.bench.specs.declared.Command.{Command}
@@ -32,14 +32,16 @@ use Rattle.bench_walks.specs.declared.Order.the-variants as order
 use Rattle.bench_walks.specs.declared.Errand.{Errand}
 use Rattle.bench_walks.specs.declared.Pairs.{Pairs}
 use Rattle.bench_walks.specs.declared.Notes.{Notes}
-use Rattle.bench.specs.Table.{Table, recordOf, eachFrom, placedFrom, tableSound, slotsOf}
+use Rattle.bench.specs.Table.{Table, recordOf, placedFrom, tableSound, slotsOf}
+use Rattle.bench.specs.Held.{HeldTable, settedAll}
+use Rattle.bench.proofs.Standing.{length-setted}
 use Rattle.bench.specs.Calls.{Called}
 use Rattle.bench.specs.Outcomes.{pairsOf, bytesBy}
 use Rattle.bench.specs.Pairs.{sameState, kindFrom, Pair, pairBytes, leaves, changesElse, groupFrom, pairsIn, pairsTold, slotBytes}
-use Rattle.bench_walks.specs.Survey.{foldFrom, surveyOf, fineTable}
-use Rattle.bench_walks.specs.Orders.{ifGood, fateBy, turnOf, orderFor, errandOf, carried, pushed, withPair, noPairs, inGroup, withOne, groupedTo, ordered, noticed, noNotes, noticedFrom, notesOf, pairsBy, bytesTold, puts, writtenBy}
+use Rattle.bench_walks.specs.Survey.{foldFrom, mapFrom, surveyOf, fineTable}
+use Rattle.bench_walks.specs.Orders.{ifGood, fateBy, turnOf, orderFor, carried, pushed, withPair, noPairs, inGroup, withOne, groupedTo, ordered, noticed, noNotes, noticedFrom, notesOf, pairsBy, bytesTold, puts, writtenBy}
 use Rattle.bench_calls.proofs.Surveys.{placed, fine-table, said}
-use Rattle.bench_calls.proofs.Works.{calledFit, calledBy, called-by}
+use Rattle.bench_calls.proofs.Works.{calledFit, sentOn, calledBy, called-by}
 
 -- ---- bytes
 
@@ -71,17 +73,17 @@ none-written b out = ap (λ (j : ℕ). puts b j out) (go (leb 0 32 && leb 64 (le
 
 -- ---- the pairs of an order, in rising order of nodes
 
-abbrev same : Errand → ℕ → Node → Bool
+abbrev same : Errand → ℕ → Held → Bool
 same o i v = sameState (v .state) (carried o i v .state)
 
-abbrev kind : Errand → ℕ → Node → ℕ
+abbrev kind : Errand → ℕ → Held → ℕ
 kind o i v = kindFrom (v .state) (carried o i v .state)
 
-abbrev changesOf : Errand → ℕ → Table → List Pair
+abbrev changesOf : Errand → ℕ → HeldTable → List Pair
 changesOf o i [] = []
 changesOf o i (v ∷ t) = cond (same o i v) (changesOf o (suc i) t) ((v .own, kind o i v) ∷ changesOf o (suc i) t)
 
-few : (o : Errand) (i : ℕ) (t : Table) → length (changesOf o i t) ≤ length t
+few : (o : Errand) (i : ℕ) (t : HeldTable) → length (changesOf o i t) ≤ length t
 few o i [] = omega arith
 few o i (v ∷ t) = go (few o (suc i) t) (same o i v)
   where
@@ -90,10 +92,10 @@ few o i (v ∷ t) = go (few o (suc i) t) (same o i v)
     go h false = omega (arith, h)
 
 -- the notes' part of the pairs
-abbrev notedFrom : Errand → Pairs → ℕ → Table → Pairs
+abbrev notedFrom : Errand → Pairs → ℕ → HeldTable → Pairs
 notedFrom o p i t = foldFrom (λ p i v. withPair p v (carried o i v)) p i t
 
-told-part : (o : Errand) (m : Notes) (i : ℕ) (t : Table) → noticedFrom o m i t .pairs ≡ notedFrom o (m .pairs) i t
+told-part : (o : Errand) (m : Notes) (i : ℕ) (t : HeldTable) → noticedFrom o m i t .pairs ≡ notedFrom o (m .pairs) i t
 unfolding foldFrom noticed
 told-part o m i [] = refl
 told-part o m i (v ∷ t) = told-part o (noticed m v (carried o i v)) (suc i) t
@@ -115,7 +117,7 @@ push-bytes p x k l h =
 push-size : (p : Pairs) (x k : ℕ) → length (p .bytes) ≡ 64 → length (pushed p x k .bytes) ≡ 64
 push-size p x k h = length-set (set (p .bytes) (p .count * 2) x) (p .count * 2 + 1) k ∙ length-set (p .bytes) (p .count * 2) x ∙ h
 
-notes : (cable : Cable) (slots : ℕ) (o : Errand) (p : Pairs) (i : ℕ) (t : Table) → placedFrom cable slots (suc i) t ≡ true → p .count ≤ i → i + length t ≤ 32 → length (p .bytes) ≡ 64
+notes : (cable : Cable) (slots : ℕ) (o : Errand) (p : Pairs) (i : ℕ) (t : HeldTable) → placedFrom cable slots (suc i) (settedAll t) ≡ true → p .count ≤ i → i + length t ≤ 32 → length (p .bytes) ≡ 64
     → Noted p (notedFrom o p i t) (changesOf o i t)
 unfolding foldFrom withPair pairBytes
 notes cable slots o p i [] e l m h = record { count = omega arith; size = h; bytes = sym (append-nil (take (p .count * 2) (p .bytes))) }
@@ -268,8 +270,8 @@ module _ (left : Bool) (bytes : List ℕ) (ps : List Pair) (are : take (length p
 
 module _ (cable : Cable) (slots : ℕ) (o : Errand) (left : Bool) (group : State → State → Bool)
     (says : (a b : State) → group a b ≡ (not (sameState a b) && inGroup left (kindFrom a b))) where
-  group-is : (i : ℕ) (t : Table) → placedFrom cable slots (suc i) t ≡ true → groupOf left (changesOf o i t) ≡ groupFrom group (suc i) t (eachFrom (carried o) i t)
-  unfolding groupFrom eachFrom
+  group-is : (i : ℕ) (t : HeldTable) → placedFrom cable slots (suc i) (settedAll t) ≡ true → groupOf left (changesOf o i t) ≡ groupFrom group (suc i) (settedAll t) (settedAll (mapFrom (carried o) i t))
+  unfolding groupFrom mapFrom
   group-is i [] e = refl
   group-is i (v ∷ t) e =
       let p = placed cable slots (suc i) v t e in
@@ -278,7 +280,7 @@ module _ (cable : Cable) (slots : ℕ) (o : Errand) (left : Bool) (group : State
       ∙ ap₂ (λ (b : Bool) (x : ℕ). cond b ((x, kind o i v) ∷ rest) rest) (sym (says (v .state) (carried o i v .state))) (p .own)
     where
       rest : List Pair
-      rest = groupFrom group (suc (suc i)) t (eachFrom (carried o) (suc i) t)
+      rest = groupFrom group (suc (suc i)) (settedAll t) (settedAll (mapFrom (carried o) (suc i) t))
 
       more : List Pair
       more = groupOf left (changesOf o (suc i) t)
@@ -289,19 +291,19 @@ module _ (cable : Cable) (slots : ℕ) (o : Errand) (left : Bool) (group : State
 
 -- ---- the whole table
 
-abbrev after : Errand → Table → Table
-after o t = eachFrom (carried o) 0 t
+abbrev after : Errand → HeldTable → Table
+after o t = settedAll (mapFrom (carried o) 0 t)
 
-pairs-are : (cable : Cable) (slots : ℕ) (o : Errand) (t : Table) → placedFrom cable slots 1 t ≡ true
-    → groupOf true (changesOf o 0 t) ++ groupOf false (changesOf o 0 t) ≡ pairsIn t (after o t)
+pairs-are : (cable : Cable) (slots : ℕ) (o : Errand) (t : HeldTable) → placedFrom cable slots 1 (settedAll t) ≡ true
+    → groupOf true (changesOf o 0 t) ++ groupOf false (changesOf o 0 t) ≡ pairsIn (settedAll t) (after o t)
 unfolding pairsIn
 pairs-are cable slots o t e =
     ap₂ _++_ (group-is cable slots o true leaves (λ a b. refl) 0 t e) (group-is cable slots o false changesElse (λ a b. refl) 0 t e)
 
-abbrev noted-of : Errand → Table → Pairs
+abbrev noted-of : Errand → HeldTable → Pairs
 noted-of o t = notesOf o t .pairs
 
-noted-is : (o : Errand) (t : Table) → noted-of o t ≡ notedFrom o noPairs 0 t
+noted-is : (o : Errand) (t : HeldTable) → noted-of o t ≡ notedFrom o noPairs 0 t
 unfolding notesOf noNotes
 noted-is o t = told-part o noNotes 0 t
 
@@ -336,19 +338,19 @@ ordered-noted p ps n few =
     subst (λ (m : ℕ). Noted noPairs (groupedTo false (p .bytes) m (groupedTo true (p .bytes) m noPairs)) (groupOf true ps ++ groupOf false ps)) (sym most)
     (both-noted noPairs q (groupedTo false (p .bytes) (length ps) q) (groupOf true ps) (groupOf false ps) left-ones others)
 
-done-told : (o : Errand) (t : Table) (out : List ℕ) → (tableSound t ≡ true) × (64 ≤ length out)
-    → (noted-of o t .count ≡ length (pairsIn t (after o t))) × (written (noted-of o t) out ≡ (pairBytes (pairsIn t (after o t)) ++ drop (length (pairBytes (pairsIn t (after o t)))) out))
+done-told : (o : Errand) (t : HeldTable) (out : List ℕ) → (tableSound (settedAll t) ≡ true) × (64 ≤ length out)
+    → (noted-of o t .count ≡ length (pairsIn (settedAll t) (after o t))) × (written (noted-of o t) out ≡ (pairBytes (pairsIn (settedAll t) (after o t)) ++ drop (length (pairBytes (pairsIn (settedAll t) (after o t)))) out))
 done-told o t out (sound, room) =
     let s = said t sound in
-    let n = length t in
-    let cable = recordOf t 1 .cable in
-    let slots = slotsOf t in
-    let most = ring-size n (s .ring) .1 in
+    let u = settedAll t in
+    let cable = recordOf u 1 .cable in
+    let slots = slotsOf u in
+    let most : length t ≤ 32 = omega (arith, ring-size (length u) (s .ring) .1, length-setted t) in
     let ps = changesOf o 0 t in
     let all-noted : Noted noPairs (noted-of o t) ps = rw (noted-is o t) (notes cable slots o noPairs 0 t (s .rows) (omega (arith, no-pairs-count)) (omega (arith, most)) no-pairs-size) in
     let h = few o 0 t in
     let r = ordered (noted-of o t) in
-    let qs = pairsIn t (after o t) in
+    let qs = pairsIn (settedAll t) (after o t) in
     let in-order : Noted noPairs r qs = subst (Noted noPairs r) (pairs-are cable slots o t (s .rows)) (ordered-noted (noted-of o t) ps all-noted (omega (arith, h, most))) in
     let number : length ps ≡ length qs = sym (groups-all ps) ∙ ap length (pairs-are cable slots o t (s .rows)) in
     let count-is : noted-of o t .count ≡ length qs = omega (arith, all-noted .count, no-pairs-count, number) in
@@ -365,14 +367,14 @@ done-told o t out (sound, room) =
 -- ---- a slot: its pairs are those of its changes
 
 -- the answer and the bytes of an order that a slot gives
-abbrev SlotTold : Beside → Order → Table → List ℕ → Type 0
-SlotTold fits o t out = let m = notesOf (errandOf o fits) t in (pairsBy o m ≡ pairsTold t (calledBy fits o t)) × (writtenBy o m out ≡ slotBytes t (calledBy fits o t) out)
+abbrev SlotTold : Beside → Order → HeldTable → List ℕ → Type 0
+SlotTold fits o t out = let m = notesOf (sentOn fits o t) t in (pairsBy o m ≡ pairsTold (settedAll t) (calledBy fits o t)) × (writtenBy o m out ≡ slotBytes (settedAll t) (calledBy fits o t) out)
 
-told-if : (fits : Beside) (b : Bool) (cause : Refusal) (o : Order) (t : Table) (out : List ℕ) → (b ≡ true → SlotTold fits o t out) → SlotTold fits (ifGood b cause o) t out
+told-if : (fits : Beside) (b : Bool) (cause : Refusal) (o : Order) (t : HeldTable) (out : List ℕ) → (b ≡ true → SlotTold fits o t out) → SlotTold fits (ifGood b cause o) t out
 told-if fits true cause o t out h = h refl
-told-if fits false cause o t out h = (refl, none-written (ordered (notesOf (errandOf (order.Refuse cause) fits) t .pairs) .bytes) out)
+told-if fits false cause o t out h = (refl, none-written (ordered (notesOf (sentOn fits (order.Refuse cause) t) t .pairs) .bytes) out)
 
-pub slot-told : (lost : Bool) (missed jobs : ℕ) (fits : Beside) (t : Table) (out : List ℕ) → SlotTold fits (orderFor (command.Slot lost missed jobs) (length out) fits t) t out
+pub slot-told : (lost : Bool) (missed jobs : ℕ) (fits : Beside) (t : HeldTable) (out : List ℕ) → SlotTold fits (orderFor (command.Slot lost missed jobs) (length out) fits t) t out
 unfolding orderFor
 slot-told lost missed jobs fits t out =
     told-if fits (fineTable (surveyOf t) (length t)) Unsound _ t out (λ ok.
@@ -382,7 +384,7 @@ slot-told lost missed jobs fits t out =
     told-if fits (ltb (surveyOf t .slots) limit) SlotLimit _ t out (λ l.
     told-if fits (jobsWithin (surveyOf t .cable .m) jobs) SpareBit _ t out (λ _.
     told-if fits (leb 64 (length out)) OutputShort (order.Slot (turnOf lost missed (surveyOf t))) t out (λ r.
-    done-told (errandOf (order.Slot (turnOf lost missed (surveyOf t))) fits) t out (sym (fine-table t) ∙ ok, leb-true 64 (length out) r))))))))
+    done-told (sentOn fits (order.Slot (turnOf lost missed (surveyOf t))) t) t out (sym (fine-table t) ∙ ok, leb-true 64 (length out) r))))))))
 
 -- ---- the other calls: no pairs
 
@@ -393,45 +395,45 @@ silent-if : (b : Bool) (cause : Refusal) (o : Order) → Silent o → Silent (if
 silent-if true cause o h m = h m
 silent-if false cause o h m = refl
 
-silent-written : (c : Command) (fits : Beside) (t : Table) (out : List ℕ) → let o = orderFor c (length out) fits t in Silent o → writtenBy o (notesOf (errandOf o fits) t) out ≡ out
+silent-written : (c : Command) (fits : Beside) (t : HeldTable) (out : List ℕ) → let o = orderFor c (length out) fits t in Silent o → writtenBy o (notesOf (sentOn fits o t) t) out ≡ out
 silent-written c fits t out h =
-    let m = notesOf (errandOf (orderFor c (length out) fits t) fits) t in
+    let m = notesOf (sentOn fits (orderFor c (length out) fits t) t) t in
     ap (λ (k : ℕ). puts (ordered (m .pairs) .bytes) (bytesTold k (length out)) out) (h m) ∙ none-written (ordered (m .pairs) .bytes) out
 
-set-up-silent : (choices : Choices) (room : ℕ) (fits : Beside) (t : Table) → Silent (orderFor (command.SetUp choices) room fits t)
+set-up-silent : (choices : Choices) (room : ℕ) (fits : Beside) (t : HeldTable) → Silent (orderFor (command.SetUp choices) room fits t)
 unfolding orderFor
 set-up-silent choices room fits t =
     silent-if (maySetUp (fits .cable) (fits .places)) (cause (faultOf (fits .cable) (fits .places))) _
     (silent-if (fits .reports) Unsound _
     (silent-if (eqb (length t) (fits .cable .n)) Unsound order.Start (λ m. refl)))
 
-off-silent : (a room : ℕ) (fits : Beside) (t : Table) → Silent (orderFor (command.Off a) room fits t)
+off-silent : (a room : ℕ) (fits : Beside) (t : HeldTable) → Silent (orderFor (command.Off a) room fits t)
 unfolding orderFor
 off-silent a room fits t =
     silent-if (fineTable (surveyOf t) (length t)) Unsound _ (silent-if (nodeNumber (surveyOf t .cable .n) a) NodeNumber _ (silent-if (fits .ledger) LedgerUnfit (order.Off a) (λ m. refl)))
 
-restart-silent : (a room : ℕ) (fits : Beside) (t : Table) → Silent (orderFor (command.Restart a) room fits t)
+restart-silent : (a room : ℕ) (fits : Beside) (t : HeldTable) → Silent (orderFor (command.Restart a) room fits t)
 unfolding orderFor
 restart-silent a room fits t =
     silent-if (fineTable (surveyOf t) (length t)) Unsound _ (silent-if (nodeNumber (surveyOf t .cable .n) a) NodeNumber _ (silent-if (has (surveyOf t .out) a) NotOut (order.Restart a) (λ m. refl)))
 
-look-silent : (lost : Bool) (room : ℕ) (fits : Beside) (t : Table) → Silent (orderFor (command.Look lost) room fits t)
+look-silent : (lost : Bool) (room : ℕ) (fits : Beside) (t : HeldTable) → Silent (orderFor (command.Look lost) room fits t)
 unfolding orderFor
 look-silent lost room fits t = silent-if (fineTable (surveyOf t) (length t)) Unsound (order.Look (surveyOf t .slots) (surveyOf t .sender) (fateBy lost (surveyOf t .speaker))) (λ m. refl)
 
 -- ---- each call
 
-pub pairs-told : (c : Command) (fits : Beside) (t : Table) (out : List ℕ) → let o = orderFor c (length out) fits t in pairsBy o (notesOf (errandOf o fits) t) ≡ pairsOf c t (calledBy fits o t)
+pub pairs-told : (c : Command) (fits : Beside) (t : HeldTable) (out : List ℕ) → let o = orderFor c (length out) fits t in pairsBy o (notesOf (sentOn fits o t) t) ≡ pairsOf c (settedAll t) (calledBy fits o t)
 pairs-told (command.SetUp choices) fits t out = set-up-silent choices (length out) fits t _
 pairs-told (command.Off a) fits t out = off-silent a (length out) fits t _
 pairs-told (command.Restart a) fits t out = restart-silent a (length out) fits t _
 pairs-told (command.Slot lost missed jobs) fits t out = slot-told lost missed jobs fits t out .0
 pairs-told (command.Look lost) fits t out = look-silent lost (length out) fits t _
 
-pub bytes-told : (c : Command) (fits : Beside) (t : Table) (out : List ℕ) → let o = orderFor c (length out) fits t in writtenBy o (notesOf (errandOf o fits) t) out ≡ bytesBy c t (calledFit c (length out) fits t) out
+pub bytes-told : (c : Command) (fits : Beside) (t : HeldTable) (out : List ℕ) → let o = orderFor c (length out) fits t in writtenBy o (notesOf (sentOn fits o t) t) out ≡ bytesBy c (settedAll t) (calledFit c (length out) fits (settedAll t)) out
 bytes-told (command.SetUp choices) fits t out = silent-written (command.SetUp choices) fits t out (set-up-silent choices (length out) fits t)
 bytes-told (command.Off a) fits t out = silent-written (command.Off a) fits t out (off-silent a (length out) fits t)
 bytes-told (command.Restart a) fits t out = silent-written (command.Restart a) fits t out (restart-silent a (length out) fits t)
 bytes-told (command.Slot lost missed jobs) fits t out =
-    slot-told lost missed jobs fits t out .1 ∙ ap (λ (called : Called). slotBytes t called out) (called-by (command.Slot lost missed jobs) (length out) fits t)
+    slot-told lost missed jobs fits t out .1 ∙ ap (λ (called : Called). slotBytes (settedAll t) called out) (called-by (command.Slot lost missed jobs) (length out) fits t)
 bytes-told (command.Look lost) fits t out = silent-written (command.Look lost) fits t out (look-silent lost (length out) fits t)

@@ -11,12 +11,13 @@ use Rattle.ring.specs.Ring.{cableWith}
 use Rattle.node_reports.specs.Reports.{Counts, noReportsAt, heardBy}
 use Rattle.node_reports.specs.Inner.{greatestOf}
 use Rattle.node_record.specs.declared.Node.{Node}
+use Rattle.node_record.specs.Held.{setted}
 use Rattle.node_steps.specs.Steps.{isHeard}
 use Rattle.node_sending.specs.Sending.{jobsSent}
 use Rattle.bench.specs.declared.Command.{Command}
 use Rattle.bench.specs.declared.Command.the-variants as command
 use Rattle.bench_walks.specs.declared.Order.{Order}
-use Rattle.bench.specs.Table.{Table}
+use Rattle.bench.specs.Held.{HeldTable}
 use Rattle.bench.specs.Ledger.{Ledger}
 use Rattle.ledger.specs.Entered.{entered, oneMore}
 use Rattle.bench_walks.specs.declared.Order.the-variants as order
@@ -29,7 +30,7 @@ use Rattle.bench_walks.specs.Survey.{membersOf}
 use Rattle.bench_walks.specs.Orders.{carriedFrom, notesOf, reachOf}
 use Rattle.bench_calls.specs.declared.Work.{Work}
 
-abbrev pub workOf : Errand → Table → Work
+abbrev pub workOf : Errand → HeldTable → Work
 workOf errand t = record {
   notes = notesOf errand t;
   members = membersOf (take (reachOf (notesOf errand t)) (carriedFrom errand 0 t));
@@ -117,5 +118,5 @@ isStart (order.Look done sender fate) = false
 -- The counts after an order.
 abbrev pub reportedBy : Order → Command → Survey → List Counts → List Counts
 reportedBy o c s counts =
-    let heard = heardBy (hearersBy o (s .listers)) (s .sender) (jobsBy c (s .speaker)) counts in
+    let heard = heardBy (hearersBy o (s .listers)) (s .sender) (jobsBy c (setted (s .speaker))) counts in
     cond (isStart o) (noReportsAt (length heard)) heard

@@ -14,14 +14,16 @@ use bench_walks::Order;
 use bench_walks::Survey;
 use bench_walks::Turn;
 use message::Reading;
-use node_record::Node;
+use node_record::Held;
 use ring::Cable;
 use ring::Choices;
 ghost use mathlib.Core.Path.{_≡_};
 ghost use Prim.Native.Nat.{_≤_};
 ghost use lib.ListN.{length};
+ghost use Rattle.node_record.specs.Held.{setted};
 ghost use Rattle.bench.specs.Ledger.{ledgerFits};
-ghost use Rattle.bench.specs.Kept.{keptOf, bytesWith};
+ghost use Rattle.bench.specs.Kept.{bytesWith};
+ghost use Rattle.bench.specs.Held.{settedAll, keptHeld};
 ghost use Rattle.ring.specs.Ring.{cableWith};
 ghost use Rattle.node_steps.specs.Steps.{isHeard};
 ghost use Rattle.bench_calls.specs.Work.{workOf, dateBy, enteredBy, reportsFitBy, choicesIn, besideWith, hearersIn, hearersBy, jobsBy, isStart, reportedBy};
@@ -121,7 +123,7 @@ pub fn reply_of(order: Order, work: Work) -> Reply
 }
 
 // Inner: has each record of any table do what is ordered. Nothing is tested.
-pub fn carry(table: &mut [Node], errand: Errand) -> Work
+pub fn carry(table: &mut [Held], errand: Errand) -> Work
     ensures { λ r. ⌜ (now (table .exit) ≡ carriedFrom errand 0 (now (table .entry))) × (r ≡ workOf errand (now (table .entry))) ⌝ }
 {
     let notes = bench_walks::carry_out(table, errand);
@@ -274,8 +276,8 @@ fn hearers_of(order: Order, listers: u32) -> u32
 }
 
 // The job byte that a command has the speaker send.
-fn jobs_of(command: Command, speaker: Node) -> u8
-    ensures { λ r. ⌜ r ≡ jobsBy command speaker ⌝ }
+fn jobs_of(command: Command, speaker: Held) -> u8
+    ensures { λ r. ⌜ r ≡ jobsBy command (setted speaker) ⌝ }
 {
     match command {
         Command::SetUp(_) => 0,
@@ -332,15 +334,15 @@ fn tell(pairs: &mut [u8], order: Order, work: Work) -> Reply
 // Set-up refuses by 1, 16, 2, 14, 17, 18 and 4, off by 4, 3 and 13, restart by 4, 3 and 11, a slot by 4, 3,
 // 13, 5, 8 and 9, a look by 4.
 pub fn call(
-    table: &mut [Node],
+    table: &mut [Held],
     ledger: &mut [[u64; 3]],
     counts: &mut [[[u64; 8]; 32]],
     pairs: &mut [u8],
     slots: &[u8],
     command: Command,
 ) -> Reply
-    ensures { λ r. ⌜ (record { table = now (table .exit); ledger = now (ledger .exit); counts = now (counts .exit); reply = r } ≡ keptOf command (now (slots .entry)) (length (now (pairs .entry))) (now (ledger .entry)) (now (counts .entry)) (now (table .entry)))
-        × (now (pairs .exit) ≡ bytesWith command (now (slots .entry)) (now (ledger .entry)) (now (counts .entry)) (now (table .entry)) (now (pairs .entry))) ⌝ }
+    ensures { λ r. ⌜ (record { table = now (table .exit); ledger = now (ledger .exit); counts = now (counts .exit); reply = r } ≡ keptHeld command (now (slots .entry)) (length (now (pairs .entry))) (now (ledger .entry)) (now (counts .entry)) (now (table .entry)))
+        × (now (pairs .exit) ≡ bytesWith command (now (slots .entry)) (now (ledger .entry)) (now (counts .entry)) (settedAll (now (table .entry))) (now (pairs .entry))) ⌝ }
 {
     let size = table.len();
     let cable = cable_in(slots, command);
@@ -348,7 +350,7 @@ pub fn call(
     let fit = fits(ledger, survey);
     let beside = beside(counts, survey, command, fit, cable, slots.len());
     let order = bench_walks::order_of(command, survey, size, pairs.len(), beside);
-    let errand = bench_walks::sent_with(order, beside);
+    let errand = bench_walks::sent_with(order, survey, beside);
     let work = carry(table, errand);
     enter(ledger, survey, order, work);
     report(counts, survey, order, command);

@@ -34,7 +34,7 @@ use bench::Command;
 use bench_by_value::Ran;
 use node_bytes::bytes;
 use node_bytes::rows;
-use node_record::Node;
+use node_record::Held;
 use ring::Choices;
 use run_io::block;
 use run_io::block::Block;
@@ -46,8 +46,8 @@ use run_io::output;
 // What there is from one command to the next beside the entries and the arrays: the rows, how many are
 // the table, how many entries are the ledger, how many arrays are lent, the slot table and how many places
 // it has, and the number of bytes that wait in the output.
-struct Held {
-    rows: [Node; 32],
+struct State {
+    rows: [Held; 32],
     size: u32,
     entries: usize,
     arrays: usize,
@@ -110,7 +110,7 @@ fn call(
     counts: &mut [[[u64; 8]; 32]],
     buffer: &mut [u8],
     room: usize,
-    state: Held,
+    state: State,
     command: Command,
 ) -> Ran {
     let rows = state.rows;
@@ -138,7 +138,7 @@ fn call_counting(
     arrays: &mut [[[u64; 8]; 32]],
     buffer: &mut [u8],
     room: usize,
-    state: Held,
+    state: State,
     command: Command,
 ) -> Ran {
     let end = state.arrays;
@@ -155,7 +155,7 @@ fn call_with(
     arrays: &mut [[[u64; 8]; 32]],
     buffer: &mut [u8],
     room: usize,
-    state: Held,
+    state: State,
     command: Command,
 ) -> Ran {
     let end = state.entries;
@@ -171,10 +171,10 @@ fn run_call(
     output: &mut [u8; 4096],
     entries: &mut [[u64; 3]; 33],
     arrays: &mut [[[u64; 8]; 32]; 33],
-    state: Held,
+    state: State,
     room: u8,
     command: Command,
-) -> Held {
+) -> State {
     let mut buffer = [0xA5u8; 255];
     let ran = call_with(entries, arrays, &mut buffer, room as usize, state, command);
     let held = answers::put_told(output, state.held, ran);
@@ -192,10 +192,10 @@ fn run_call(
 fn run_counts(
     output: &mut [u8; 4096],
     arrays: &mut [[[u64; 8]; 32]; 33],
-    state: Held,
+    state: State,
     head: Head,
     block: &Block,
-) -> Held {
+) -> State {
     let mut next = state;
     let letter = head.letter;
     let byte = head.byte;
@@ -211,7 +211,7 @@ fn run_counts(
 }
 
 // The commands that say what the table, the ledger, the counts lent and the slot table are.
-fn prepared(entries: &mut [[u64; 3]; 33], state: Held, head: Head, block: &Block) -> Held {
+fn prepared(entries: &mut [[u64; 3]; 33], state: State, head: Head, block: &Block) -> State {
     let mut next = state;
     let letter = head.letter;
     let byte = head.byte;
@@ -232,7 +232,7 @@ fn prepared(entries: &mut [[u64; 3]; 33], state: Held, head: Head, block: &Block
         }
         b'L' => {
             let rows = state.rows;
-            let loaded = rows::loaded(rows, byte as usize, bytes::node_of(block));
+            let loaded = rows::loaded(rows, byte as usize, bytes::held_of(block));
             next.rows = loaded;
         }
         _ => {
@@ -246,10 +246,10 @@ fn run(
     output: &mut [u8; 4096],
     entries: &mut [[u64; 3]; 33],
     arrays: &mut [[[u64; 8]; 32]; 33],
-    state: Held,
+    state: State,
     head: Head,
     block: &Block,
-) -> Held {
+) -> State {
     let letter = head.letter;
     match letter {
         b'N' | b'L' | b'M' | b'G' | b'A' | b'O' => prepared(entries, state, head, block),
@@ -270,7 +270,7 @@ fn run_all(input: &mut [u8; 4096], output: &mut [u8; 4096]) -> usize {
     let mut left = Unread { at: 0, end: 0 };
     let mut entries = [[0u64; 3]; 33];
     let mut arrays = [node_reports::NO_REPORTS; 33];
-    let mut state = Held {
+    let mut state = State {
         rows: [node::NO_NODE; 32],
         size: 0,
         entries: 0,

@@ -1,4 +1,4 @@
--- The walk of a function that folds another over the first records of a lent `&[Node]`: `look_over` and `look_through`. Their MIR is `folding`, but for the functions that begin what is gathered and that take a
+-- The walk of a function that folds another over the first records of a lent `&[Held]`: `look_over` and `look_through`. Their MIR is `folding`, but for the functions that begin what is gathered and that take a
 -- record in, of which only the contracts are known. The slice is looked into once, before the loop, and shut once, after it. What is gathered from the first i records is the fold over them (`Partly.antt`). Assumes `Given`.
 use mathlib.Core.Path.{_≡_, refl, ap, _∙_}
 use Prim.Native.Nat.{ℕ, _<_, _^_, _+_, min}
@@ -34,11 +34,10 @@ use denote.Triple.Spec.{Meets}
 use denote.Triple.Walked.{Stays, stay-dropped, walkOf, goes-dropped, ends-at}
 use denote.Struct.Laws as LL
 use denote.Exit.{yes}
-use Rattle.node_record.specs.declared.Node.{Node}
-use Rattle.node_record.proofs.Node as T
-use Rattle.node_record.proofs.Node.Laws as T′
-use Rattle.node.specs.Calls.{noNode}
-use Rattle.bench_walks.specs.Survey.{foldFrom}
+use Rattle.node_record.specs.declared.Held.{Held}
+use Rattle.node_record.proofs.Held as T
+use Rattle.node_record.proofs.Held.Laws as T′
+use Rattle.bench_walks.specs.Survey.{noHeld, foldFrom}
 use Rattle.bench_walks.proofs.Partly.{fold-none, fold-next, take-least}
 use Rattle.bench_walks.proofs.Turns.{word, slice, rowBytes, bytes, fits, small, Turn, counts, goes-on, leaves, points}
 use Rattle.bench_walks.proofs.Calls.{Plain, uint, a-struct, Does, does, does-over, by-slice, of-shr, at, arg, frees, keeping, slice-meets}
@@ -75,11 +74,11 @@ folding τ least begin step = record {
 in-both : (k n i : ℕ) → i < min k n → i < n
 in-both k n i l = omega (arith, l)
 
-module _ {M : Type 1} (𝓤 : URA M) (H : Heap 𝓤) (A : Atoms 𝓤) (W : Given 𝓤 H A) (𝓣 : Tables 𝓤 H) (R : RattleType) (p : Plain 𝓤 H A R) (z : R .Denot) (f : R .Denot → ℕ → Node → R .Denot) (least begin step : Name)
+module _ {M : Type 1} (𝓤 : URA M) (H : Heap 𝓤) (A : Atoms 𝓤) (W : Given 𝓤 H A) (𝓣 : Tables 𝓤 H) (R : RattleType) (p : Plain 𝓤 H A R) (z : R .Denot) (f : R .Denot → ℕ → Held → R .Denot) (least begin step : Name)
     (does-least : Does 𝓤 H A (𝓣 .C) least (plain (λ _. UInt w64) ∷ plain (λ _. UInt w64) ∷ []) (yes, (yes, tt)) (plain (λ _. UInt w64)) (λ a r. r ≡ min (a .0) (a .1 .0)))
     (does-begin : Does 𝓤 H A (𝓣 .C) begin [] tt (plain (λ _. R)) (λ a r. r ≡ z))
     (does-step : Does 𝓤 H A (𝓣 .C) step (plain (λ _. R) ∷ plain (λ _. UInt w64) ∷ plain (λ _. T.the-row) ∷ []) (yes, (yes, (yes, tt))) (plain (λ _. R)) (λ a r. r ≡ f (a .0) (a .1 .0) (a .1 .1 .0)))
-    (κ : Lft) (q : Share) (b o : ℕ) (γ : GName) (xs : List Node) (room : Room T.the-row (length xs)) (reach : ℕ) (reach-fits : reach < 2 ^ 64) (Post : Val → SProp 𝓤)
+    (κ : Lft) (q : Share) (b o : ℕ) (γ : GName) (xs : List Held) (room : Room T.the-row (length xs)) (reach : ℕ) (reach-fits : reach < 2 ^ 64) (Post : Val → SProp 𝓤)
     (exits : (r : R .Denot) → Is R r (p .val r ∷ []) → r ≡ foldFrom f z 0 (take reach xs)
     → ent 𝓤 (sep 𝓤 (sem 𝓤 H A (ShrSlice (named 0) κ T.the-row .own (at T.the-row b o xs γ) (sliceVal (b, o) (length xs) ∷ []))) (A .lft κ q)) (Post (p .val r))) where
   abbrev n : ℕ
@@ -120,9 +119,9 @@ module _ {M : Type 1} (𝓤 : URA M) (H : Heap 𝓤) (A : Atoms 𝓤) (W : Given
       more i l Q k =
           goes-on ! l (arg ! 16 refl) (arg ! 20 refl) (from ! (stop !)) 12 refl (arg ! 12 refl) $
           points ! (bytes n i (room .1) within) (arg ! 16 refl) (from ! (stop !)) (init ! 10 refl) (load ! (from ! (fld ! refl (stop !))) (look-in ! 24 (sub ! 0 refl (whole !)))) (arg ! 10 refl) (from ! (stop !)) 8 refl $
-          elem-out ! T.the-row (Is T.the-row) (shows 𝓤 H A T.the-row) (LL.vals T.the-type T′.the-laws) (LL.tells T.the-type T′.the-laws) q′ xs i noNode b o within (λ g-e.
+          elem-out ! T.the-row (Is T.the-row) (shows 𝓤 H A T.the-row) (LL.vals T.the-type T′.the-laws) (LL.tells T.the-type T′.the-laws) q′ xs i noHeld b o within (λ g-e.
           assigns ! (of-opd ! (load ! (from ! (hop ! (look ! 10 refl) (stop !))) (look-raw ! 0 refl))) (from ! (stop !)) (init ! 8 refl (node .typed e g-e)) $
-          elem-back ! T.the-row q′ xs i noNode (node .val e ∷ []) b o within $
+          elem-back ! T.the-row q′ xs i noHeld (node .val e ∷ []) b o within $
           move ! (1 ∷ []) $ peeks ! R (Is R) (shows 𝓤 H A R) (acc i) (p .val (acc i) ∷ []) (λ g-a. drop ! $
           does-over ! (fmOf 𝓤 H (W .laws) 𝓣) does-step (p, (size, (node, tt))) (acc i, (i, (e, tt))) (g-a, ((refl, small n i (room .0) within), (g-e, tt)))
           (and-then ! (arg ! 18 refl) (and-then ! (arg ! 16 refl) (and-then ! (arg ! 6 refl) (no-more !)))) p (from ! (stop !)) 17 refl (λ r g-r is-r.
@@ -132,14 +131,14 @@ module _ {M : Type 1} (𝓤 : URA M) (H : Heap 𝓤) (A : Atoms 𝓤) (W : Given
           rewrite ! 1 (λ (m : R .Denot). ‵ (R .own m (p .val m ∷ []))) (next r is-r) refl $ rewrite ! 18 (λ (m : R .Denot). ‵ (fat fullShare (p .mir) l₄ 0 (p .val m))) (next r is-r) refl $
           k)))
         where
-          e : Node
-          e = getD xs i noNode
+          e : Held
+          e = getD xs i noHeld
 
           within : i < n
           within = in-both reach n i l
 
           next : (r : R .Denot) → r ≡ f (acc i) i e → r ≡ acc (i + 1)
-          next r is-r = is-r ∙ fold-next f z i xs noNode within
+          next r is-r = is-r ∙ fold-next f z i xs noHeld within
 
       -- the turn that leaves the loop, and the rest of the body
       ends : (Q : SProp 𝓤) → Sq W (At end) (Turn 𝓣 E (turn step) ending Post Q)
@@ -169,7 +168,7 @@ module _ {M : Type 1} (𝓤 : URA M) (H : Heap 𝓤) (A : Atoms 𝓤) (W : Given
       counts 𝓣 (E l₀ l₁ l₂ l₃ l₄ l₅ l₆ l₇ l₈ l₉ l₁₀) (turn step) ending Post end (At l₀ l₁ l₂ l₃ l₄ l₅ l₆ l₇ l₈ l₉ l₁₀ q′) (more l₀ l₁ l₂ l₃ l₄ l₅ l₆ l₇ l₈ l₉ l₁₀ q′) (ends l₀ l₁ l₂ l₃ l₄ l₅ l₆ l₇ l₈ l₉ l₁₀ q′)))))))))))))))
 
 -- ---- from the walk to a contract that says that it is the fold
-module _ {M : Type 1} (𝓤 : URA M) (H : Heap 𝓤) (A : Atoms 𝓤) (W : Given 𝓤 H A) (𝓣 : Tables 𝓤 H) (R : RattleType) (p : Plain 𝓤 H A R) (z : R .Denot) (f : R .Denot → ℕ → Node → R .Denot) (least begin step : Name)
+module _ {M : Type 1} (𝓤 : URA M) (H : Heap 𝓤) (A : Atoms 𝓤) (W : Given 𝓤 H A) (𝓣 : Tables 𝓤 H) (R : RattleType) (p : Plain 𝓤 H A R) (z : R .Denot) (f : R .Denot → ℕ → Held → R .Denot) (least begin step : Name)
     (does-least : Does 𝓤 H A (𝓣 .C) least (plain (λ _. UInt w64) ∷ plain (λ _. UInt w64) ∷ []) (yes, (yes, tt)) (plain (λ _. UInt w64)) (λ a r. r ≡ min (a .0) (a .1 .0)))
     (does-begin : Does 𝓤 H A (𝓣 .C) begin [] tt (plain (λ _. R)) (λ a r. r ≡ z))
     (does-step : Does 𝓤 H A (𝓣 .C) step (plain (λ _. R) ∷ plain (λ _. UInt w64) ∷ plain (λ _. T.the-row) ∷ []) (yes, (yes, (yes, tt))) (plain (λ _. R)) (λ a r. r ≡ f (a .0) (a .1 .0) (a .1 .1 .0))) where
@@ -180,7 +179,7 @@ module _ {M : Type 1} (𝓤 : URA M) (H : Heap 𝓤) (A : Atoms 𝓤) (W : Given
   stayed = (stay-dropped (of-shr T.the-row) yes, (stay-dropped (plain (λ _. UInt w64)) yes, tt))
 
   module _ (c : Clauses 𝓤 F) (keeps : (κs : Lfts 1) (a : Denots (typesAt (F .signature .params) κs)) (g : c κs a .ghost) (r : R .Denot) (ws : Lasts F κs a) → r ≡ foldFrom f z 0 (take (a .1 .0) (a .0 .now)) → ent 𝓤 (emp 𝓤) (c κs a .ensures g r (atExit F κs a ws))) where
-    module _ (κ : Lft) (q : Share) (x : RefT (List Node)) (reach : ℕ) (g : c (κ, tt) (x, (reach, tt)) .ghost) where
+    module _ (κ : Lft) (q : Share) (x : RefT (List Held)) (reach : ℕ) (g : c (κ, tt) (x, (reach, tt)) .ghost) where
       abbrev held : Val
       held = sliceVal (x .ptr) (length (x .now))
 

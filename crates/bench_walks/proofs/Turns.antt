@@ -27,7 +27,7 @@ use types.Run.{Opd, Rv, Finds, Writes, init, lit, bin, assigns, stays, leaves-lo
 use denote.Memory.{pointee}
 use denote.Slice.{sliceTy}
 use denote.Index.{place as place-of, place-is}
-use Rattle.node_record.proofs.Node as T
+use Rattle.node_record.proofs.Held as T
 
 abbrev pub word : Ty
 word = tyInt w64
@@ -37,7 +37,7 @@ slice m = sliceTy (tyRef (named 0) m (pointee (T.the-row .written)))
 
 -- The bytes of a record.
 abbrev pub rowBytes : ℕ
-rowBytes = 104
+rowBytes = 136
 
 pub bytes : (n i : ℕ) → n * rowBytes < 2 ^ 63 → i < n → i * rowBytes < 2 ^ 64
 bytes n i h l = omega (arith, h, l)

@@ -2,7 +2,7 @@
 -- to bench's specs/Calls, specs/Pairs, specs/Outcomes and specs/Ledger.
 use Prim.Native.Nat.{ℕ, zero, suc, _+_, _*_, min}
 use mathlib.Core.Bool.{Bool, true, false, cond, not, _&&_}
-use mathlib.Core.List.{List}
+use mathlib.Core.List.{List, []}
 use lib.Dec.{eqb, leb, ltb}
 use lib.ListN.{length, getD, set, replicate}
 use Rattle.refusal.specs.declared.Refusal.{Refusal}
@@ -15,16 +15,22 @@ use Rattle.ring.specs.Answers.{faultOf}
 use Rattle.message.specs.declared.Reading.{Reading}
 use Rattle.message.specs.declared.Reading.the-variants as reading
 use Rattle.message.specs.Message.{jobsWithin}
-use Rattle.node_record.specs.declared.Node.{Node}
+use Rattle.row.specs.declared.Row.{Row}
+use Rattle.row.specs.Rows.{rowFor, nodesIn}
+use Rattle.row.specs.Inner.{sameRow}
+use Rattle.node_record.specs.declared.Held.{Held}
+use Rattle.node_record.specs.Held.{setted}
 use Rattle.node_record.specs.States.{isMember}
 use Rattle.node_record.specs.Soundness.{limit}
 use Rattle.node_record.specs.declared.Cause.the-variants.{SwitchedOff}
-use Rattle.node_changes.specs.Changes.{starting, outFor, fresh, numbered}
-use Rattle.node_steps.specs.Digests.{digestOf}
-use Rattle.node_sending.specs.Sending.{sends, bitsSent, returnSent}
+use Rattle.node_changes.specs.Held.{starting, outFor, fresh, numbered}
+use Rattle.node_steps.specs.declared.Digest.{Digest}
+use Rattle.node_steps.specs.Held.{digestOf}
+use Rattle.node_sending.specs.Sending.{sends, returnSent}
+use Rattle.node_sending.specs.Held.{bitsSent}
 use Rattle.node.specs.declared.Answer.{Answer}
 use Rattle.node.specs.declared.Answer.the-variants as answer
-use Rattle.node_slot.specs.Inner.{afterBy}
+use Rattle.node_slot.specs.Held.{afterBy}
 use Rattle.bench.specs.declared.Command.{Command}
 use Rattle.bench.specs.declared.Command.the-variants as command
 use Rattle.bench_walks.specs.declared.Order.{Order}
@@ -44,11 +50,11 @@ use Rattle.bench.specs.declared.Fate.{Fate}
 use Rattle.bench.specs.declared.Fate.the-variants as fate
 use Rattle.bench.specs.declared.Outcome.{Outcome}
 use Rattle.bench.specs.declared.Outcome.the-variants as outcome
-use Rattle.bench.specs.Table.{Table, eachFrom}
 use Rattle.bench.specs.Calls.{unheard}
 use Rattle.bench.specs.Pairs.{sameState, kindFrom}
 use Rattle.bench.specs.declared.Reply.{Reply}
-use Rattle.bench_walks.specs.Survey.{foldFrom, surveyOf, fineTable}
+use Rattle.bench.specs.Held.{HeldTable}
+use Rattle.bench_walks.specs.Survey.{foldFrom, mapFrom, surveyOf, fineTable}
 
 -- ---- orders
 
@@ -72,12 +78,16 @@ restartOrder a s size =
     ifGood (fineTable s size) Unsound (ifGood (nodeNumber (s .cable .n) a) NodeNumber (ifGood (has (s .out) a) NotOut (order.Restart a)))
 
 -- What the speaker says, where it is heard.
-abbrev pub spokenBy : Bool → Node → Reading
-spokenBy lost v = cond lost unheard (cond (sends v) (reading.Heard (bitsSent v) (returnSent v)) unheard)
+abbrev pub spokenBy : Bool → Held → Reading
+spokenBy lost v = cond lost unheard (cond (sends (setted v)) (reading.Heard (bitsSent v) (returnSent (setted v))) unheard)
 
 -- What comes of the speaker's message.
-abbrev pub fateBy : Bool → Node → Fate
-fateBy lost v = cond (sends v) (cond lost fate.Lost (cond (isMember (v .state)) fate.Sent fate.Knock)) fate.Silent
+abbrev pub fateBy : Bool → Held → Fate
+fateBy lost v = cond (sends (setted v)) (cond lost fate.Lost (cond (isMember (v .state)) fate.Sent fate.Knock)) fate.Silent
+
+-- What the slot means to those who hold the speaker's row.
+abbrev pub digestFor : Bool → Survey → Digest
+digestFor lost s = digestOf (s .sender) (spokenBy lost (s .speaker)) (s .speaker .cable) (s .speaker .row)
 
 -- The slot that follows those of the table surveyed.
 abbrev pub turnOf : Bool → ℕ → Survey → Turn
@@ -87,7 +97,8 @@ turnOf lost missed s = record {
   fate = fateBy lost (s .speaker);
   heard = spokenBy lost (s .speaker);
   missed = missed;
-  digest = digestOf (s .sender) (spokenBy lost (s .speaker)) (s .speaker .cable) (s .speaker .set);
+  said = digestFor lost s .said;
+  decided = digestFor lost s .decided;
 }
 
 abbrev pub slotOrder : Bool → ℕ → ℕ → ℕ → Survey → ℕ → Beside → Order
@@ -111,15 +122,15 @@ orderOf (command.Restart a) s size room beside = restartOrder a s size
 orderOf (command.Slot lost missed jobs) s size room beside = slotOrder lost missed jobs room s size beside
 orderOf (command.Look lost) s size room beside = lookOrder lost s size
 
-unfoldable pub orderFor : Command → ℕ → Beside → Table → Order
+unfoldable pub orderFor : Command → ℕ → Beside → HeldTable → Order
 orderFor c room beside t = orderOf c (surveyOf t) (length t) room beside
 
 -- Nothing lent beside the table is amiss, and this cable is asked for, with so many places.
 abbrev pub allFit : Cable → ℕ → Beside
 allFit cable places = record { ledger = true; reports = true; cable = cable; places = places }
 
-abbrev pub errandOf : Order → Beside → Errand
-errandOf o beside = record { order = o; cable = beside .cable }
+abbrev pub errandOf : Order → Survey → Beside → Errand
+errandOf o s beside = record { order = o; cable = beside .cable; row = s .speaker .row }
 
 -- ---- carrying an order out
 
@@ -127,39 +138,43 @@ errandOf o beside = record { order = o; cable = beside .cable }
 abbrev pub numberAt : ℕ → ℕ
 numberAt i = cond (ltb i 32) (i + 1) 0
 
-abbrev pub offAt : ℕ → Node → Node
+abbrev pub offAt : ℕ → Held → Held
 offAt a v = cond (eqb (v .own) a) (outFor SwitchedOff v) v
 
-abbrev pub restartAt : ℕ → Node → Node
+abbrev pub restartAt : ℕ → Held → Held
 restartAt a v = cond (eqb (v .own) a) (fresh v) v
 
 -- What the record's node hears.
-abbrev pub heardAt : Turn → Node → Reading
+abbrev pub heardAt : Turn → Held → Reading
 heardAt turn v = cond (has (turn .missed) (v .own)) unheard (turn .heard)
 
-abbrev pub stepAt : Turn → Node → Node
-stepAt turn v = afterBy (turn .digest) (turn .sender) (heardAt turn v) (numbered (turn .slot) v)
+-- What the slot means to those who hold the speaker's row, which stands beside the turn.
+abbrev pub digestIn : Turn → Row → Digest
+digestIn turn row = record { row = row; said = turn .said; decided = turn .decided }
 
-unfoldable pub carriedBy : Order → Cable → ℕ → Node → Node
-carriedBy (order.Refuse cause) cable i v = v
-carriedBy order.Start cable i v = starting cable (numberAt i)
-carriedBy (order.Off a) cable i v = offAt a v
-carriedBy (order.Restart a) cable i v = restartAt a v
-carriedBy (order.Slot turn) cable i v = stepAt turn v
-carriedBy (order.Look slots sender fate) cable i v = v
+abbrev pub stepAt : Turn → Row → Held → Held
+stepAt turn row v = afterBy (digestIn turn row) (turn .sender) (heardAt turn v) (numbered (turn .slot) v)
 
-abbrev pub carried : Errand → ℕ → Node → Node
-carried e i v = carriedBy (e .order) (e .cable) i v
+unfoldable pub carriedBy : Order → Cable → Row → ℕ → Held → Held
+carriedBy (order.Refuse cause) cable row i v = v
+carriedBy order.Start cable row i v = starting cable (numberAt i)
+carriedBy (order.Off a) cable row i v = offAt a v
+carriedBy (order.Restart a) cable row i v = restartAt a v
+carriedBy (order.Slot turn) cable row i v = stepAt turn row v
+carriedBy (order.Look slots sender fate) cable row i v = v
 
-abbrev pub carriedFrom : Errand → ℕ → Table → Table
-carriedFrom e i t = eachFrom (carried e) i t
+abbrev pub carried : Errand → ℕ → Held → Held
+carried e i v = carriedBy (e .order) (e .cable) (e .row) i v
+
+abbrev pub carriedFrom : Errand → ℕ → HeldTable → HeldTable
+carriedFrom e i t = mapFrom (carried e) i t
 
 -- ---- the pairs, in rising order of nodes as they are noted
 
 abbrev pub pushed : Pairs → ℕ → ℕ → Pairs
 pushed p x kind = record { count = p .count + 1; bytes = set (set (p .bytes) (p .count * 2) x) (p .count * 2 + 1) kind }
 
-unfoldable pub withPair : Pairs → Node → Node → Pairs
+unfoldable pub withPair : Pairs → Held → Held → Pairs
 withPair p before after =
     cond (sameState (before .state) (after .state)) p
     (cond (ltb (p .count) 32 && leb (before .own) 32) (pushed p (before .own) (kindFrom (before .state) (after .state))) p)
@@ -185,7 +200,7 @@ ordered p = let m = min (p .count) 32 in groupedTo false (p .bytes) m (groupedTo
 
 -- ---- who left the member state, and who came to it
 
-unfoldable pub movesWith : Moves → Node → Node → Moves
+unfoldable pub movesWith : Moves → Held → Held → Moves
 movesWith m before after =
     cond (sameState (before .state) (after .state)) m
     (record { left = withIf (isMember (before .state)) (m .left) (before .own); joined = withIf (isMember (after .state)) (m .joined) (before .own) })
@@ -195,32 +210,37 @@ noMoves = record { left = 0; joined = 0 }
 
 -- ---- the list, and whether all members hold it
 
-abbrev pub listWith : Listed → Node → Listed
-listWith listed.Nobody v = cond (isMember (v .state)) (listed.Set (v .set)) listed.Nobody
+abbrev pub listWith : Listed → Held → Listed
+listWith listed.Nobody v = cond (isMember (v .state)) (listed.Set (nodesIn (v .row))) listed.Nobody
 listWith (listed.Set set) v = listed.Set set
 
-abbrev pub sameWith : Listed → Node → Bool
-sameWith (listed.Set set) v = cond (isMember (v .state)) (eqb set (v .set)) true
-sameWith listed.Nobody v = true
+-- The same as a row.
+abbrev pub rowWith : Listed → Row → Held → Row
+rowWith listed.Nobody row v = cond (isMember (v .state)) (v .row) row
+rowWith (listed.Set set) row v = row
 
-unfoldable pub listsWith : Lists → Node → Lists
-listsWith s v = record { list = listWith (s .list) v; same = s .same && sameWith (s .list) v }
+abbrev pub sameWith : Listed → Row → Held → Bool
+sameWith (listed.Set set) row v = cond (isMember (v .state)) (sameRow row (v .row)) true
+sameWith listed.Nobody row v = true
+
+unfoldable pub listsWith : Lists → Held → Lists
+listsWith s v = record { list = listWith (s .list) v; row = rowWith (s .list) (s .row) v; same = s .same && sameWith (s .list) (s .row) v }
 
 abbrev pub noLists : Lists
-noLists = record { list = listed.Nobody; same = true }
+noLists = record { list = listed.Nobody; row = rowFor []; same = true }
 
 -- ---- notes
 
-unfoldable pub noticed : Notes → Node → Node → Notes
+unfoldable pub noticed : Notes → Held → Held → Notes
 noticed m before after = record { pairs = withPair (m .pairs) before after; moves = movesWith (m .moves) before after; lists = listsWith (m .lists) after }
 
 unfoldable pub noNotes : Notes
 noNotes = record { pairs = noPairs; moves = noMoves; lists = noLists }
 
-abbrev pub noticedFrom : Errand → Notes → ℕ → Table → Notes
+abbrev pub noticedFrom : Errand → Notes → ℕ → HeldTable → Notes
 noticedFrom o m i t = foldFrom (λ m i v. noticed m v (carried o i v)) m i t
 
-unfoldable pub notesOf : Errand → Table → Notes
+unfoldable pub notesOf : Errand → HeldTable → Notes
 notesOf o t = noticedFrom o noNotes 0 t
 
 -- ---- what is answered

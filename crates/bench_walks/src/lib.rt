@@ -12,8 +12,8 @@ use bench::Listed;
 use kinds::kind_from;
 use kinds::same_state;
 use message::Reading;
-use node_record::Node;
-use node_steps::Digest;
+use node_record::Held;
+use node_steps::Said;
 use orders::look_order;
 use orders::off_order;
 use orders::restart_order;
@@ -25,6 +25,7 @@ use records::restart_at;
 use records::step_at;
 use refusal::Refusal;
 use ring::Cable;
+use row::Row;
 use surveys::begun;
 use surveys::glimpsed;
 use surveys::index_of;
@@ -34,16 +35,16 @@ ghost use mathlib.Core.Path.{_≡_};
 ghost use Prim.Native.Nat.{_<_, _≤_, max, min};
 ghost use lib.ListN.{length, take};
 ghost use Rattle.bench_walks.specs.Survey.{glimpseOf, surveyed, unseen, surveyOf, fineTable, farFrom, memberSeen, gathered, noMembers, membersOf};
-ghost use Rattle.bench_walks.specs.Orders.{orderOf, errandOf, carried, carriedFrom, pushed, withPair, noPairs, inGroup, withOne, groupedTo, ordered, movesWith, listWith, sameWith, listsWith, noticed, noNotes, notesOf};
+ghost use Rattle.bench_walks.specs.Orders.{orderOf, errandOf, carried, carriedFrom, pushed, withPair, noPairs, inGroup, withOne, groupedTo, ordered, movesWith, listWith, rowWith, sameWith, listsWith, noticed, noNotes, notesOf};
 
 // What a look over a table finds: whether each record stands in its place; the cable and slots of
-// the first; the next sender's number and record; the nodes that are out; those whose set has the sender.
+// the first; the next sender's number and record; the nodes that are out; those whose row has the sender.
 pub struct Survey {
     pub fine: bool,
     pub cable: Cable,
     pub slots: u64,
     pub sender: u32,
-    pub speaker: Node,
+    pub speaker: Held,
     pub out: u32,
     pub listers: u32,
 }
@@ -65,14 +66,15 @@ pub struct Members {
 }
 
 // A slot that is to run: its number and sender, what comes of the message, what is read of it, which
-// nodes miss it, and what it means to those who hold the sender's set.
+// nodes miss it, and what it says and decides for those who hold the sender's row.
 pub struct Turn {
     pub slot: u64,
     pub sender: u32,
     pub fate: Fate,
     pub heard: Reading,
     pub missed: u32,
-    pub digest: Digest,
+    pub said: Said,
+    pub decided: u32,
 }
 
 // What each record is to do. A look, which has it do nothing, holds what is told of the next slot: the
@@ -86,10 +88,11 @@ pub enum Order {
     Look(u64, u32, Fate),
 }
 
-// An order, and the cable that set-up is asked for: an enum holds no array.
+// An order, the cable that set-up is asked for, and the row of the next sender: an enum holds no array.
 pub struct Errand {
     pub order: Order,
     pub cable: Cable,
+    pub row: Row,
 }
 
 // Pairs of a node and a kind.
@@ -98,9 +101,11 @@ pub struct Pairs {
     pub bytes: [u8; 64],
 }
 
-// The list of the records seen so far, and whether all members among them hold it.
+// The list of the records seen so far, as a set and as a row, which is empty where there is nobody; and
+// whether all members among them hold that row.
 pub struct Lists {
     pub list: Listed,
+    pub row: Row,
     pub same: bool,
 }
 
@@ -127,7 +132,7 @@ fn unseen() -> Survey
 }
 
 // The survey with the record at index i, the first of which gives cable and slots.
-fn surveyed(s: Survey, i: usize, v: Node) -> Survey
+fn surveyed(s: Survey, i: usize, v: Held) -> Survey
     ensures { λ r. ⌜ r ≡ surveyed s i v ⌝ }
 {
     let before = if i == 0 { begun(true, v) } else { s };
@@ -155,26 +160,28 @@ pub fn order_of(command: Command, s: Survey, size: usize, room: usize, beside: B
     }
 }
 
-// An order with the cable that is lent beside the table.
-pub fn sent_with(order: Order, beside: Beside) -> Errand
-    ensures { λ r. ⌜ r ≡ errandOf order beside ⌝ }
+// An order with the row of the next sender and the cable that is lent beside the table.
+pub fn sent_with(order: Order, s: Survey, beside: Beside) -> Errand
+    ensures { λ r. ⌜ r ≡ errandOf order s beside ⌝ }
 {
     let cable = beside.cable;
-    Errand { order, cable }
+    let row = s.speaker.row;
+    Errand { order, cable, row }
 }
 
 // The record at index i after an order.
-fn carried(errand: Errand, i: usize, v: Node) -> Node
+fn carried(errand: Errand, i: usize, v: Held) -> Held
     ensures { λ r. ⌜ r ≡ carried errand i v ⌝ }
 {
     let order = errand.order;
     let cable = errand.cable;
+    let row = errand.row;
     match order {
         Order::Refuse(_) => v,
         Order::Start => node_changes::starting(cable, number_at(i)),
         Order::Off(a) => off_at(a, v),
         Order::Restart(a) => restart_at(a, v),
-        Order::Slot(turn) => step_at(turn, v),
+        Order::Slot(turn) => step_at(turn, row, v),
         Order::Look(_, _, _) => v,
     }
 }
@@ -193,7 +200,7 @@ fn pushed(p: Pairs, x: u8, kind: u8) -> Pairs
 }
 
 // The pairs with that of a record, if its state changed.
-fn with_pair(p: Pairs, before: Node, after: Node) -> Pairs
+fn with_pair(p: Pairs, before: Held, after: Held) -> Pairs
     ensures { λ r. ⌜ r ≡ withPair p before after ⌝ }
 {
     let a = before.state;
@@ -260,7 +267,7 @@ pub fn ordered(p: Pairs) -> Pairs
 }
 
 // Who left and who joined, with one record more.
-fn moves_with(m: Moves, before: Node, after: Node) -> Moves
+fn moves_with(m: Moves, before: Held, after: Held) -> Moves
     ensures { λ r. ⌜ r ≡ movesWith m before after ⌝ }
 {
     let a = before.state;
@@ -275,14 +282,15 @@ fn moves_with(m: Moves, before: Node, after: Node) -> Moves
 }
 
 // The list, with one record more.
-fn list_with(list: Listed, v: Node) -> Listed
+fn list_with(list: Listed, v: Held) -> Listed
     ensures { λ r. ⌜ r ≡ listWith list v ⌝ }
 {
     let state = v.state;
+    let row = v.row;
     match list {
         Listed::Nobody => {
             if node_record::is_member(state) {
-                Listed::Set(v.set)
+                Listed::Set(row::nodes_in(row))
             } else {
                 Listed::Nobody
             }
@@ -291,35 +299,57 @@ fn list_with(list: Listed, v: Node) -> Listed
     }
 }
 
-// Whether a record is no member, or holds the list as far as it is known.
-fn same_with(list: Listed, v: Node) -> bool
-    ensures { λ r. ⌜ r ≡ sameWith list v ⌝ }
+// The list as a row, with one record more.
+fn row_with(list: Listed, row: Row, v: Held) -> Row
+    ensures { λ r. ⌜ r ≡ rowWith list row v ⌝ }
 {
     let state = v.state;
+    let held = v.row;
+    match list {
+        Listed::Nobody => {
+            if node_record::is_member(state) {
+                held
+            } else {
+                row
+            }
+        }
+        Listed::Set(_) => row,
+    }
+}
+
+// Whether a record is no member, or holds the list as far as it is known.
+fn same_with(list: Listed, row: Row, v: Held) -> bool
+    ensures { λ r. ⌜ r ≡ sameWith list row v ⌝ }
+{
+    let state = v.state;
+    let held = v.row;
     if !node_record::is_member(state) {
         return true;
     }
     match list {
-        Listed::Set(set) => set == v.set,
+        Listed::Set(_) => row::same(row, held),
         Listed::Nobody => true,
     }
 }
 
 // The list, and whether all members hold it, with one record more.
-fn lists_with(lists: Lists, v: Node) -> Lists
+fn lists_with(lists: Lists, v: Held) -> Lists
     ensures { λ r. ⌜ r ≡ listsWith lists v ⌝ }
 {
     let before = lists.list;
-    let same = same_with(before, v);
+    let first = lists.row;
+    let same = same_with(before, first, v);
     let list = list_with(before, v);
+    let row = row_with(before, first, v);
     Lists {
         list,
+        row,
         same: lists.same & same,
     }
 }
 
 // The notes with those of a record.
-fn noticed(notes: Notes, before: Node, after: Node) -> Notes
+fn noticed(notes: Notes, before: Held, after: Held) -> Notes
     ensures { λ r. ⌜ r ≡ noticed notes before after ⌝ }
 {
     let told = notes.pairs;
@@ -340,8 +370,10 @@ fn no_notes() -> Notes
 {
     let pairs = no_pairs();
     let moves = Moves { left: 0, joined: 0 };
+    let row = row::empty();
     let lists = Lists {
         list: Listed::Nobody,
+        row,
         same: true,
     };
     Notes {
@@ -389,12 +421,13 @@ fn member_seen(n: u32, m: Members, set: u32) -> Members
 }
 
 // What is gathered with one record more.
-fn gathered(m: Members, i: usize, v: Node) -> Members
+fn gathered(m: Members, i: usize, v: Held) -> Members
     ensures { λ r. ⌜ r ≡ gathered m i v ⌝ }
 {
     let state = v.state;
     if node_record::is_member(state) & (m.count < 32) {
-        return member_seen(v.cable.n, m, v.set);
+        let row = v.row;
+        return member_seen(v.cable.n, m, row::nodes_in(row));
     }
     m
 }
@@ -417,7 +450,7 @@ fn smaller(a: usize, b: usize) -> usize
 }
 
 // Looks over the first so many records, or over all if there are fewer.
-pub fn look_over(table: &[Node], reach: usize) -> Survey
+pub fn look_over(table: &[Held], reach: usize) -> Survey
     ensures { λ r. ⌜ r ≡ surveyOf (take reach (now (table .entry))) ⌝ }
 {
     let end = smaller(reach, table.len());
@@ -432,7 +465,7 @@ pub fn look_over(table: &[Node], reach: usize) -> Survey
 
 // What a look over a sound table finds that a call needs: cable and slots of the first record, the next
 // sender's record, and whether the named node is out. Nothing is tested. Requires a record.
-pub fn glimpse(table: &[Node], named: u32) -> Survey
+pub fn glimpse(table: &[Held], named: u32) -> Survey
     requires { ⌜ 1 ≤ length (now table) ⌝ }
     ensures { λ r. ⌜ r ≡ glimpseOf (now (table .entry)) named ⌝ }
 {
@@ -444,7 +477,7 @@ pub fn glimpse(table: &[Node], named: u32) -> Survey
 }
 
 // Gathers the members' sets of the first so many records, or of all if there are fewer.
-pub fn look_through(table: &[Node], reach: usize) -> Members
+pub fn look_through(table: &[Held], reach: usize) -> Members
     ensures { λ r. ⌜ r ≡ membersOf (take reach (now (table .entry))) ⌝ }
 {
     let end = smaller(reach, table.len());
@@ -458,7 +491,7 @@ pub fn look_through(table: &[Node], reach: usize) -> Members
 }
 
 // Has each record do what is ordered, and notes what comes of it.
-pub fn carry_out(table: &mut [Node], errand: Errand) -> Notes
+pub fn carry_out(table: &mut [Held], errand: Errand) -> Notes
     ensures { λ r. ⌜ (now (table .exit) ≡ carriedFrom errand 0 (now (table .entry))) × (r ≡ notesOf errand (now (table .entry))) ⌝ }
 {
     let mut notes = no_notes();

@@ -6,7 +6,7 @@ use crate::Turn;
 use crate::is_fine;
 use bench::Fate;
 use message::Reading;
-use node_record::Node;
+use node_record::Held;
 use refusal::Refusal;
 ghost use mathlib.Core.Path.{_≡_};
 ghost use Prim.Native.Nat.{_<_, _^_, _-_};
@@ -60,7 +60,7 @@ pub fn restart_order(a: u32, s: Survey, size: usize) -> Order
 }
 
 // What is read of the speaker's message.
-pub fn spoken_by(lost: bool, v: Node) -> Reading
+pub fn spoken_by(lost: bool, v: Held) -> Reading
     ensures { λ r. ⌜ r ≡ spokenBy lost v ⌝ }
 {
     if lost {
@@ -76,7 +76,7 @@ pub fn spoken_by(lost: bool, v: Node) -> Reading
 }
 
 // What comes of the speaker's message.
-pub fn fate_of(lost: bool, v: Node) -> Fate
+pub fn fate_of(lost: bool, v: Held) -> Fate
     ensures { λ r. ⌜ r ≡ fateBy lost v ⌝ }
 {
     let state = v.state;
@@ -101,14 +101,17 @@ fn turn_of(lost: bool, missed: u32, s: Survey) -> Turn
     let fate = fate_of(lost, speaker);
     let heard = spoken_by(lost, speaker);
     let cable = speaker.cable;
-    let digest = node_steps::digest_of(s.sender, heard, cable, speaker.set);
+    let row = speaker.row;
+    let digest = node_steps::digest_of(s.sender, heard, cable, row);
+    let said = digest.said;
     Turn {
         slot: s.slots + 1,
         sender: s.sender,
         fate,
         heard,
         missed,
-        digest,
+        said,
+        decided: digest.decided,
     }
 }
 

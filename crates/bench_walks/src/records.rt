@@ -3,10 +3,12 @@
 use crate::Turn;
 use message::Reading;
 use node_record::Cause;
-use node_record::Node;
+use node_record::Held;
+use node_steps::Digest;
 use refusal::Refusal;
+use row::Row;
 ghost use mathlib.Core.Path.{_≡_};
-ghost use Rattle.node_changes.specs.Changes.{numbered};
+ghost use Rattle.node_changes.specs.Held.{numbered};
 ghost use Rattle.bench_walks.specs.Orders.{numberAt, offAt, restartAt, heardAt, stepAt};
 
 // The number of the node at index i, of the first 32.
@@ -19,7 +21,7 @@ pub fn number_at(i: usize) -> u32
     i as u32 + 1
 }
 
-pub fn off_at(a: u32, v: Node) -> Node
+pub fn off_at(a: u32, v: Held) -> Held
     ensures { λ r. ⌜ r ≡ offAt a v ⌝ }
 {
     if v.own != a {
@@ -28,7 +30,7 @@ pub fn off_at(a: u32, v: Node) -> Node
     node_changes::out_for(Cause::SwitchedOff, v)
 }
 
-pub fn restart_at(a: u32, v: Node) -> Node
+pub fn restart_at(a: u32, v: Held) -> Held
     ensures { λ r. ⌜ r ≡ restartAt a v ⌝ }
 {
     if v.own != a {
@@ -38,7 +40,7 @@ pub fn restart_at(a: u32, v: Node) -> Node
 }
 
 // What the record's node hears: nothing, if it misses the message.
-fn heard_at(turn: Turn, v: Node) -> Reading
+fn heard_at(turn: Turn, v: Held) -> Reading
     ensures { λ r. ⌜ r ≡ heardAt turn v ⌝ }
 {
     let heard = turn.heard;
@@ -49,7 +51,7 @@ fn heard_at(turn: Turn, v: Node) -> Reading
 }
 
 // The record with a slot count.
-fn numbered(slot: u64, v: Node) -> Node
+fn numbered(slot: u64, v: Held) -> Held
     ensures { λ r. ⌜ r ≡ numbered slot v ⌝ }
 {
     let mut w = v;
@@ -57,10 +59,16 @@ fn numbered(slot: u64, v: Node) -> Node
     w
 }
 
-pub fn step_at(turn: Turn, v: Node) -> Node
-    ensures { λ r. ⌜ r ≡ stepAt turn v ⌝ }
+// The slot of a record, where the speaker holds this row.
+pub fn step_at(turn: Turn, row: Row, v: Held) -> Held
+    ensures { λ r. ⌜ r ≡ stepAt turn row v ⌝ }
 {
     let heard = heard_at(turn, v);
-    let digest = turn.digest;
+    let said = turn.said;
+    let digest = Digest {
+        row,
+        said,
+        decided: turn.decided,
+    };
     node_slot::after_slot(turn.sender, heard, digest, numbered(turn.slot, v))
 }

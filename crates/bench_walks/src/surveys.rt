@@ -1,15 +1,16 @@
 // What a look over a table notes of one record, by value.
 use crate::Survey;
-use node_record::Node;
+use node_record::Held;
 use ring::Speaker;
 ghost use mathlib.Core.Path.{_≡_};
 ghost use Prim.Native.Nat.{_+_};
 ghost use lib.Dec.{eqb};
+ghost use Rattle.node_record.specs.Held.{setted};
 ghost use Rattle.bench.specs.Table.{inPlace};
 ghost use Rattle.bench_walks.specs.Survey.{senderAfter, begun, glimpsed, indexOf, outWith, listersWith, seen};
 
 // The sender of the slot that follows those of the record; 0 where its n is no ring's.
-pub fn sender_after(v: Node) -> u32
+pub fn sender_after(v: Held) -> u32
     ensures { λ r. ⌜ r ≡ senderAfter v ⌝ }
 {
     let cable = v.cable;
@@ -21,7 +22,7 @@ pub fn sender_after(v: Node) -> u32
 }
 
 // A survey that has cable and slots of the record, and no record yet.
-pub fn begun(fine: bool, v: Node) -> Survey
+pub fn begun(fine: bool, v: Held) -> Survey
     ensures { λ r. ⌜ r ≡ begun fine v ⌝ }
 {
     let sender = sender_after(v);
@@ -48,8 +49,8 @@ pub fn is_number_at(own: u32, i: usize) -> bool
 }
 
 // Whether the record is sound and stands at index i of the table surveyed.
-pub fn stands(s: Survey, i: usize, v: Node) -> bool
-    ensures { λ r. ⌜ r ≡ inPlace (s .cable) (s .slots) (i + 1) v ⌝ }
+pub fn stands(s: Survey, i: usize, v: Held) -> bool
+    ensures { λ r. ⌜ r ≡ inPlace (s .cable) (s .slots) (i + 1) (setted v) ⌝ }
 {
     let cable = v.cable;
     let first = s.cable;
@@ -58,18 +59,19 @@ pub fn stands(s: Survey, i: usize, v: Node) -> bool
 }
 
 // The nodes that are out, with one record more.
-fn out_with(out: u32, v: Node) -> u32
+fn out_with(out: u32, v: Held) -> u32
     ensures { λ r. ⌜ r ≡ outWith out v ⌝ }
 {
     let state = v.state;
     nodeset::with_if(node_record::is_out(state), out, v.own)
 }
 
-// The nodes whose set has the sender, with one record more.
-fn listers_with(listers: u32, sender: u32, v: Node) -> u32
+// The nodes whose row has the sender, with one record more.
+fn listers_with(listers: u32, sender: u32, v: Held) -> u32
     ensures { λ r. ⌜ r ≡ listersWith listers sender v ⌝ }
 {
-    nodeset::with_if(nodeset::has(v.set, sender), listers, v.own)
+    let row = v.row;
+    nodeset::with_if(row::has(row, sender), listers, v.own)
 }
 
 // The index of node x among so many records; that of the first where there is no such node.
@@ -84,7 +86,7 @@ pub fn index_of(x: u32, size: usize) -> usize
 }
 
 // What is found of the first record, the next sender's and another.
-pub fn glimpsed(first: Node, speaker: Node, other: Node) -> Survey
+pub fn glimpsed(first: Held, speaker: Held, other: Held) -> Survey
     ensures { λ r. ⌜ r ≡ glimpsed first speaker other ⌝ }
 {
     let sender = sender_after(first);
@@ -102,7 +104,7 @@ pub fn glimpsed(first: Node, speaker: Node, other: Node) -> Survey
 }
 
 // The survey with the record at index i.
-pub fn seen(s: Survey, i: usize, v: Node) -> Survey
+pub fn seen(s: Survey, i: usize, v: Held) -> Survey
     ensures { λ r. ⌜ r ≡ seen s i v ⌝ }
 {
     let mut next = s;

@@ -30,8 +30,7 @@ use Rattle.node_record.specs.Soundness.{sound, limit}
 use Rattle.node_record.specs.States.{isOut}
 use Rattle.node_record.specs.declared.Node.{Node}
 use Rattle.node.specs.declared.Answer.the-variants as answer
-use Rattle.node.specs.declared.Stepped.{Stepped}
-use Rattle.node.specs.Calls.{itsTurn, noNode, setUpOf, stepOf, sendOf, offOf, restartOf, isDone, refused, withCounts, countsAfter, countedOf}
+use Rattle.node.specs.Calls.{Stepped, itsTurn, noNode, setUpOf, stepOf, sendOf, offOf, restartOf, isDone, refused, withCounts, countsAfter, countedOf}
 use Rattle.node.proofs.Sent.{sent-or-short}
 use Rattle.bench.specs.declared.Command.{Command}
 use Rattle.bench.specs.declared.Command.the-variants as command

@@ -29,8 +29,7 @@ use Rattle.node_changes.specs.Changes.{counted}
 use Rattle.node_sending.specs.Sending.{sends, jobsSent}
 use Rattle.node_slot.specs.Slot.{slotIn, afterSlot}
 use Rattle.node.specs.declared.Answer.the-variants.{Done}
-use Rattle.node.specs.declared.Stepped.{Stepped}
-use Rattle.node.specs.Calls.{done, refused, unsent, sendOf, stepOf, withCounts, countsAfter, countedOf}
+use Rattle.node.specs.Calls.{Stepped, done, refused, unsent, sendOf, stepOf, withCounts, countsAfter, countedOf}
 use Rattle.node.proofs.Sent.{sent-by, sent-read, not-its-turn}
 use Rattle.bench.specs.declared.Command.the-variants.{Slot}
 use Rattle.bench.specs.Table.{Table, recordOf, nodeCount, slotsOf, speaker, tableSound}

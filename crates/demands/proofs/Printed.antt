@@ -4,12 +4,14 @@ use mathlib.Core.Path.{_≡_, refl}
 use mathlib.Core.Bool.{Bool, true, false, cond}
 use mathlib.Core.List.{List, [], _∷_, _++_}
 use native.Mathlib.Omega.{arith}
-use lib.ListN.{length, length-replicate, length-take}
+use lib.ListN.{length, take, length-replicate, length-take}
 use Rattle.nodeset.proofs.Tests.{by-cases}
 use Rattle.slot_table.specs.Order.{numbersFrom}
 use Rattle.ring.specs.declared.Cable.{Cable}
 use Rattle.ring.specs.Ring.{cableOf}
 use Rattle.ring.proofs.Ranges.{ring-size, fitting}
+use Rattle.node_record.specs.Held.{rowed}
+use Rattle.bench.proofs.Standing.{length-setted}
 use Rattle.node.specs.Calls.{noNode, isDone}
 use Rattle.node.specs.declared.Answer.{Answer}
 use Rattle.node.specs.declared.Answer.the-variants.{Done, Refused}
@@ -93,6 +95,6 @@ pub no-distance-printed : NoDistancePrinted
 unfolding AtEachLine EverySequence
 no-distance-printed n k input first more is opens premises =
     let r = ring n k first opens in
-    let lent : length (tableOf n noRows) ≡ n = omega (arith, length-take n noRows, length-replicate 32 noNode, ring-size n (fitting (cableOf n k) r .ring)) in
+    let lent : length (tableOf n noRows) ≡ n = omega (arith, length-setted (take n noRows), length-take n noRows, length-replicate 32 (rowed noNode), ring-size n (fitting (cableOf n k) r .ring)) in
     let slots = distance-throughout (cableOf n k) r (tableOf n noRows) lent (callsOf (afterLine noPlan first) [] more) premises .slots in
     rw is (first-tells n k first opens, each (cableOf n k) (startOf n k) (afterLine noPlan first) [] more (reached-first n k first opens) slots .0)

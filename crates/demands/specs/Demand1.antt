@@ -28,9 +28,7 @@ use Rattle.converter.specs.Converter.{toThreeOf, toTwoOf}
 use Rattle.node_record.specs.declared.Node.{Node}
 use Rattle.node.specs.declared.Answer.{Answer}
 use Rattle.node.specs.declared.Answer.the-variants as answer
-use Rattle.node.specs.declared.Stepped.{Stepped}
-use Rattle.node.specs.declared.Counted.{Counted}
-use Rattle.node.specs.Calls.{startOf, countedOf, slotOf, sendOf, offOf, restartOf}
+use Rattle.node.specs.Calls.{Stepped, Counted, startOf, countedOf, slotOf, sendOf, offOf, restartOf}
 use Rattle.bench.specs.declared.Command.{Command}
 use Rattle.bench.specs.declared.Command.the-variants as command
 use Rattle.bench.specs.declared.Outcome.{Outcome}

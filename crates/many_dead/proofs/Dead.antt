@@ -17,7 +17,7 @@ use Rattle.ring.specs.declared.Cable.{Cable}
 use Rattle.ring.specs.Ring.{nodeNumber, sender, sponsors, sponsored, cableFits}
 use Rattle.ring.proofs.Ranges.{ring-size, lag-fits, sponsor-count, fitting}
 use Rattle.ring.proofs.Senders.{Turns, turns-of, sender-range, sender-period, its-slot}
-use Rattle.node.specs.Calls.{isDone}
+use Rattle.node.specs.Calls.{Stepped, isDone}
 use Rattle.message.specs.declared.Reading.{Reading}
 use Rattle.message.specs.declared.Reading.the-variants as reading
 use Rattle.node_record.specs.declared.Node.{Node}
@@ -34,7 +34,6 @@ use Rattle.node_steps.proofs.Answers.{At}
 use Rattle.node_steps.proofs.Cases.{slot-inside, slot-outside}
 use Rattle.node_sending.specs.Sending.{sends, bitsSent, returnSent}
 use Rattle.node_slot.specs.Inner.{readIn}
-use Rattle.node.specs.declared.Stepped.{Stepped}
 use Rattle.node.specs.Calls as node
 use Rattle.bench.specs.Table.{Table, recordOf, tableSound, nodeCount, slotsOf, speaker}
 use Rattle.bench.specs.Calls.{Called, done, ifPassed, setUpOf, transmits, tableAfterSlot, tableAfterOff, tableAfterRestart, restartOf}

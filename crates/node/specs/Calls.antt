@@ -22,8 +22,6 @@ use Rattle.node_record.specs.declared.Node.{Node}
 use Rattle.node_record.specs.declared.State.the-variants.{Out}
 use Rattle.node_record.specs.States.{isOut, leavingCause}
 use Rattle.node_record.specs.Soundness.{sound, limit}
-use Rattle.node.specs.declared.Stepped.{Stepped}
-use Rattle.node.specs.declared.Counted.{Counted}
 use Rattle.node.specs.declared.Answer.{Answer}
 use Rattle.node.specs.declared.Answer.the-variants.{Done, Refused}
 use Rattle.node_changes.specs.Changes.{noWindow, starting, outFor, fresh, counted}
@@ -32,6 +30,16 @@ use Rattle.node_sending.specs.Sending.{sends, bitsSent, returnSent, jobsSent}
 use Rattle.node_slot.specs.Slot.{afterSlot}
 
 -- ---- the answers
+
+-- The record after a call, and what came of the call.
+pub record Stepped : Type 0 where
+  pub node : Node
+  pub answer : Answer
+
+-- With the counts of failure reports (document 02, h).
+pub record Counted : Type 0 where
+  pub stepped : Stepped
+  pub counts : Counts
 
 -- A call that was made.
 abbrev pub done : Node → Stepped

@@ -1,10 +1,11 @@
-// The calls on a node record (document 01): set-up, one slot, sending, off and restart. A record
-// goes in by value and comes back beside the answer; every record is taken, and one that is not
-// sound is refused.
+// The calls on a node record (document 01): set-up, one slot, sending, off and restart. A record is
+// held with its set as a row (document 02, request l). It goes in by value and comes back beside the
+// answer; every record is taken, and one that is not sound is refused.
 use message::Reading;
 use message::Received;
 use message::Written;
 use node_record::Cause;
+use node_record::Held;
 use node_record::Node;
 use node_record::State;
 use node_record::Window;
@@ -12,11 +13,15 @@ use refusal::Refusal;
 use ring::Cable;
 use ring::Choices;
 use ring::Speaker;
+use row::Row;
 ghost use mathlib.Core.Path.{_≡_};
 ghost use mathlib.Core.Bool.{true};
 ghost use Rattle.ring.specs.Ring.{ringSize};
 ghost use Rattle.node_steps.specs.Steps.{isHeard};
-ghost use Rattle.node.specs.Calls.{isDone, itsTurn, setUpOf, startOf, stepOf, hearsReport, reporterIn, countedOf, slotOf, sendOf, offOf, restartOf, withCounts};
+ghost use Rattle.node_record.specs.Held.{rowed, setted};
+ghost use Rattle.node.specs.Calls.{isDone, itsTurn, noNode, setUpOf, sendOf};
+ghost use Rattle.node.specs.Held.{heldAs, beside, startHeld, offHeld, restartHeld, stepHeld, countedHeld, slotHeld, settedOf};
+ghost use Rattle.node.specs.Inner.{hearsHeld, reporterHeld};
 
 // What came of a call on a record.
 pub enum Answer {
@@ -37,7 +42,7 @@ fn is_done(answer: Answer) -> bool
 // The record after a call; on a refusal it is the record that came, or none of a node where set-up
 // is refused.
 pub struct Stepped {
-    pub node: Node,
+    pub node: Held,
     pub answer: Answer,
 }
 
@@ -47,8 +52,14 @@ pub struct Counted {
     pub counts: [[u64; 8]; 32],
 }
 
+// What came of a conversion to the record of the rules.
+pub struct Converted {
+    pub node: Node,
+    pub answer: Answer,
+}
+
 // A record of no node: it comes with a refused set-up.
-pub const NO_NODE: Node = Node {
+pub const NO_NODE: Held = Held {
     cable: Cable {
         n: 0,
         k: 0,
@@ -59,7 +70,10 @@ pub const NO_NODE: Node = Node {
     own: 0,
     slots: 0,
     state: State::Out(Cause::SwitchedOff),
-    set: 0,
+    row: Row {
+        length: 0,
+        nodes: [0; 32],
+    },
     present: 0,
     returning: 0,
     return_heard: false,
@@ -76,7 +90,7 @@ pub const NO_NODE: Node = Node {
 // The record of node `own` at the common start, where the slot table was given with so many places.
 // Refuses by 1, 16, 2, 14, 17, 18 and 3, in this order.
 fn started(cable: Cable, places: usize, own: u32) -> Stepped
-    ensures { λ r. ⌜ r ≡ setUpOf cable places own ⌝ }
+    ensures { λ r. ⌜ r ≡ heldAs (rowed noNode) (setUpOf cable places own) ⌝ }
 {
     if !ring::may_set_up(cable, places) {
         let cause = ring::fault(cable, places);
@@ -101,7 +115,7 @@ fn started(cable: Cable, places: usize, own: u32) -> Stepped
 // The record of node `own` at the common start, and no reports heard. Refuses by 1, 16, 2, 14, 17, 18 and
 // 3, in this order.
 pub fn set_up(choices: Choices, slots: &[u8], own: u32) -> Counted
-    ensures { λ r. ⌜ r ≡ startOf choices (now (slots .entry)) own ⌝ }
+    ensures { λ r. ⌜ r ≡ startHeld choices (now (slots .entry)) own ⌝ }
 {
     let cable = ring::cable_with(choices, slots);
     let stepped = started(cable, slots.len(), own);
@@ -109,8 +123,8 @@ pub fn set_up(choices: Choices, slots: &[u8], own: u32) -> Counted
 }
 
 // Switches the node off. Refuses by 4.
-pub fn off(v: Node) -> Stepped
-    ensures { λ r. ⌜ r ≡ offOf v ⌝ }
+pub fn off(v: Held) -> Stepped
+    ensures { λ r. ⌜ r ≡ offHeld v ⌝ }
 {
     if !node_record::is_sound(v) {
         return Stepped {
@@ -126,8 +140,8 @@ pub fn off(v: Node) -> Stepped
 }
 
 // Restarts a node that is out: it listens. Refuses by 4 and 11.
-pub fn restart(v: Node) -> Stepped
-    ensures { λ r. ⌜ r ≡ restartOf v ⌝ }
+pub fn restart(v: Held) -> Stepped
+    ensures { λ r. ⌜ r ≡ restartHeld v ⌝ }
 {
     if !node_record::is_sound(v) {
         return Stepped {
@@ -150,8 +164,8 @@ pub fn restart(v: Node) -> Stepped
 }
 
 // The record after a slot in which this was read; any refused reading is nothing heard. Refuses by 4 and 5.
-fn after_step(heard: Reading, v: Node) -> Stepped
-    ensures { λ r. ⌜ r ≡ stepOf heard v ⌝ }
+fn after_step(heard: Reading, v: Held) -> Stepped
+    ensures { λ r. ⌜ r ≡ stepHeld heard v ⌝ }
 {
     if !node_record::is_sound(v) {
         return Stepped {
@@ -176,7 +190,8 @@ fn after_step(heard: Reading, v: Node) -> Stepped
     };
     let mut counted = v;
     counted.slots = v.slots + 1;
-    let digest = node_steps::digest_of(s, heard, cable, v.set);
+    let row = v.row;
+    let digest = node_steps::digest_of(s, heard, cable, row);
     let w = node_slot::after_slot(s, heard, digest, counted);
     Stepped {
         node: w,
@@ -198,16 +213,17 @@ fn is_heard(heard: Reading) -> bool
 }
 
 // Whether a report of the slot's sender counts for the node.
-fn hears_report(s: u32, heard: Reading, v: Node) -> bool
-    ensures { λ r. ⌜ r ≡ hearsReport s heard v ⌝ }
+fn hears_report(s: u32, heard: Reading, v: Held) -> bool
+    ensures { λ r. ⌜ r ≡ hearsHeld s heard v ⌝ }
 {
-    (s != v.own) & (is_heard(heard) & nodeset::has(v.set, s))
+    let row = v.row;
+    (s != v.own) & (is_heard(heard) & row::has(row, s))
 }
 
 // Whose job byte counts in the next slot, 0 for nobody's. Requires a ring's size.
-fn reporter(heard: Reading, v: Node) -> u32
+fn reporter(heard: Reading, v: Held) -> u32
     requires { ⌜ ringSize (v .cable .n) ≡ true ⌝ }
-    ensures { λ r. ⌜ r ≡ reporterIn heard v ⌝ }
+    ensures { λ r. ⌜ r ≡ reporterHeld heard v ⌝ }
 {
     let cable = v.cable;
     let speaker = ring::sender(cable, v.slots);
@@ -223,8 +239,8 @@ fn reporter(heard: Reading, v: Node) -> u32
 
 // One slot, in which the reader found this in the bytes heard; any refused reading is nothing heard.
 // It takes every reading, also one that no bytes give. Refuses by 4 and 5.
-pub fn step(received: Received, v: Node, counts: [[u64; 8]; 32]) -> Counted
-    ensures { λ r. ⌜ r ≡ countedOf received v counts ⌝ }
+pub fn step(received: Received, v: Held, counts: [[u64; 8]; 32]) -> Counted
+    ensures { λ r. ⌜ r ≡ countedHeld received v counts ⌝ }
 {
     if !node_reports::counts_within(counts, v.slots) {
         let refused = Stepped {
@@ -244,16 +260,16 @@ pub fn step(received: Received, v: Node, counts: [[u64; 8]; 32]) -> Counted
 }
 
 // One slot, in which these bytes are heard: none where nothing is. Refuses by 4 and 5.
-pub fn slot(bytes: &[u8], v: Node, counts: [[u64; 8]; 32]) -> Counted
-    ensures { λ r. ⌜ r ≡ slotOf (now (bytes .entry)) v counts ⌝ }
+pub fn slot(bytes: &[u8], v: Held, counts: [[u64; 8]; 32]) -> Counted
+    ensures { λ r. ⌜ r ≡ slotHeld (now (bytes .entry)) v counts ⌝ }
 {
     step(message::read(v.cable.k, v.cable.m, bytes), v, counts)
 }
 
 // Whether the next slot is this node's and it sends there. An inner function: requires a ring's size.
-fn its_turn(v: Node) -> bool
+fn its_turn(v: Held) -> bool
     requires { ⌜ ringSize (v .cable .n) ≡ true ⌝ }
-    ensures { λ r. ⌜ r ≡ itsTurn v ⌝ }
+    ensures { λ r. ⌜ r ≡ itsTurn (setted v) ⌝ }
 {
     let cable = v.cable;
     let speaker = ring::sender(cable, v.slots);
@@ -267,8 +283,8 @@ fn its_turn(v: Node) -> bool
 // Writes what the node sends in the next slot, if that is its own, with this job byte, to the start of
 // out, and leaves the bytes after it. Refuses by 4, 5, 8, 10 and 9, in this order, and then writes
 // nothing.
-pub fn send(v: Node, jobs: u8, out: &mut [u8]) -> Written
-    ensures { λ r. ⌜ (r, now (out .exit)) ≡ sendOf v jobs (now (out .entry)) ⌝ }
+pub fn send(v: Held, jobs: u8, out: &mut [u8]) -> Written
+    ensures { λ r. ⌜ (r, now (out .exit)) ≡ sendOf (setted v) jobs (now (out .entry)) ⌝ }
 {
     if !node_record::is_sound(v) {
         return Written::Refused(Refusal::Unsound);
@@ -294,7 +310,7 @@ pub fn send(v: Node, jobs: u8, out: &mut [u8]) -> Written
 
 // A stepped record with its counts beside it.
 pub fn with_counts(stepped: Stepped, counts: [[u64; 8]; 32]) -> Counted
-    ensures { λ r. ⌜ r ≡ withCounts stepped counts ⌝ }
+    ensures { λ r. ⌜ r ≡ beside stepped counts ⌝ }
 {
     Counted { stepped, counts }
 }
@@ -304,4 +320,65 @@ pub fn counts_of(c: Counted) -> [[u64; 8]; 32]
     ensures { λ r. ⌜ r ≡ c .counts ⌝ }
 {
     c.counts
+}
+
+// ---- the record of the rules
+
+// A record of no node, with a set: it comes with a refused conversion.
+const NO_RECORD: Node = Node {
+    cable: Cable {
+        n: 0,
+        k: 0,
+        m: 0,
+        lag: 0,
+        order: [0; 32],
+    },
+    own: 0,
+    slots: 0,
+    state: State::Out(Cause::SwitchedOff),
+    set: 0,
+    present: 0,
+    returning: 0,
+    return_heard: false,
+    yes_heard: false,
+    listening: Window {
+        done: 0,
+        heard: 0,
+        shortest: 0,
+        return_seen: false,
+        last: 0,
+    },
+};
+
+// The record that a held one stands for (`node_record::as_row` is the way back). Refuses by 4.
+pub fn as_set(v: Held) -> Converted
+    ensures { λ r. ⌜ r ≡ settedOf v ⌝ }
+{
+    if !node_record::is_sound(v) {
+        return Converted {
+            node: NO_RECORD,
+            answer: Answer::Refused(Refusal::Unsound),
+        };
+    }
+    let cable = v.cable;
+    let state = v.state;
+    let row = v.row;
+    let set = row::nodes_in(row);
+    let listening = v.listening;
+    let node = Node {
+        cable,
+        own: v.own,
+        slots: v.slots,
+        state,
+        set,
+        present: v.present,
+        returning: v.returning,
+        return_heard: v.return_heard,
+        yes_heard: v.yes_heard,
+        listening,
+    };
+    Converted {
+        node,
+        answer: Answer::Done,
+    }
 }

@@ -1,14 +1,20 @@
-// A record as the first bytes of a block.
+// A record as the first bytes of a block: the record of the rules, and the record as it is held, which has
+// its row's length where that one has its set, and its row's places after all else.
 use node_record::Cause;
+use node_record::Held;
 use node_record::Node;
 use node_record::State;
 use node_record::Window;
 use ring::Cable;
+use row::Row;
 use run_io::block;
 use run_io::block::Block;
 
-// How many bytes a record is.
-pub const RECORD: u8 = 92;
+// How many bytes a record is as it is held.
+pub const RECORD: u8 = 124;
+
+// How many bytes a record of the rules is.
+pub const RULES: u8 = 92;
 
 fn state_of(number: u8) -> State {
     match number {
@@ -99,11 +105,14 @@ fn set_window(bytes: &mut Block, window: Window) {
     block::set_word(bytes, 47, window.last);
 }
 
-fn set_order(bytes: &mut Block, order: [u8; 32]) {
-    let mut i = 0;
-    while i < 32 {
-        bytes[i + 60] = order[i];
-        i += 1;
+// 32 places, from this byte on; none where there are not so many bytes.
+fn set_places(bytes: &mut Block, at: usize, places: [u8; 32]) {
+    if at <= 223 {
+        let mut i = 0;
+        while i < 32 {
+            bytes[i + at] = places[i];
+            i += 1;
+        }
     }
 }
 
@@ -113,7 +122,7 @@ fn set_cable(bytes: &mut Block, cable: Cable) {
     block::set_word(bytes, 4, cable.k);
     block::set_word(bytes, 52, cable.m);
     block::set_word(bytes, 56, cable.lag);
-    set_order(bytes, order);
+    set_places(bytes, 60, order);
 }
 
 pub fn set_node(bytes: &mut Block, node: Node) {
@@ -130,4 +139,53 @@ pub fn set_node(bytes: &mut Block, node: Node) {
     bytes[33] = if node.return_heard { 1 } else { 0 };
     bytes[51] = if node.yes_heard { 1 } else { 0 };
     set_window(bytes, window);
+}
+
+fn row_of(bytes: &Block) -> Row {
+    let nodes = slot_table::kept(between(bytes, 92, 124));
+    Row {
+        length: block::word(bytes, 21),
+        nodes,
+    }
+}
+
+pub fn held_of(bytes: &Block) -> Held {
+    let node = node_of(bytes);
+    let cable = node.cable;
+    let state = node.state;
+    let row = row_of(bytes);
+    let listening = node.listening;
+    Held {
+        cable,
+        own: node.own,
+        slots: node.slots,
+        state,
+        row,
+        present: node.present,
+        returning: node.returning,
+        return_heard: node.return_heard,
+        yes_heard: node.yes_heard,
+        listening,
+    }
+}
+
+pub fn set_held(bytes: &mut Block, held: Held) {
+    let cable = held.cable;
+    let state = held.state;
+    let listening = held.listening;
+    let places = held.row.nodes;
+    let node = Node {
+        cable,
+        own: held.own,
+        slots: held.slots,
+        state,
+        set: held.row.length,
+        present: held.present,
+        returning: held.returning,
+        return_heard: held.return_heard,
+        yes_heard: held.yes_heard,
+        listening,
+    };
+    set_node(bytes, node);
+    set_places(bytes, 92, places);
 }

@@ -3,7 +3,7 @@ use crate::bytes;
 use message::Written;
 use node::Answer;
 use node::Counted;
-use node_record::Node;
+use node_record::Held;
 use ring::Choices;
 use run_io::block;
 use run_io::block::Block;
@@ -26,7 +26,7 @@ fn kept(record: &mut Block, counts: &mut [[u64; 8]; 32], counted: Counted) -> u3
     let answer = stepped.answer;
     match answer {
         Answer::Done => {
-            bytes::set_node(record, node);
+            bytes::set_held(record, node);
             *counts = node::counts_of(counted);
             0
         }
@@ -54,7 +54,7 @@ fn set_up(arguments: &Block, size: u8) -> Counted {
     node::set_up(Choices { n, k, m, lag }, slots, own)
 }
 
-fn send_into(node: Node, jobs: u8, out: &mut [u8], room: usize) -> Written {
+fn send_into(node: Held, jobs: u8, out: &mut [u8], room: usize) -> Written {
     if room <= out.len() {
         node::send(node, jobs, &mut out[0..room])
     } else {
@@ -67,7 +67,7 @@ fn send_into(node: Node, jobs: u8, out: &mut [u8], room: usize) -> Written {
 fn send(record: &Block, out: &mut Block, room: u8) -> Outcome {
     let jobs = out[0];
     out[0] = 0xA5;
-    let written = send_into(bytes::node_of(record), jobs, out, room as usize);
+    let written = send_into(bytes::held_of(record), jobs, out, room as usize);
     match written {
         Written::Bytes(n) => Outcome { number: 0, sent: n },
         Written::Refused(refusal) => Outcome {
@@ -84,7 +84,7 @@ fn counted(
     letter: u8,
     size: u8,
 ) -> Counted {
-    let node = bytes::node_of(record);
+    let node = bytes::held_of(record);
     match letter {
         b'U' => set_up(arguments, size),
         b'S' => node::slot(bytes::between(arguments, 0, size as usize), node, *counts),
@@ -93,8 +93,25 @@ fn counted(
     }
 }
 
-// Carries a command out. What it hears or loads, and where it sends, are the first bytes of `block`.
-// A refused command leaves every byte of the record and every count.
+// The record of the rules that the record stands for goes into the start of `out`.
+fn as_set(record: &Block, out: &mut Block) -> u32 {
+    let converted = node::as_set(bytes::held_of(record));
+    let node = converted.node;
+    let answer = converted.answer;
+    bytes::set_node(out, node);
+    match answer {
+        Answer::Done => 0,
+        Answer::Refused(cause) => refusal::number(cause),
+    }
+}
+
+// The record becomes what holds this record of the rules.
+fn as_row(record: &mut Block, rules: &Block) {
+    bytes::set_held(record, node_record::as_row(bytes::node_of(rules)));
+}
+
+// Carries a command out. What it hears or loads, and where it sends or puts the record of the rules, are
+// the first bytes of `block`. A refused command leaves every byte of the record and every count.
 pub fn call(
     record: &mut Block,
     counts: &mut [[u64; 8]; 32],
@@ -110,6 +127,14 @@ pub fn call(
             *record = *block;
             Outcome { number: 0, sent: 0 }
         }
+        b'H' => {
+            as_row(record, block);
+            Outcome { number: 0, sent: 0 }
+        }
+        b'A' => Outcome {
+            number: as_set(record, block),
+            sent: 0,
+        },
         b'T' => send(record, block, size),
         _ => Outcome {
             number: kept(record, counts, counted(record, counts, block, letter, size)),

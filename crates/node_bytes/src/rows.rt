@@ -1,24 +1,24 @@
 // 32 records as rows: one of them loaded, and all of them put out as bytes.
 use crate::bytes;
-use node_record::Node;
+use node_record::Held;
 use run_io::output;
 
 // A row that there is not stays as it is.
-pub fn loaded(rows: [Node; 32], row: usize, node: Node) -> [Node; 32] {
+pub fn loaded(rows: [Held; 32], row: usize, record: Held) -> [Held; 32] {
     let mut rows = rows;
     if row < 32 {
-        rows[row] = node;
+        rows[row] = record;
     }
     rows
 }
 
-fn put_row(output: &mut [u8; 4096], held: usize, row: Node) -> usize {
+fn put_row(output: &mut [u8; 4096], held: usize, row: Held) -> usize {
     let mut record = [0u8; 255];
-    bytes::set_node(&mut record, row);
+    bytes::set_held(&mut record, row);
     output::put_block(output, held, &record, bytes::RECORD)
 }
 
-pub fn put_rows(output: &mut [u8; 4096], held: usize, rows: [Node; 32]) -> usize {
+pub fn put_rows(output: &mut [u8; 4096], held: usize, rows: [Held; 32]) -> usize {
     let mut held = held;
     let mut i = 0;
     while i < 32 {

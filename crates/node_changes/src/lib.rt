@@ -1,13 +1,14 @@
-// Node records made anew: whole ones, and copies with a field changed. An inner layer: it takes
+// Held records made anew: whole ones, and copies with a field changed. An inner layer: it takes
 // every record as it is; the calls of `node` test records first.
 use node_record::Cause;
-use node_record::Node;
+use node_record::Held;
 use node_record::State;
 use node_record::Window;
 use node_record::is_member;
 use ring::Cable;
+use row::Row;
 ghost use mathlib.Core.Path.{_≡_};
-ghost use Rattle.node_changes.specs.Changes.{starting, outFor, listeningAfter, fresh, followingWith, leave, withSet, withMarks, withReturning, withWindow};
+ghost use Rattle.node_changes.specs.Held.{starting, outFor, listeningAfter, fresh, followingWith, leave, withRow, withMarks, withReturning, withWindow};
 
 // Listening data of a node that does not listen.
 const NO_WINDOW: Window = Window {
@@ -19,17 +20,19 @@ const NO_WINDOW: Window = Window {
 };
 
 // A member of a full set, all marks on.
-pub fn starting(cable: Cable, own: u32) -> Node
+pub fn starting(cable: Cable, own: u32) -> Held
     ensures { λ r. ⌜ r ≡ starting cable own ⌝ }
 {
+    let order = cable.order;
     let all = nodeset::full(cable.n);
+    let row = row::as_row(order, all);
     let w = NO_WINDOW;
-    Node {
+    Held {
         cable,
         own,
         slots: 0,
         state: State::Member,
-        set: all,
+        row,
         present: all,
         returning: 0,
         return_heard: false,
@@ -39,17 +42,18 @@ pub fn starting(cable: Cable, own: u32) -> Node
 }
 
 // Out for a cause.
-pub fn out_for(cause: Cause, v: Node) -> Node
+pub fn out_for(cause: Cause, v: Held) -> Held
     ensures { λ r. ⌜ r ≡ outFor cause v ⌝ }
 {
     let cable = v.cable;
+    let row = row::empty();
     let w = NO_WINDOW;
-    Node {
+    Held {
         cable,
         own: v.own,
         slots: v.slots,
         state: State::Out(cause),
-        set: 0,
+        row,
         present: 0,
         returning: 0,
         return_heard: false,
@@ -59,7 +63,7 @@ pub fn out_for(cause: Cause, v: Node) -> Node
 }
 
 // Listening with no slot done, after a last clean window with these nodes.
-pub fn listening_after(last: u32, v: Node) -> Node
+pub fn listening_after(last: u32, v: Held) -> Held
     ensures { λ r. ⌜ r ≡ listeningAfter last v ⌝ }
 {
     let cable = v.cable;
@@ -70,12 +74,13 @@ pub fn listening_after(last: u32, v: Node) -> Node
         return_seen: false,
         last,
     };
-    Node {
+    let row = row::empty();
+    Held {
         cable,
         own: v.own,
         slots: v.slots,
         state: State::Listening,
-        set: 0,
+        row,
         present: 0,
         returning: 0,
         return_heard: false,
@@ -85,24 +90,26 @@ pub fn listening_after(last: u32, v: Node) -> Node
 }
 
 // Listening afresh.
-pub fn fresh(v: Node) -> Node
+pub fn fresh(v: Held) -> Held
     ensures { λ r. ⌜ r ≡ fresh v ⌝ }
 {
     listening_after(0, v)
 }
 
 // Following with a set, all of it marked.
-pub fn following_with(set: u32, v: Node) -> Node
+pub fn following_with(set: u32, v: Held) -> Held
     ensures { λ r. ⌜ r ≡ followingWith set v ⌝ }
 {
     let cable = v.cable;
+    let order = cable.order;
+    let row = row::as_row(order, set);
     let w = NO_WINDOW;
-    Node {
+    Held {
         cable,
         own: v.own,
         slots: v.slots,
         state: State::Following,
-        set,
+        row,
         present: set,
         returning: 0,
         return_heard: false,
@@ -112,7 +119,7 @@ pub fn following_with(set: u32, v: Node) -> Node
 }
 
 // A node that must leave.
-pub fn leave(cause: Cause, v: Node) -> Node
+pub fn leave(cause: Cause, v: Held) -> Held
     ensures { λ r. ⌜ r ≡ leave cause v ⌝ }
 {
     let state = v.state;
@@ -122,17 +129,17 @@ pub fn leave(cause: Cause, v: Node) -> Node
     fresh(v)
 }
 
-// The record with another set.
-pub fn with_set(set: u32, v: Node) -> Node
-    ensures { λ r. ⌜ r ≡ withSet set v ⌝ }
+// The record with another row.
+pub fn with_row(row: Row, v: Held) -> Held
+    ensures { λ r. ⌜ r ≡ withRow row v ⌝ }
 {
     let mut w = v;
-    w.set = set;
+    w.row = row;
     w
 }
 
 // The record with other marks, another yes heard and another return heard.
-pub fn with_marks(present: u32, assured: bool, heard: bool, v: Node) -> Node
+pub fn with_marks(present: u32, assured: bool, heard: bool, v: Held) -> Held
     ensures { λ r. ⌜ r ≡ withMarks present assured heard v ⌝ }
 {
     let mut w = v;
@@ -143,17 +150,18 @@ pub fn with_marks(present: u32, assured: bool, heard: bool, v: Node) -> Node
 }
 
 // The record in a state, with another returning node.
-pub fn with_returning(state: State, r: u32, v: Node) -> Node
+pub fn with_returning(state: State, r: u32, v: Held) -> Held
     ensures { λ w. ⌜ w ≡ withReturning state r v ⌝ }
 {
     let cable = v.cable;
+    let row = v.row;
     let window = v.listening;
-    Node {
+    Held {
         cable,
         own: v.own,
         slots: v.slots,
         state,
-        set: v.set,
+        row,
         present: v.present,
         returning: r,
         return_heard: v.return_heard,
@@ -163,7 +171,7 @@ pub fn with_returning(state: State, r: u32, v: Node) -> Node
 }
 
 // The record with other listening data.
-pub fn with_window(window: Window, v: Node) -> Node
+pub fn with_window(window: Window, v: Held) -> Held
     ensures { λ r. ⌜ r ≡ withWindow window v ⌝ }
 {
     let mut w = v;

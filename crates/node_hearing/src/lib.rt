@@ -1,11 +1,12 @@
-// One slot for a listening node. An inner layer: it takes every record as it is; the calls of
-// `node` test records first.
+// One slot for a listening node, by its held record. An inner layer: it takes every record as it is;
+// the calls of `node` test records first.
 use message::Reading;
-use node_record::Node;
+use node_record::Held;
 use node_record::Window;
 use ring::Cable;
 ghost use mathlib.Core.Path.{_≡_};
-ghost use Rattle.node_hearing.specs.Hearing.{overheard, withDone, clean, windowEnd, listeningBy};
+ghost use Rattle.node_hearing.specs.Hearing.{overheard, withDone, clean};
+ghost use Rattle.node_hearing.specs.Held.{windowEnd, listeningBy};
 
 // The window with one more slot of it, and this count of slots done.
 fn overheard(s: u32, heard: Reading, done: u32, w: Window) -> Window
@@ -42,7 +43,7 @@ fn clean(cable: Cable, w: Window) -> bool
     (2 <= count) & (!w.return_seen & (ring::ks(cable, count) <= w.shortest))
 }
 
-fn window_end(w: Window, v: Node) -> Node
+fn window_end(w: Window, v: Held) -> Held
     ensures { λ r. ⌜ r ≡ windowEnd w v ⌝ }
 {
     let cable = v.cable;
@@ -56,7 +57,7 @@ fn window_end(w: Window, v: Node) -> Node
 }
 
 // One slot of a listening node, to which nothing may be handed over in its own slot. A window that has n slots done already ends, whatever its count.
-pub fn listening_slot(s: u32, heard: Reading, v: Node) -> Node
+pub fn listening_slot(s: u32, heard: Reading, v: Held) -> Held
     ensures { λ r. ⌜ r ≡ listeningBy s heard v ⌝ }
 {
     let before = v.listening;

@@ -1,3 +1,4 @@
 pub mod Causes
 pub mod Facts
 pub mod Tracking
+pub mod Holding

@@ -1,3 +1,5 @@
 pub mod States
 pub mod Soundness
 pub mod Sponsoring
+pub mod Held
+pub mod Inner

@@ -1,9 +1,13 @@
-// The node record (document 01, "The node record"): what it holds, and when it is sound. An inner
-// layer: it takes every record as it is.
+// The node record (document 01, "The node record"): what it holds, and when it is sound. The rules
+// speak of a record with a set (`Node`); what is held has the set as a row (`Held`, document 02, request
+// l), and stands for such a record. An inner layer: it takes every record as it is.
 use ring::Cable;
+use row::Row;
 ghost use mathlib.Core.Path.{_≡_};
 ghost use Rattle.node_record.specs.States.{isMember, isListening, isFollowing, isKnocking, isOut};
-ghost use Rattle.node_record.specs.Soundness.{numbersSound, setsSound, returningSound, ownSound, knockSound, emptySound, heardSound, yesSound, windowInRange, windowEmpty, windowSound, enoughSound, sound};
+ghost use Rattle.node_record.specs.Soundness.{numbersSound, knockSound, heardSound, yesSound, windowInRange, windowEmpty, windowSound, sound};
+ghost use Rattle.node_record.specs.Held.{rowed, setted};
+ghost use Rattle.node_record.specs.Inner.{setsHeld, returningHeld, ownHeld, emptyHeld, enoughHeld};
 
 // Why a node is out.
 pub enum Cause {
@@ -31,12 +35,27 @@ pub struct Window {
     pub last: u32,
 }
 
+// The record of the rules.
 pub struct Node {
     pub cable: Cable,
     pub own: u32,
     pub slots: u64,
     pub state: State,
     pub set: u32,
+    pub present: u32,
+    pub returning: u32,
+    pub return_heard: bool,
+    pub yes_heard: bool,
+    pub listening: Window,
+}
+
+// The record as it is held: its set as a row.
+pub struct Held {
+    pub cable: Cable,
+    pub own: u32,
+    pub slots: u64,
+    pub state: State,
+    pub row: Row,
     pub present: u32,
     pub returning: u32,
     pub return_heard: bool,
@@ -107,60 +126,90 @@ pub fn is_out(state: State) -> bool
     }
 }
 
-// ---- soundness: a function for each clause. Cheap tests are all made, with no branch; members are
-// counted only where the state asks for it.
+// ---- conversion
 
-fn numbers_sound(v: Node) -> bool
-    ensures { λ r. ⌜ r ≡ numbersSound v ⌝ }
+// What holds the record of the rules.
+pub fn as_row(v: Node) -> Held
+    ensures { λ r. ⌜ r ≡ rowed v ⌝ }
+{
+    let cable = v.cable;
+    let order = cable.order;
+    let state = v.state;
+    let row = row::as_row(order, v.set);
+    let listening = v.listening;
+    Held {
+        cable,
+        own: v.own,
+        slots: v.slots,
+        state,
+        row,
+        present: v.present,
+        returning: v.returning,
+        return_heard: v.return_heard,
+        yes_heard: v.yes_heard,
+        listening,
+    }
+}
+
+// ---- soundness: a function for each clause.
+
+fn numbers_sound(v: Held) -> bool
+    ensures { λ r. ⌜ r ≡ numbersSound (setted v) ⌝ }
 {
     let cable = v.cable;
     ring::cable_fits(cable) & (ring::is_node_number(cable.n, v.own) & (v.slots <= LIMIT))
 }
 
-// Marks that are in the set hold only numbers that the set holds.
-fn sets_sound(v: Node) -> bool
-    ensures { λ r. ⌜ r ≡ setsSound v ⌝ }
+fn sets_sound(v: Held) -> bool
+    ensures { λ r. ⌜ r ≡ setsHeld v ⌝ }
 {
-    nodeset::is_within(v.cable.n, v.set) & nodeset::is_subset(v.present, v.set)
+    let cable = v.cable;
+    let order = cable.order;
+    let row = v.row;
+    row::is_sound(cable.n, order, row)
+        & (nodeset::is_within(cable.n, v.present)
+            & nodeset::is_subset(v.present, row::nodes_in(row)))
 }
 
-fn returning_sound(v: Node) -> bool
-    ensures { λ r. ⌜ r ≡ returningSound v ⌝ }
+fn returning_sound(v: Held) -> bool
+    ensures { λ r. ⌜ r ≡ returningHeld v ⌝ }
 {
-    (v.returning <= v.cable.n) & !nodeset::has(v.set, v.returning)
+    let row = v.row;
+    (v.returning <= v.cable.n) & !row::has(row, v.returning)
 }
 
-fn own_sound(v: Node) -> bool
-    ensures { λ r. ⌜ r ≡ ownSound v ⌝ }
+fn own_sound(v: Held) -> bool
+    ensures { λ r. ⌜ r ≡ ownHeld v ⌝ }
 {
     let state = v.state;
-    is_member(state) == nodeset::has(v.set, v.own)
+    let row = v.row;
+    is_member(state) == row::has(row, v.own)
 }
 
-fn knock_sound(v: Node) -> bool
-    ensures { λ r. ⌜ r ≡ knockSound v ⌝ }
+fn knock_sound(v: Held) -> bool
+    ensures { λ r. ⌜ r ≡ knockSound (setted v) ⌝ }
 {
     let state = v.state;
     is_knocking(state) == (v.returning == v.own)
 }
 
-fn empty_sound(v: Node) -> bool
-    ensures { λ r. ⌜ r ≡ emptySound v ⌝ }
+fn empty_sound(v: Held) -> bool
+    ensures { λ r. ⌜ r ≡ emptyHeld v ⌝ }
 {
     let state = v.state;
     let away = is_listening(state) | is_out(state);
-    !away | ((v.set == 0) & ((v.present == 0) & (v.returning == 0)))
+    !away | ((v.row.length == 0) & ((v.present == 0) & (v.returning == 0)))
 }
 
-fn heard_sound(v: Node) -> bool
-    ensures { λ r. ⌜ r ≡ heardSound v ⌝ }
+fn heard_sound(v: Held) -> bool
+    ensures { λ r. ⌜ r ≡ heardSound (setted v) ⌝ }
 {
     let state = v.state;
     !v.return_heard | is_knocking(state)
 }
 
-fn yes_sound(v: Node) -> bool
-    ensures { λ r. ⌜ r ≡ yesSound v ⌝ }
+fn yes_sound(v: Held) -> bool
+    ensures { λ r. ⌜ r ≡ yesSound (setted v) ⌝ }
 {
     let state = v.state;
     !v.yes_heard | is_member(state)
@@ -186,18 +235,18 @@ fn window_empty(w: Window) -> bool
     (w.done == 0) & ((w.heard == 0) & ((w.shortest == 0) & (!w.return_seen & (w.last == 0))))
 }
 
-fn enough_sound(v: Node) -> bool
-    ensures { λ r. ⌜ r ≡ enoughSound v ⌝ }
+fn enough_sound(v: Held) -> bool
+    ensures { λ r. ⌜ r ≡ enoughHeld v ⌝ }
 {
     let state = v.state;
     if is_following(state) | is_knocking(state) {
-        return 2 <= nodeset::size(v.cable.n, v.set);
+        return 2 <= v.row.length;
     }
     true
 }
 
-fn window_sound(v: Node) -> bool
-    ensures { λ r. ⌜ r ≡ windowSound v ⌝ }
+fn window_sound(v: Held) -> bool
+    ensures { λ r. ⌜ r ≡ windowSound (setted v) ⌝ }
 {
     let state = v.state;
     let cable = v.cable;
@@ -209,8 +258,8 @@ fn window_sound(v: Node) -> bool
 }
 
 // Whether the record is sound.
-pub fn is_sound(v: Node) -> bool
-    ensures { λ r. ⌜ r ≡ sound v ⌝ }
+pub fn is_sound(v: Held) -> bool
+    ensures { λ r. ⌜ r ≡ sound (setted v) ⌝ }
 {
     numbers_sound(v)
         & (sets_sound(v)

@@ -9,14 +9,16 @@
 //   F                              off
 //   R                              restart
 //   L record                       the record becomes this one; no answer
+//   H rules                        the record becomes what holds this record of the rules
+//   A                              the record of the rules that the record stands for
 //   C row job count                this count becomes that (eight bytes); rows are 0 to 31 and jobs 0 to
 //                                  7, a byte each, and any other leaves all counts; no answer
 //   K                              the counts
 //
-// U, S, F and R are answered by a byte, 0 or the refusal's number, and the record; T by such a byte,
-// the number of bytes written, and the whole buffer; K by all counts, 32 rows of 8, eight bytes each.
-// A U or S that is refused leaves record and counts. Any other byte ends the run. Before the first
-// command all counts are 0.
+// U, S, F, R and H are answered by a byte, 0 or the refusal's number, and the record; A by such a byte and
+// the record of the rules; T by such a byte, the number of bytes written, and the whole buffer; K by all
+// counts, 32 rows of 8, eight bytes each. A U or S that is refused leaves record and counts, and A always
+// does. Any other byte ends the run. Before the first command all counts are 0.
 use node_bytes::bytes;
 use node_bytes::calls;
 use node_bytes::calls::Outcome;
@@ -35,7 +37,7 @@ struct Command {
 
 fn is_command(letter: u8) -> bool {
     match letter {
-        b'U' | b'S' | b'T' | b'F' | b'R' | b'L' | b'C' | b'K' => true,
+        b'U' | b'S' | b'T' | b'F' | b'R' | b'L' | b'H' | b'A' | b'C' | b'K' => true,
         _ => false,
     }
 }
@@ -75,6 +77,7 @@ fn body(letter: u8, size: u8) -> u8 {
         b'S' => size,
         b'T' => 1,
         b'L' => bytes::RECORD,
+        b'H' => bytes::RULES,
         b'C' => 10,
         _ => 0,
     }
@@ -94,9 +97,10 @@ fn read(input: &mut [u8; 4096], left: Unread, block: &mut Block) -> Command {
     }
 }
 
-fn answer(output: &mut [u8; 4096], held: usize, record: &Block, number: u8) -> usize {
-    let held = output::put(output, held, number);
-    output::put_block(output, held, record, bytes::RECORD)
+// The number, and the first `length` bytes of a record.
+fn answer(output: &mut [u8; 4096], held: usize, number: u32, record: &Block, length: u8) -> usize {
+    let held = output::put(output, held, (number % 256) as u8);
+    output::put_block(output, held, record, length)
 }
 
 fn answer_to_send(
@@ -124,8 +128,9 @@ fn run_call(
     let outcome = calls::call(record, counts, block, letter, size);
     match letter {
         b'L' => held,
+        b'A' => answer(output, held, outcome.number, block, bytes::RULES),
         b'T' => answer_to_send(output, held, block, size, outcome),
-        _ => answer(output, held, record, (outcome.number % 256) as u8),
+        _ => answer(output, held, outcome.number, record, bytes::RECORD),
     }
 }
 

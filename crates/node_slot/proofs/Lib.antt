@@ -1,3 +1,4 @@
 pub mod Read
 pub mod Digests
 pub mod Sound
+pub mod Holding

@@ -9,9 +9,8 @@ use Rattle.node_record.specs.declared.Node.{Node}
 use Rattle.node_record.specs.declared.State.{State}
 use Rattle.node_record.specs.declared.State.the-variants.{Member, Listening, Following, Knocking, Out}
 use Rattle.node_record.specs.States.{isOut, isListening}
-use Rattle.node_steps.specs.declared.Digest.{Digest}
 use Rattle.node_steps.specs.Inner.{slotByCases}
-use Rattle.node_steps.specs.Digests.{trackingBy}
+use Rattle.node_steps.specs.Digests.{Digest, trackingBy}
 use Rattle.node_hearing.specs.Hearing.{listeningBy}
 
 -- What is heard of the own slot is a refused reading.

@@ -1,2 +1,3 @@
 pub mod Slot
 pub mod Inner
+pub mod Held

@@ -27,10 +27,9 @@ use Rattle.node_record.specs.Sponsoring.{sponsorsIn, sponsoredIn, decidedIn}
 use Rattle.node_changes.specs.Changes.{leave, withSet}
 use Rattle.node_steps.specs.declared.Said.{Said}
 use Rattle.node_steps.specs.declared.Effect.{Effect}
-use Rattle.node_steps.specs.declared.Departure.{Departure}
 use Rattle.node_steps.specs.Steps.{isHeard, returnIn, confirmed, saysSo, says, hearsNo, hearsYes, heardMarks, marksAfter, yesAfter, noted, leaves, settle}
 use Rattle.node_steps.specs.Inner.{readMarked, departing, insideSlot, outsideSlot, slotByCases}
-use Rattle.node_steps.specs.Digests.{bitsHeard, answered, saidOf, digestOf, saidBy, decidedBy, marksBy, heardEffect, effectOf, notedBy, staysOn, departures, departingBy, trackingWith, trackingBy}
+use Rattle.node_steps.specs.Digests.{Departure, bitsHeard, answered, saidOf, digestOf, saidBy, decidedBy, marksBy, heardEffect, effectOf, notedBy, staysOn, departures, departingBy, trackingWith, trackingBy}
 
 -- ---- what a message says
 

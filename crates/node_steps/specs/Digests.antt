@@ -1,4 +1,4 @@
--- Inner: one slot by what it means to all who hold one set, which is worked out once for all of them. The law in proofs/Digests ties it to specs/Steps.
+-- Inner: one slot by what it means to all who hold one set, which is worked out once for all of them. The law in proofs/Digests ties it to specs/Steps; specs/Held has it on rows, as the code works.
 use Prim.Native.Nat.{ℕ, zero, suc}
 use mathlib.Core.Bool.{Bool, true, false, cond, not, _&&_, _||_}
 use lib.Dec.{eqb}
@@ -14,12 +14,15 @@ use Rattle.node_record.specs.States.{isFollowing, isKnocking}
 use Rattle.node_record.specs.Sponsoring.{decidedIn}
 use Rattle.node_changes.specs.Changes.{leave, withSet, withMarks, withReturning}
 use Rattle.node_steps.specs.declared.Said.{Said}
-use Rattle.node_steps.specs.declared.Digest.{Digest}
 use Rattle.node_steps.specs.declared.Effect.{Effect}
-use Rattle.node_steps.specs.declared.Departure.{Departure}
 use Rattle.node_steps.specs.Steps.{saysSo, settle}
 
 -- ---- the digest
+
+pub record Digest : Type 0 where
+  pub set : ℕ
+  pub said : Said
+  pub decided : ℕ
 
 -- The acknowledgements heard.
 abbrev pub bitsHeard : Reading → ℕ
@@ -96,6 +99,10 @@ decidedWhere inside m = cond inside m 0
 -- Nobody leaves: nobody is decided, or the decided member is marked.
 abbrev pub staysOn : ℕ → Node → Bool
 staysOn m v = eqb m 0 || has (v .present) m
+
+pub record Departure : Type 0 where
+  pub set : ℕ
+  pub left : Bool
 
 -- The set after at most so many departures from a set whose decided member is m, and whether the node itself left.
 unfoldable pub departures : ℕ → ℕ → ℕ → ℕ → Node → Departure

@@ -2,18 +2,19 @@
 // inner layer: it takes every record as it is; the calls of `node` and of the bench test records first.
 use message::Reading;
 use node_record::Cause;
-use node_record::Node;
+use node_record::Held;
 use node_record::State;
 use node_record::is_following;
 use node_record::is_knocking;
 use node_record::is_member;
 use ring::Cable;
-use ring::Found;
+use row::Row;
 ghost use mathlib.Core.Path.{_≡_};
-ghost use lib.Dec.{eqb};
-ghost use Rattle.ring.specs.Ring.{memberIn, isFound};
-ghost use Rattle.node_steps.specs.Steps.{tooFew, nothingHeard, joins, stateOnList, joined, join, settle};
-ghost use Rattle.node_steps.specs.Digests.{bitsHeard, saidOf, digestOf, saidBy, marksBy, decidedBy, heardEffect, unheardMarks, unheardEffect, effectOf, markedBy, notedBy, takenBy, decidedWhere, staysOn, departures, trackingBy};
+ghost use Rattle.row.specs.Inner.{sameRow};
+ghost use Rattle.node_record.specs.Held.{setted};
+ghost use Rattle.node_steps.specs.Steps.{nothingHeard, stateOnList};
+ghost use Rattle.node_steps.specs.Digests.{bitsHeard, marksBy, heardEffect, unheardMarks, unheardEffect, decidedWhere, staysOn};
+ghost use Rattle.node_steps.specs.Held.{saidOf, digestOf, saidBy, decidedBy, effectOf, markedBy, notedBy, takenBy, departures, tooFew, joins, joined, join, settle, trackingBy};
 
 // What a message says: a yes for its sender and for the members that it acknowledges, a no for the
 // other members that its sender sponsors.
@@ -22,10 +23,10 @@ pub struct Said {
     pub no: u32,
 }
 
-// What a slot means to all who hold one set: that set; what the message says; and the member that the
+// What a slot means to all who hold one row: that row; what the message says; and the member that the
 // sender decides, 0 for nobody. It is worked out once for all of them.
 pub struct Digest {
-    pub set: u32,
+    pub row: Row,
     pub said: Said,
     pub decided: u32,
 }
@@ -39,9 +40,9 @@ struct Effect {
     returned: bool,
 }
 
-// What comes of step 3: the set after it, and whether this node is the one that leaves.
+// What comes of step 3: the row after it, and whether this node is the one that leaves.
 struct Departure {
-    set: u32,
+    row: Row,
     left: bool,
 }
 
@@ -60,80 +61,76 @@ fn bits_heard(heard: Reading) -> u32
     }
 }
 
-// What a message says of its sender and of the members that it sponsors, which one walk back takes one
-// after the other.
-fn said_of(s: u32, bits: u32, cable: Cable, set: u32) -> Said
-    ensures { λ r. ⌜ r ≡ saidOf s bits cable set ⌝ }
+// What a message says of its sender and of the members that it sponsors. The sender's place in the row
+// is looked for once; those that it sponsors stand in the places before it.
+fn said_of(s: u32, bits: u32, cable: Cable, row: Row) -> Said
+    ensures { λ r. ⌜ r ≡ saidOf s bits cable row ⌝ }
 {
-    let most = ring::sponsors(cable, set);
-    let mut place = ring::sponsors_from(cable, set, s);
+    let most = row::sponsors(cable, row);
+    let order = cable.order;
+    let rank = row::rank(order, row, s);
+    let here = row::has(row, s);
     let mut yes = nodeset::with(0, s);
     let mut no = 0;
     let mut j = 0;
     while j < most {
         j += 1;
-        place = ring::nearest(cable, set, place);
+        let node = row::back(row, rank, here, j + cable.lag);
         let bit = nodeset::has(bits, j);
-        yes = nodeset::with_if(bit, yes, place.node);
-        no = nodeset::with_if(!bit, no, place.node);
+        yes = nodeset::with_if(bit, yes, node);
+        no = nodeset::with_if(!bit, no, node);
     }
     Said { yes, no }
 }
 
-// The member found; 0 where there is none.
-fn member_in(found: Found) -> u32
-    ensures { λ r. ⌜ r ≡ memberIn found ⌝ }
+// What a slot of s, in which this is heard, means to those who hold the row.
+pub fn digest_of(s: u32, heard: Reading, cable: Cable, row: Row) -> Digest
+    ensures { λ r. ⌜ r ≡ digestOf s heard cable row ⌝ }
 {
-    match found {
-        Found::Member(m, _) => m,
-        Found::Nobody => 0,
-    }
+    let said = said_of(s, bits_heard(heard), cable, row);
+    let decided = row::decided(cable, row, s);
+    Digest { row, said, decided }
 }
 
-// What a slot of s, in which this is heard, means to those who hold the set.
-pub fn digest_of(s: u32, heard: Reading, cable: Cable, set: u32) -> Digest
-    ensures { λ r. ⌜ r ≡ digestOf s heard cable set ⌝ }
+// Whether the digest is that of the node's row.
+fn is_for(digest: Digest, v: Held) -> bool
+    ensures { λ r. ⌜ r ≡ sameRow (digest .row) (v .row) ⌝ }
 {
-    let said = said_of(s, bits_heard(heard), cable, set);
-    let decided = member_in(ring::decided_member(cable, set, s));
-    Digest { set, said, decided }
+    let one = digest.row;
+    let other = v.row;
+    row::same(one, other)
 }
 
-// Whether the digest is that of the node's set.
-fn is_for(digest: Digest, v: Node) -> bool
-    ensures { λ r. ⌜ r ≡ eqb (digest .set) (v .set) ⌝ }
-{
-    digest.set == v.set
-}
-
-// What the message says, by the digest, if it is that of the node's set.
-fn said_by(digest: Digest, s: u32, bits: u32, v: Node) -> Said
+// What the message says, by the digest, if it is that of the node's row.
+fn said_by(digest: Digest, s: u32, bits: u32, v: Held) -> Said
     ensures { λ r. ⌜ r ≡ saidBy digest s bits v ⌝ }
 {
     if is_for(digest, v) {
         return digest.said;
     }
     let cable = v.cable;
-    said_of(s, bits, cable, v.set)
+    let row = v.row;
+    said_of(s, bits, cable, row)
 }
 
-// The member that the sender decides, by the digest, if it is that of the node's set.
-fn decided_by(digest: Digest, s: u32, v: Node) -> u32
+// The member that the sender decides, by the digest, if it is that of the node's row.
+fn decided_by(digest: Digest, s: u32, v: Held) -> u32
     ensures { λ r. ⌜ r ≡ decidedBy digest s v ⌝ }
 {
     if is_for(digest, v) {
         return digest.decided;
     }
     let cable = v.cable;
-    member_in(ring::decided_member(cable, v.set, s))
+    let row = v.row;
+    row::decided(cable, row, s)
 }
 
 // ---- Steps 1 and 2
 
 // The marks after a heard message that says this: a no for the own message takes the own mark, unless
 // a yes was heard before it.
-fn marks_by(said: Said, v: Node) -> u32
-    ensures { λ r. ⌜ r ≡ marksBy said v ⌝ }
+fn marks_by(said: Said, v: Held) -> u32
+    ensures { λ r. ⌜ r ≡ marksBy said (setted v) ⌝ }
 {
     let marks = nodeset::union(v.present, said.yes);
     if nodeset::has(said.no, v.own) & !v.yes_heard {
@@ -143,8 +140,8 @@ fn marks_by(said: Said, v: Node) -> u32
 }
 
 // What a heard message does.
-fn heard_effect(said: Said, returned: bool, v: Node) -> Effect
-    ensures { λ r. ⌜ r ≡ heardEffect said returned v ⌝ }
+fn heard_effect(said: Said, returned: bool, v: Held) -> Effect
+    ensures { λ r. ⌜ r ≡ heardEffect said returned (setted v) ⌝ }
 {
     let yes = nodeset::has(said.yes, v.own);
     Effect {
@@ -157,8 +154,8 @@ fn heard_effect(said: Said, returned: bool, v: Node) -> Effect
 
 // The marks after the own slot: the own one goes on. And after one that is not heard: the sender's
 // goes off.
-fn unheard_marks(s: u32, v: Node) -> u32
-    ensures { λ r. ⌜ r ≡ unheardMarks s v ⌝ }
+fn unheard_marks(s: u32, v: Held) -> u32
+    ensures { λ r. ⌜ r ≡ unheardMarks s (setted v) ⌝ }
 {
     if s == v.own {
         return nodeset::with(v.present, v.own);
@@ -167,8 +164,8 @@ fn unheard_marks(s: u32, v: Node) -> u32
 }
 
 // What a slot does of which nothing is heard, the own one, too.
-fn unheard_effect(s: u32, v: Node) -> Effect
-    ensures { λ r. ⌜ r ≡ unheardEffect s v ⌝ }
+fn unheard_effect(s: u32, v: Held) -> Effect
+    ensures { λ r. ⌜ r ≡ unheardEffect s (setted v) ⌝ }
 {
     Effect {
         heard: false,
@@ -179,7 +176,7 @@ fn unheard_effect(s: u32, v: Node) -> Effect
 }
 
 // What the message does. An unreadable message counts as not heard.
-fn effect_of(digest: Digest, s: u32, heard: Reading, v: Node) -> Effect
+fn effect_of(digest: Digest, s: u32, heard: Reading, v: Held) -> Effect
     ensures { λ r. ⌜ r ≡ effectOf digest s heard v ⌝ }
 {
     let Reading::Heard {
@@ -193,7 +190,7 @@ fn effect_of(digest: Digest, s: u32, heard: Reading, v: Node) -> Effect
 }
 
 // Step 1: the marks, and whether a return bit was heard while knocking.
-fn marked(effect: Effect, v: Node) -> Node
+fn marked(effect: Effect, v: Held) -> Held
     ensures { λ r. ⌜ r ≡ markedBy effect v ⌝ }
 {
     let state = v.state;
@@ -202,7 +199,7 @@ fn marked(effect: Effect, v: Node) -> Node
 }
 
 // Step 2: a knock is noted, or this node knocks.
-fn noted(s: u32, heard: bool, v: Node) -> Node
+fn noted(s: u32, heard: bool, v: Held) -> Held
     ensures { λ r. ⌜ r ≡ notedBy s heard v ⌝ }
 {
     let state = v.state;
@@ -220,7 +217,7 @@ fn noted(s: u32, heard: bool, v: Node) -> Node
 }
 
 // Step 1 where the sender is in the set, step 2 where it is not.
-fn taken(inside: bool, s: u32, effect: Effect, v: Node) -> Node
+fn taken(inside: bool, s: u32, effect: Effect, v: Held) -> Held
     ensures { λ r. ⌜ r ≡ takenBy inside s effect v ⌝ }
 {
     if inside {
@@ -239,73 +236,65 @@ fn decided_where(inside: bool, m: u32) -> u32
 }
 
 // Whether nobody leaves: nobody is decided, or the decided member is marked.
-fn stays_on(m: u32, v: Node) -> bool
-    ensures { λ r. ⌜ r ≡ staysOn m v ⌝ }
+fn stays_on(m: u32, v: Held) -> bool
+    ensures { λ r. ⌜ r ≡ staysOn m (setted v) ⌝ }
 {
     (m == 0) | nodeset::has(v.present, m)
 }
 
-// The departures, with the member that is decided first: on the shortened set the sender may decide
+// The departures, with the member that is decided first: in the shortened row the sender may decide
 // another. At most n members leave.
-fn departures(m: u32, s: u32, v: Node) -> Departure
-    ensures { λ r. ⌜ r ≡ departures (v .cable .n) m s (v .set) v ⌝ }
+fn departures(m: u32, s: u32, v: Held) -> Departure
+    ensures { λ r. ⌜ r ≡ departures (v .cable .n) m s (v .row) v ⌝ }
 {
     let cable = v.cable;
     let mut times = cable.n;
-    let mut set = v.set;
+    let mut row = v.row;
     let mut m = m;
     loop {
         if times == 0 {
-            break Departure { set, left: false };
+            break Departure { row, left: false };
         }
         if stays_on(m, v) {
-            break Departure { set, left: false };
+            break Departure { row, left: false };
         }
         if m == v.own {
-            break Departure { set, left: true };
+            break Departure { row, left: true };
         }
         times -= 1;
-        set = nodeset::without(set, m);
-        m = member_in(ring::decided_member(cable, set, s));
+        row = row::without(row, m);
+        m = row::decided(cable, row, s);
     }
 }
 
 // ---- Steps 4 and 5
 
 // Whether fewer than two members remain for a following or knocking node.
-fn too_few(v: Node) -> bool
+fn too_few(v: Held) -> bool
     ensures { λ r. ⌜ r ≡ tooFew v ⌝ }
 {
     let state = v.state;
-    !is_member(state) & (nodeset::size(v.cable.n, v.set) < 2)
+    !is_member(state) & (v.row.length < 2)
 }
 
 // Step 4: whether no other member is marked.
-fn nothing_heard(v: Node) -> bool
-    ensures { λ r. ⌜ r ≡ nothingHeard v ⌝ }
+fn nothing_heard(v: Held) -> bool
+    ensures { λ r. ⌜ r ≡ nothingHeard (setted v) ⌝ }
 {
     nodeset::size(v.cable.n, nodeset::without(v.present, v.own)) == 0
 }
 
-// Whether the member found is x.
-fn is_found(x: u32, found: Found) -> bool
-    ensures { λ r. ⌜ r ≡ isFound x found ⌝ }
-{
-    match found {
-        Found::Member(m, _) => m == x,
-        Found::Nobody => false,
-    }
-}
-
 // Step 5: whether the sender is the nearest member before the returning node.
-fn joins(s: u32, v: Node) -> bool
+fn joins(s: u32, v: Held) -> bool
     ensures { λ r. ⌜ r ≡ joins s v ⌝ }
 {
     if v.returning == 0 {
         return false;
     }
     let cable = v.cable;
-    is_found(s, ring::member_before(cable, v.set, v.returning, 1))
+    let order = cable.order;
+    let row = v.row;
+    row::before(order, row, v.returning, 1) == s
 }
 
 // The state of a node that is on the list.
@@ -322,21 +311,23 @@ fn state_on_list(state: State) -> State
 }
 
 // The record with the returning node on the list.
-fn joined(v: Node) -> Node
+fn joined(v: Held) -> Held
     ensures { λ r. ⌜ r ≡ joined v ⌝ }
 {
     let state = v.state;
     let next = state_on_list(state);
-    let set = nodeset::with(v.set, v.returning);
-    let present = nodeset::with(v.present, v.returning);
     let cable = v.cable;
+    let order = cable.order;
+    let members = v.row;
+    let row = row::with(order, members, v.returning);
+    let present = nodeset::with(v.present, v.returning);
     let window = v.listening;
-    Node {
+    Held {
         cable,
         own: v.own,
         slots: v.slots,
         state: next,
-        set,
+        row,
         present,
         returning: 0,
         return_heard: false,
@@ -346,7 +337,7 @@ fn joined(v: Node) -> Node
 }
 
 // Step 5: the returning node joins; a knocking node that was not answered follows again.
-fn join(v: Node) -> Node
+fn join(v: Held) -> Held
     ensures { λ r. ⌜ r ≡ join v ⌝ }
 {
     let state = v.state;
@@ -357,7 +348,7 @@ fn join(v: Node) -> Node
 }
 
 // Steps 4 and 5.
-fn settle(inside: bool, s: u32, v: Node) -> Node
+fn settle(inside: bool, s: u32, v: Held) -> Held
     ensures { λ r. ⌜ r ≡ settle inside s v ⌝ }
 {
     if too_few(v) {
@@ -372,11 +363,12 @@ fn settle(inside: bool, s: u32, v: Node) -> Node
     v
 }
 
-// One slot of a member, following or knocking node, by what the slot means to those who hold one set.
-pub fn tracking_slot(s: u32, heard: Reading, digest: Digest, v: Node) -> Node
+// One slot of a member, following or knocking node, by what the slot means to those who hold one row.
+pub fn tracking_slot(s: u32, heard: Reading, digest: Digest, v: Held) -> Held
     ensures { λ r. ⌜ r ≡ trackingBy digest s heard v ⌝ }
 {
-    let inside = nodeset::has(v.set, s);
+    let row = v.row;
+    let inside = row::has(row, s);
     let effect = effect_of(digest, s, heard, v);
     if inside & (effect.returned & (v.returning == 0)) {
         return node_changes::leave(Cause::MissedReturn, v);
@@ -387,5 +379,6 @@ pub fn tracking_slot(s: u32, heard: Reading, digest: Digest, v: Node) -> Node
     if departure.left {
         return node_changes::leave(Cause::Unconfirmed, w);
     }
-    settle(inside, s, node_changes::with_set(departure.set, w))
+    let row = departure.row;
+    settle(inside, s, node_changes::with_row(row, w))
 }

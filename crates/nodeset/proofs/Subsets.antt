@@ -1,7 +1,7 @@
 -- Laws of subsets and of sets of the nodes 1 to n (specs/Sets), and what the machine's masks have to do with them. Assumes nothing.
 use Prim.Native.Nat.{ℕ, zero, suc, _+_, _-_, _%_, _^_, _≤_, _<_, min}
 use mathlib.Core.Path.{_≡_, refl, sym, ap, _∙_}
-use mathlib.Core.Bool.{Bool, true, false, not, true≢false, _&&_, and-comm}
+use mathlib.Core.Bool.{Bool, true, false, not, true≢false, _&&_}
 use native.Mathlib.Omega.{arith}
 use native.Mathlib.Decide.{decLe}
 use native.Mathlib.Nat.{mod-lt}
@@ -95,17 +95,6 @@ subset-within n s l =
     no : (b : Bool) → subset s (full n) ≡ b → ltb s (2 ^ n) ≡ false → b ≡ false
     no true h e = sym (lt-ltb s (2 ^ n) (subset-lt n s l h)) ∙ e
     no false h e = refl
-
--- a part of a set of the nodes 1 to n is one, too
-pub within-part : (n a b : ℕ) → a < 2 ^ 32 → (within n b && subset a b) ≡ (within n b && (within n a && subset a b))
-within-part n a b l = go (within n b) (subset a b) refl refl
-  where
-    go : (u v : Bool) → within n b ≡ u → subset a b ≡ v → (u && v) ≡ (u && (within n a && v))
-    go true true w e =
-        sym (ap (λ (c : Bool). c && true)
-        (sym (subset-within n a l) ∙ has-subset a (full n) (λ x p q h. has-full n x p (has-range n b x (ltb-true b (2 ^ n) w) (subset-has a b x l e h) .1) q)))
-    go true false w e = sym (and-comm (within n a) false)
-    go false v w e = refl
 
 -- ---- one set without another
 

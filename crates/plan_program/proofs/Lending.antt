@@ -1,7 +1,7 @@
 -- Steps of the walk of `run_lines`. They say nothing of the crate. Assumes `Given`.
 --     passes       a call of a function by value and of one `&[T]`, which the caller holds as such and passes on: it is Copy
 --     falls        a loop whose turns make a number fall, where At x holds before a turn from x
---     lends-rows   a call of a function by value and of one `&mut [Node]`: the first rows of a local array are lent for the call, and the array is put together again from what the call left (`Rows` of bench_by_value)
+--     lends-rows   a call of a function by value and of one `&mut [Held]`: the first rows of a local array are lent for the call, and the array is put together again from what the call left (`Rows` of bench_by_value)
 use mathlib.Core.Path.{_≡_, refl, sym, subst}
 use Prim.Native.Nat.{ℕ, zero, suc, _<_}
 use native.Mathlib.Nat.{le-of-suc-le-suc, not-suc-le-zero, lt-of-lt-of-le, lt-suc-self}
@@ -25,7 +25,7 @@ use types.Tokens.{lft-new, lft-end}
 use denote.RattleType.{RattleType, Denots, flat}
 use denote.Laws.{Is, Ises, Are, shows}
 use denote.Index.{row}
-use denote.Lend.{Held}
+use denote.Lend.{Held as Borrowed}
 use denote.Ref.{RefT}
 use denote.Slice.{sliceVal, MutSlice, ShrSlice, shr-slice-copy}
 use denote.Signature.{Slot, typeAt, typesAt}
@@ -34,8 +34,8 @@ use denote.Triple.End.{Kepts}
 use denote.Triple.Clauses.{Ended, Clauses, Lasts, atExit, closing}
 use denote.Triple.Spec.{tripleOf}
 use denote.Triple.Statement.{Triple}
-use Rattle.node_record.specs.declared.Node.{Node}
-use Rattle.node_record.proofs.Node as N
+use Rattle.node_record.specs.declared.Held.{Held}
+use Rattle.node_record.proofs.Held as N
 use Rattle.bench_walks.proofs.Calls.{Plain, Plains, spelled, by-slice, of-mut, of-shr, at, bound, slice-entry, calls-by}
 use Rattle.bench_walks.proofs.Turns.{Turn}
 use Rattle.bench_by_value.proofs.Rows.{R as Array, τ, val, vals, rows-makes, after, few, in-all, array-rows, rows-array, lends-row, row-back}
@@ -70,19 +70,19 @@ module _ {M : Type 1} {𝓤 : URA M} {H : Heap 𝓤} {A : Atoms 𝓤} {K : Type 
 
   -- the array stands at the head of the context; m of its rows are lent
   pub lends-rows : K → FmC 𝓤 H (W .laws) C → {rest : Body} (ss : List (Slot 1)) (ks : Kepts ss) (s : Slot 1) (c : Clauses 𝓤 (by-slice (of-mut N.the-row) ss ks s)) → Triple 𝓤 (C f) (tripleOf 𝓤 H A (by-slice (of-mut N.the-row) ss ks s .signature) (closing 𝓤 H A (by-slice (of-mut N.the-row) ss ks s) c))
-      → (l : ℕ) (ys : List Node) → Is Array ys (vals ys) → (m : ℕ)
+      → (l : ℕ) (ys : List Held) → Is Array ys (vals ys) → (m : ℕ)
       → (ps : (κs : Lfts 1) → Plains 𝓤 H A (typesAt ss κs)) (a : (κs : Lfts 1) → Denots (typesAt ss κs)) → ((κs : Lfts 1) → Are (typesAt ss κs) (Ises (typesAt ss κs)) (a κs) (spelled 𝓤 H A (typesAt ss κs) (ps κs) (a κs)))
       → (g : (κs : Lfts 1) (δ : GName) → c κs (at N.the-row l 0 (take m ys) δ, a κs) .ghost) → ((κs : Lfts 1) (δ : GName) → ent 𝓤 (emp 𝓤) (c κs (at N.the-row l 0 (take m ys) δ, a κs) .requires (g κs δ)))
-      → (φ : (κs : Lfts 1) → List Node → typeAt s κs .Denot → Type 0)
+      → (φ : (κs : Lfts 1) → List Held → typeAt s κs .Denot → Type 0)
       → ((κs : Lfts 1) (δ : GName) (r : typeAt s κs .Denot) (ws : Lasts (by-slice (of-mut N.the-row) ss ks s) κs (at N.the-row l 0 (take m ys) δ, a κs))
       → ent 𝓤 (c κs (at N.the-row l 0 (take m ys) δ, a κs) .ensures (g κs δ) r (atExit (by-slice (of-mut N.the-row) ss ks s) κs (at N.the-row l 0 (take m ys) δ, a κs) ws)) (fact 𝓤 (φ κs (ws .0) r)))
       → ((ν : ℕ) (i j k : Item 𝓤) → Opds K W (i ∷ j ∷ k ∷ Γ) E xs (sliceVal (l, 0) (length (take m ys)) ∷ flat (typesAt ss (ν ∷ [], tt)) (spelled 𝓤 H A (typesAt ss (ν ∷ [], tt)) (ps (ν ∷ [], tt)) (a (ν ∷ [], tt)))))
       → (p : (κs : Lfts 1) → Plain 𝓤 H A (typeAt s κs)) {bd od : ℕ} → ((κs : Lfts 1) (Δ : List (Item 𝓤)) → Finds K W Δ E d (p κs .mir, bd, od)) → (n : ℕ) → ((κs : Lfts 1) → nth 𝓤 H A n Γ ≡ ‵ (froom (p κs .mir) bd od))
-      → ((κs : Lfts 1) (zs : List Node) (r : typeAt s κs .Denot) → Is (typeAt s κs) r (p κs .val r ∷ []) → φ κs zs r → Is Array (zs ++ dropping m ys) (vals (zs ++ dropping m ys))
+      → ((κs : Lfts 1) (zs : List Held) (r : typeAt s κs .Denot) → Is (typeAt s κs) r (p κs .val r ∷ []) → φ κs zs r → Is Array (zs ++ dropping m ys) (vals (zs ++ dropping m ys))
       → Seq K W (‵ (fat fullShare τ l 0 (val (zs ++ dropping m ys))) ∷ put 𝓤 H A n (‵ (fat fullShare (p κs .mir) bd od (p κs .val r))) Γ) (runs C Λ E rest q))
       → Seq K W (‵ (fat fullShare τ l 0 (val ys)) ∷ Γ) (runs C Λ E (seq (call f xs d) rest) q)
   lends-rows t fm {rest} ss ks s c met l ys g-ys m ps a gs g needs φ says os p fd n rm k =
-      let lent : List Node = take m ys in
+      let lent : List Held = take m ys in
       let len : length ys ≡ 32 = g-ys .1 .0 .1 in
       owned t Array (Is Array) (rows-makes 𝓤 H A W) ys (vals ys) g-ys $ move t (1 ∷ 0 ∷ []) $
       use2 W (‵ (row N.the-row fullShare lent l 0) ⊛ ‵ (row N.the-row fullShare (dropping m ys) l (after (length lent)))) (array-rows 𝓤 H A W m ys l) $ split t $
@@ -90,8 +90,8 @@ module _ {M : Type 1} {𝓤 : URA M} {H : Heap 𝓤} {A : Atoms 𝓤} {K : Type 
       let κs : Lfts 1 = (ν ∷ [], tt) in
       let Q : RattleType = typeAt s κs in
       move t (1 ∷ []) $
-      use1 W (later (some (λ (δ : GName). ‵ (MutSlice (named 0) (ν ∷ []) N.the-row .own (at N.the-row l 0 lent δ) (sliceVal (l, 0) (length lent) ∷ [])) ⊛ ‵ (flent (ν ∷ []) (Held N.the-row (length lent) l 0 δ))))) (lends-row 𝓤 H A W (ν ∷ []) lent l (few m ys len)) $ await t tt $ pick t (λ δ. split t $ move t (2 ∷ 0 ∷ []) $
-      let x : RefT (List Node) = at N.the-row l 0 lent δ in
+      use1 W (later (some (λ (δ : GName). ‵ (MutSlice (named 0) (ν ∷ []) N.the-row .own (at N.the-row l 0 lent δ) (sliceVal (l, 0) (length lent) ∷ [])) ⊛ ‵ (flent (ν ∷ []) (Borrowed N.the-row (length lent) l 0 δ))))) (lends-row 𝓤 H A W (ν ∷ []) lent l (few m ys len)) $ await t tt $ pick t (λ δ. split t $ move t (2 ∷ 0 ∷ []) $
+      let x : RefT (List Held) = at N.the-row l 0 lent δ in
       let F : Ended = by-slice (of-mut N.the-row) ss ks s in
       let y : tripleOf 𝓤 H A (F .signature) (closing 𝓤 H A F c) .Ghost = (bound 𝓤 H A (of-mut N.the-row) ss ks s (ν ∷ []) fullShare x (sliceVal (l, 0) (length lent) ∷ []) (a κs) (spelled 𝓤 H A (typesAt ss κs) (ps κs) (a κs)), g κs δ) in
       use2 W (raw (tripleOf 𝓤 H A (F .signature) (closing 𝓤 H A F c) .pre y)) (slice-entry 𝓤 H A (MutSlice (named 0) (ν ∷ []) N.the-row) (typesAt ss κs) (ps κs) (A .lft (ν ∷ []) fullShare) _ x (sliceVal (l, 0) (length lent) ∷ []) (a κs) (gs κs) (needs κs δ)) $

@@ -12,9 +12,12 @@ use borrow.Author.Tests.{le-ltb, lt-ltb}
 use Rattle.refusal.specs.declared.Refusal.the-variants.{PlanLine}
 use Rattle.ring.proofs.Ranges.{ring-size, fitting}
 use Rattle.ring.specs.Ring.{cableOf}
-use Rattle.node_record.specs.declared.Node.{Node}
+use Rattle.node_record.specs.declared.Held.{Held}
+use Rattle.node_record.specs.Held.{rowed}
 use Rattle.node.specs.Calls.{noNode}
-use Rattle.bench.specs.Table.{Table, tableSound}
+use Rattle.bench.specs.Table.{tableSound}
+use Rattle.bench.specs.Held.{HeldTable}
+use Rattle.bench.proofs.Standing.{length-setted}
 use Rattle.bench.specs.declared.Outcome.{Outcome}
 use Rattle.bench.specs.declared.Outcome.the-variants as outcome
 use Rattle.bench_walks.specs.Orders.{carriedFrom}
@@ -53,7 +56,7 @@ size-range n = go (decLe 1 n) (decLe n 32)
 
 -- they are the table, where there is one
 module _ (n : ℕ) (rows : Rows) (all : length rows ≡ 32) (some : 1 ≤ n) where
-  lent-table : take (sizeOf n) rows ≡ tableOf n rows
+  lent-table : take (sizeOf n) rows ≡ take n rows
   lent-table = go (decLe n 32)
     where
       go : Dec (n ≤ 32) → take (sizeOf n) rows ≡ take n rows
@@ -82,7 +85,7 @@ said m rows a = outcomeOn a (take m rows)
 -- of a bench with nodes, they are those of specs/Run
 on-bench : (n : ℕ) (rows : Rows) (a : Act) → length rows ≡ 32 → 1 ≤ n → line.Does n rows a → (left (sizeOf n) rows a ≡ ranBy n rows a .rows) × (said (sizeOf n) rows a ≡ ranBy n rows a .outcome)
 on-bench n rows a all some does = (
-  ap (λ (t : Table). carriedFrom (errandOn a t) 0 t ++ drop (sizeOf n) rows) (lent-table n rows all some) ∙ ap (λ (l : Rows). carriedFrom (errandOn a (tableOf n rows)) 0 (tableOf n rows) ++ l) (others n rows all some) ∙ does .0,
+  ap (λ (t : HeldTable). carriedFrom (errandOn a t) 0 t ++ drop (sizeOf n) rows) (lent-table n rows all some) ∙ ap (λ (l : Rows). carriedFrom (errandOn a (take n rows)) 0 (take n rows) ++ l) (others n rows all some) ∙ does .0,
   ap (outcomeOn a) (lent-table n rows all some) ∙ does .1,
 )
 
@@ -92,12 +95,12 @@ with-both L n {rows} {rows′} {o} {o′} e = ap (λ (l : Rows). planWith L n l 
 
 -- line one
 first-is : (L : ℕ) (o : Opening) → RingIn o → planWith L (openedBy o .n) (left (sizeOf (openedBy o .n)) noRows (openingAct o)) (said (sizeOf (openedBy o .n)) noRows (openingAct o)) ≡ planOpened L (openedBy o)
-first-is L (opening.Ring n k) r = with-both L n (on-bench n noRows (openingAct (opening.Ring n k)) (length-replicate 32 noNode) (omega (arith, ring-size n (fitting (cableOf n k) r .ring))) (line.opened n noRows (choicesOf n k)))
+first-is L (opening.Ring n k) r = with-both L n (on-bench n noRows (openingAct (opening.Ring n k)) (length-replicate 32 (rowed noNode)) (omega (arith, ring-size n (fitting (cableOf n k) r .ring))) (line.opened n noRows (choicesOf n k)))
 first-is L (opening.Refused cause) r = with-both L 0 (line.refused 1 noRows cause)
 
 -- a later line
 later-is : (L n : ℕ) (rows : Rows) (a : Act) → length rows ≡ 32 → tableSound (tableOf n rows) ≡ true → planWith L n (left (sizeOf n) rows a) (said (sizeOf n) rows a) ≡ planRan L n (ranBy n rows a)
-later-is L n rows a all sound = with-both L n (on-bench n rows a all (omega (arith, some-record (tableOf n rows) sound, length-take n rows)) (line.later n rows sound a))
+later-is L n rows a all sound = with-both L n (on-bench n rows a all (omega (arith, some-record (tableOf n rows) sound, length-setted (take n rows), length-take n rows)) (line.later n rows sound a))
 
 module _ (p : Plan) (l : List ℕ) where
   abbrev base : Bool → Bool → Rows
@@ -119,13 +122,13 @@ module _ (p : Plan) (l : List ℕ) where
   by-case false false sound all = later-is (nextLine (p .lines)) (p .n) (p .rows) (actOf (lineOf (p .n) l)) all sound
 
   -- what the line leaves of the rows that it is lent, before the others, makes the plan after it
-  pub line-is : (zs : List Node) (o : Outcome) → planSound p ≡ true → length (rowsFor p true) ≡ 32
+  pub line-is : (zs : List Held) (o : Outcome) → planSound p ≡ true → length (rowsFor p true) ≡ 32
       → (zs ≡ carriedFrom (errandOn (actIn (p .lines) (p .n) (p .over) l) (take (sizeOf (sizeAfter (p .lines) (p .n) (p .over) l)) (rowsFor p true))) 0 (take (sizeOf (sizeAfter (p .lines) (p .n) (p .over) l)) (rowsFor p true)))
       × (o ≡ outcomeOn (actIn (p .lines) (p .n) (p .over) l) (take (sizeOf (sizeAfter (p .lines) (p .n) (p .over) l)) (rowsFor p true)))
       → planOf (linesAfter (p .lines) (p .over)) (sizeAfter (p .lines) (p .n) (p .over) l) (zs ++ drop (sizeOf (sizeAfter (p .lines) (p .n) (p .over) l)) (rowsFor p true)) (overAfter (p .over) (outcomeAfter (p .over) o)) (outcomeAfter (p .over) o) ≡ afterLine p l
   unfolding planSound afterLine runLine
   line-is zs o sound all is =
       let m = sizeOf (sizeAfter (p .lines) (p .n) (p .over) l) in
-      ap (λ (r : List Node). planOf (linesAfter (p .lines) (p .over)) (sizeAfter (p .lines) (p .n) (p .over) l) (r ++ drop m (rowsFor p true)) (overAfter (p .over) (outcomeAfter (p .over) o)) (outcomeAfter (p .over) o)) (is .0)
+      ap (λ (r : List Held). planOf (linesAfter (p .lines) (p .over)) (sizeAfter (p .lines) (p .n) (p .over) l) (r ++ drop m (rowsFor p true)) (overAfter (p .over) (outcomeAfter (p .over) o)) (outcomeAfter (p .over) o)) (is .0)
       ∙ ap (λ (c : Outcome). planOf (linesAfter (p .lines) (p .over)) (sizeAfter (p .lines) (p .n) (p .over) l) (left m (rowsFor p true) (actIn (p .lines) (p .n) (p .over) l)) (overAfter (p .over) (outcomeAfter (p .over) c)) (outcomeAfter (p .over) c)) (is .1)
       ∙ by-case (p .over) (eqb (p .lines) 0) sound all

@@ -5,5 +5,6 @@ pub mod Lent
 pub mod Turns
 pub mod Lending
 pub mod Tables
+pub mod OnSets
 pub mod Pieces
 pub mod Computed

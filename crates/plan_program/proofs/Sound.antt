@@ -7,13 +7,18 @@ use mathlib.Core.List.{List, [], _∷_, _++_, append-nil}
 use native.Mathlib.Omega.{arith}
 use native.Mathlib.Decide.{decLe}
 use lib.Dec.{eqb, ltb}
-use lib.ListN.{length, take, drop, drop-of-length-le, length-take, length-replicate}
+use lib.ListN.{length, take, drop, drop-of-length-le, length-map, length-take, length-replicate}
 use lib.Seq.{take-all, take-at}
 use borrow.Author.Tests.{ne-eqb, ltb-false}
 use Rattle.nodeset.proofs.Tests.{by-cases}
 use Rattle.ring.specs.Ring.{cableOf, cableFits}
 use Rattle.ring.proofs.Ranges.{ring-size, fitting}
-use Rattle.bench.specs.Calls.{Called, slotOf}
+use Rattle.node_record.specs.Held.{rowed}
+use Rattle.node.specs.declared.Answer.{Answer}
+use Rattle.node.specs.declared.Answer.the-variants as answer
+use Rattle.bench.specs.Calls.{Called, setUpOf, slotOf, offOf, restartOf}
+use Rattle.bench.specs.Kept.{ifDone}
+use Rattle.bench.specs.Held.{HeldTable, rowedAll, settedAll, heldBy}
 use Rattle.bench.specs.declared.Command.the-variants as command
 use Rattle.bench.proofs.Ledgers.{given-none}
 use Rattle.plan_run.specs.declared.Act.the-variants as act
@@ -23,6 +28,7 @@ use Rattle.bench.specs.Outcomes.{endedOf, slotGiven}
 use Rattle.bench.specs.Runs.{Call, slot, off, restart, callOf, tableAfter}
 use Rattle.bench.proofs.Places.{Placed, sound-placed, placed-sound}
 use Rattle.bench.proofs.Runs.{placed-call, start-placed}
+use Rattle.bench.proofs.Standing.{length-setted, Keeps, set-up-keeps, off-keeps, restart-keeps, given-keeps, SoundIfMade, set-up-made, off-made, restart-made, slot-made, stands}
 use Rattle.bench_by_value.specs.ByValue as by-value
 use Rattle.bench_by_value.specs.ByValue.{Rows, tableOf}
 use Rattle.plan_line.specs.declared.Opening.{Opening}
@@ -38,10 +44,11 @@ use Rattle.plan_text.specs.Text.{nextLine}
 use Rattle.plan_program.specs.Program.{afterLine, planOpened, planRan, quiet, runLine, runOf}
 use Rattle.plan_program.specs.Calls.{planSound}
 use Rattle.plan_program.specs.Tables.{callsIn, madeBy, startOf}
+use Rattle.plan_program.specs.OnSets.{actOn}
 
--- the table of rows whose table was replaced by one of the same size
-table-replaced : (n : ℕ) (rows : Rows) (t : Table) → length t ≡ length (tableOf n rows) → tableOf n (t ++ drop n rows) ≡ t
-table-replaced n rows t same = go (decLe n (length rows))
+-- the first rows, where they were replaced by as many
+rows-replaced : (n : ℕ) (rows : Rows) (t : HeldTable) → length t ≡ length (take n rows) → take n (t ++ drop n rows) ≡ t
+rows-replaced n rows t same = go (decLe n (length rows))
   where
     go : Dec (n ≤ length rows) → take n (t ++ drop n rows) ≡ t
     go (yes h) = take-at t (drop n rows) n (omega (arith, same, length-take n rows))
@@ -51,6 +58,20 @@ table-replaced n rows t same = go (decLe n (length rows))
         ∙ take-all n t (omega (arith, same, length-take n rows))
 
 -- ---- a call
+
+-- what a call leaves of a held table has as many records
+held-length : (t : HeldTable) (called : Called) → length (called .table) ≡ length (settedAll t) → length (heldBy t called) ≡ length t
+held-length t called same = go (called .answer)
+  where
+    go : (a : Answer) → length (ifDone a (rowedAll (called .table)) t) ≡ length t
+    go answer.Done = length-map (called .table) rowed ∙ same ∙ length-setted t
+    go (answer.Refused cause) = refl
+
+-- the table of the rows after a call is the one that the call leaves
+table-left : (n : ℕ) (rows : Rows) (called : Called) → Keeps (tableOf n rows) called → SoundIfMade called → length (called .table) ≡ length (tableOf n rows)
+    → tableOf n (heldBy (take n rows) called ++ drop n rows) ≡ called .table
+table-left n rows called keeps made same =
+    ap settedAll (rows-replaced n rows (heldBy (take n rows) called) (held-length (take n rows) called same)) ∙ stands (take n rows) called keeps made
 
 -- a ring of one node at least
 pub some-record : (t : Table) → tableSound t ≡ true → 1 ≤ length t
@@ -77,21 +98,37 @@ module _ (n : ℕ) (rows : Rows) (sound : tableSound (tableOf n rows) ≡ true) 
   abbrev t : Table
   t = tableOf n rows
 
+  slot-left : (lost : Bool) (missed : ℕ) → tableOf n (ranBy n rows (act.Call (command.Slot lost missed 0)) .rows) ≡ slotGiven lost missed 0 64 t .table
+  unfolding by-value.callOf callOf
+  slot-left lost missed =
+      table-left n rows (slotGiven lost missed 0 64 t) (given-keeps lost missed 0 64 t) (slot-made lost missed 0 64 t sound)
+      (ap (λ (c : Called). length (c .table)) (given-none lost missed 64 t) ∙ same-size t sound (slot lost missed 64))
+
+  -- the rows after a line hold the table that its call leaves
+  pub line-left : (l : Line) → tableOf n (ranBy n rows (actOf l) .rows) ≡ actOn t (actOf l) .0
+  unfolding by-value.callOf callOf endedOf
+  line-left lines.Ok = slot-left false 0
+  line-left lines.Lost = slot-left true 0
+  line-left (lines.Miss missed) = slot-left false missed
+  line-left (lines.Off a) = table-left n rows (offOf a t) (off-keeps a t) (off-made a t sound) (same-size t sound (off a))
+  line-left (lines.On a) = table-left n rows (restartOf a t) (restart-keeps a t) (restart-made a t) (same-size t sound (restart a))
+  line-left (lines.Refused cause) = refl
+
   -- a line's slot has job byte 0
-  slot-table : (lost : Bool) (missed : ℕ) → tableOf n (ranBy n rows (act.Call (command.Slot lost missed 0)) .rows) ≡ slotOf lost missed 64 t .table
-  unfolding by-value.callOf endedOf callOf
-  slot-table lost missed =
-      let is = given-none lost missed 64 t in
-      table-replaced n rows (slotGiven lost missed 0 64 t .table) (ap (λ (c : Called). length (c .table)) is ∙ same-size t sound (slot lost missed 64)) ∙ ap (λ (c : Called). c .table) is
+  slot-call : (lost : Bool) (missed : ℕ) → slotGiven lost missed 0 64 t .table ≡ slotOf lost missed 64 t .table
+  slot-call lost missed = ap (λ (c : Called). c .table) (given-none lost missed 64 t)
+
+  line-call : (l : Line) → actOn t (actOf l) .0 ≡ tableAfter t (madeBy l)
+  unfolding tableAfter callOf endedOf
+  line-call lines.Ok = slot-call false 0
+  line-call lines.Lost = slot-call true 0
+  line-call (lines.Miss missed) = slot-call false missed
+  line-call (lines.Off a) = refl
+  line-call (lines.On a) = refl
+  line-call (lines.Refused cause) = refl
 
   pub line-table : (l : Line) → tableOf n (ranBy n rows (actOf l) .rows) ≡ tableAfter t (madeBy l)
-  unfolding tableAfter by-value.callOf endedOf callOf
-  line-table lines.Ok = slot-table false 0
-  line-table lines.Lost = slot-table true 0
-  line-table (lines.Miss missed) = slot-table false missed
-  line-table (lines.Off a) = table-replaced n rows _ (same-size t sound (off a))
-  line-table (lines.On a) = table-replaced n rows _ (same-size t sound (restart a))
-  line-table (lines.Refused cause) = refl
+  line-table l = line-left l ∙ line-call l
 
   line-sound : (l : Line) → tableSound (tableAfter t (madeBy l)) ≡ true
   unfolding tableAfter
@@ -109,16 +146,17 @@ module _ (n k : ℕ) (fits : cableFits (cableOf n k) ≡ true) where
   in-ring = ring-size n (fitting (cableOf n k) fits .ring)
 
   one-each : length (tableOf n noRows) ≡ n
-  one-each = omega (arith, length-take n noRows, length-replicate 32 noNode, in-ring)
+  one-each = omega (arith, length-setted (take n noRows), length-take n noRows, length-replicate 32 (rowed noNode), in-ring)
 
   start : Placed (cableOf n k) 0 (startOf n k)
   start = start-placed (cableOf n k) fits (tableOf n noRows) one-each
 
   pub opened-table : tableOf n (openedBy (opening.Ring n k) .rows) ≡ startOf n k
-  unfolding by-value.callOf endedOf
+  unfolding by-value.callOf
   opened-table =
-      ap (λ (c : Called). tableOf n (c .table ++ drop n noRows)) (plain-set-up (choicesOf n k) (tableOf n noRows))
-      ∙ table-replaced n noRows (startOf n k) (start .length-is ∙ sym one-each)
+      let t = tableOf n noRows in
+      ap (λ (c : Called). tableOf n (heldBy (take n noRows) c ++ drop n noRows)) (plain-set-up (choicesOf n k) t)
+      ∙ table-left n noRows (setUpOf (cableOf n k) t) (set-up-keeps (cableOf n k) t) (set-up-made (cableOf n k) t) (start .length-is ∙ sym one-each)
 
   start-sound : tableSound (startOf n k) ≡ true
   start-sound = placed-sound (cableOf n k) 0 (startOf n k) (omega (arith, in-ring)) start

@@ -8,7 +8,7 @@ use lib.Dec.{eqb, ltb}
 use lib.ListN.{length, take, drop}
 use borrow.Author.Tests.{ltb-true, ltb-false}
 use Rattle.nodeset.proofs.Tests.{by-cases}
-use Rattle.node_record.specs.declared.Node.{Node}
+use Rattle.node_record.specs.declared.Held.{Held}
 use Rattle.bench.specs.declared.Outcome.{Outcome}
 use Rattle.bench_walks.specs.Orders.{carriedFrom}
 use Rattle.bench_by_value.specs.ByValue.{Rows}
@@ -162,7 +162,7 @@ module _ {p₀ : Plan} {x₀ input out₀ : List ℕ} {g : Going} {rows : Rows} 
     begins = omega (arith, at-is, within)
 
     -- a line was carried out and told, and the next one read
-    module _ (t g′ : Going) (o : Outcome) (zs : List Node) (out′ : List ℕ) (all : length rows ≡ 32) (kept : length out′ ≡ length out)
+    module _ (t g′ : Going) (o : Outcome) (zs : List Held) (out′ : List ℕ) (all : length rows ≡ 32) (kept : length out′ ≡ length out)
         (did : (zs ≡ carriedFrom (errandOn (g .act) (take (sizeOf (g .size)) rows)) 0 (take (sizeOf (g .size)) rows)) × (o ≡ outcomeOn (g .act) (take (sizeOf (g .size)) rows))) (told : Told g o t out out′) (read : g′ ≡ sought input t) where
       abbrev after : Rows
       after = zs ++ drop (sizeOf (g .size)) rows

@@ -3,7 +3,7 @@
 // `finish` ends the text, `print_plan` takes it all at once.
 use bench::Command;
 use bench::Outcome;
-use node_record::Node;
+use node_record::Held;
 use plan_run::Act;
 use plan_text::Written;
 use refusal::Refusal;
@@ -25,7 +25,7 @@ ghost use Rattle.plan_program.specs.Inner.{actIn, afterIn, begunOf, came
 pub struct Plan {
     pub lines: u64,
     pub n: u32,
-    pub rows: [Node; 32],
+    pub rows: [Held; 32],
     pub over: bool,
     pub outcome: Outcome,
 }
@@ -324,7 +324,7 @@ fn act_in(g: Going) -> Act
 }
 
 // What came of the piece.
-fn came(rows: [Node; 32], g: Going) -> Ahead
+fn came(rows: [Held; 32], g: Going) -> Ahead
     ensures { λ r. ⌜ r ≡ cameOf rows g ⌝ }
 {
     let outcome = g.outcome;
@@ -343,7 +343,7 @@ fn came(rows: [Node; 32], g: Going) -> Ahead
 }
 
 // The rows that the lines run on: line one sets its bench up on rows of no node.
-fn rows_for(plan: Plan, g: Going) -> [Node; 32]
+fn rows_for(plan: Plan, g: Going) -> [Held; 32]
     ensures { λ r. ⌜ r ≡ rowsFor plan (g .more) ⌝ }
 {
     let rows = plan.rows;
@@ -380,7 +380,7 @@ fn run_lines(plan: Plan, part: Part, input: &[u8], out: &mut [u8]) -> Ahead
 }
 
 // Whether the table of n rows is sound: a look is not refused.
-fn is_table(n: u32, rows: [Node; 32]) -> bool
+fn is_table(n: u32, rows: [Held; 32]) -> bool
     ensures { λ r. ⌜ r ≡ tableSound (tableOf n rows) ⌝ }
 {
     let mut ledger = [[0u64; 3]; 1];

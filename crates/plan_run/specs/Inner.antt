@@ -2,7 +2,7 @@
 use Prim.Native.Nat.{ℕ}
 use lib.ListN.{length}
 use Rattle.ring.specs.Ring.{plainCable, cableOf}
-use Rattle.bench.specs.Table.{Table}
+use Rattle.bench.specs.Held.{HeldTable}
 use Rattle.bench.specs.declared.Command.{Command}
 use Rattle.bench.specs.declared.Command.the-variants as command
 use Rattle.bench.specs.declared.Outcome.{Outcome}
@@ -56,14 +56,14 @@ orderBy (act.Call c) s size beside = orderOf c s size 64 beside
 orderBy (act.Refuse cause) s size beside = order.Refuse cause
 
 abbrev pub errandBy : Act → Survey → ℕ → Errand
-errandBy a s size = errandOf (orderBy a s size (besideOf a)) (besideOf a)
+errandBy a s size = errandOf (orderBy a s size (besideOf a)) s (besideOf a)
 
-unfoldable pub errandOn : Act → Table → Errand
+unfoldable pub errandOn : Act → HeldTable → Errand
 errandOn a t = errandBy a (glimpseOf t (asked a)) (length t)
 
 -- What there is to print.
 abbrev pub told : Errand → Work → Outcome
 told errand work = replyBy (errand .order) (work .notes) (work .members) .outcome
 
-abbrev pub outcomeOn : Act → Table → Outcome
+abbrev pub outcomeOn : Act → HeldTable → Outcome
 outcomeOn a t = told (errandOn a t) (workOf (errandOn a t) t)

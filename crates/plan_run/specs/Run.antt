@@ -5,6 +5,7 @@ use mathlib.Core.Bool.{true, false}
 use mathlib.Core.List.{List, []}
 use lib.ListN.{replicate}
 use Rattle.refusal.specs.declared.Refusal.{Refusal}
+use Rattle.node_record.specs.Held.{rowed}
 use Rattle.node.specs.Calls.{noNode}
 use Rattle.slot_table.specs.Order.{numbersFrom}
 use Rattle.ring.specs.declared.Choices.{Choices}
@@ -54,7 +55,7 @@ ranOf n rows line = ranBy n rows (actOf (lineOf n line))
 
 -- Before line one there is no node.
 abbrev pub noRows : Rows
-noRows = replicate 32 noNode
+noRows = replicate 32 (rowed noNode)
 
 -- The bench of a plan with n nodes.
 abbrev pub openedAs : ℕ → Ran → Opened

@@ -8,7 +8,7 @@ use bench_walks::Beside;
 use bench_walks::Errand;
 use bench_walks::Order;
 use bench_walks::Survey;
-use node_record::Node;
+use node_record::Held;
 use plan_line::Line;
 use plan_line::Opening;
 use refusal::Refusal;
@@ -32,7 +32,7 @@ pub enum Act {
 // specs/Run says of line one.
 pub struct Opened {
     pub n: u32,
-    pub rows: [Node; 32],
+    pub rows: [Held; 32],
     pub outcome: Outcome,
 }
 
@@ -51,7 +51,7 @@ const ALL_FIT: Beside = Beside {
 };
 
 // Rows of no node.
-pub fn no_rows() -> [Node; 32]
+pub fn no_rows() -> [Held; 32]
     ensures { λ r. ⌜ r ≡ noRows ⌝ }
 {
     [node::NO_NODE; 32]
@@ -168,7 +168,7 @@ fn errand_by(act: Act, s: Survey, size: usize) -> Errand
 {
     let beside = beside_of(act);
     let order = order_by(act, s, size, beside);
-    bench_walks::sent_with(order, beside)
+    bench_walks::sent_with(order, s, beside)
 }
 
 // What there is to print.
@@ -181,7 +181,7 @@ fn told(errand: Errand, work: Work) -> Outcome
 }
 
 // Carries a line out on a table that is taken as it is. Requires a record.
-pub fn run(table: &mut [Node], act: Act) -> Outcome
+pub fn run(table: &mut [Held], act: Act) -> Outcome
     requires { ⌜ 1 ≤ length (now table) ⌝ }
     ensures { λ r. ⌜ (now (table .exit) ≡ carriedFrom (errandOn act (now (table .entry))) 0 (now (table .entry))) × (r ≡ outcomeOn act (now (table .entry))) ⌝ }
 {

@@ -18,7 +18,7 @@
 use bench::Outcome;
 use node_bytes::bytes;
 use node_bytes::rows;
-use node_record::Node;
+use node_record::Held;
 use plan_program::Part;
 use plan_program::Plan;
 use plan_text::Written;
@@ -30,7 +30,7 @@ use run_io::input::Unread;
 use run_io::output;
 
 // What there is from one command to the next; `held` is the number of bytes that wait in the output.
-struct Held {
+struct State {
     plan: Plan,
     part: Part,
     held: usize,
@@ -61,9 +61,9 @@ fn read(input: &mut [u8; 4096], left: Unread, block: &mut Block) -> Head {
     input::fill_after(input, head, block, body(head.letter, head.byte))
 }
 
-fn with_row(plan: Plan, row: usize, node: Node) -> Plan {
+fn with_row(plan: Plan, row: usize, record: Held) -> Plan {
     let rows = plan.rows;
-    let rows = rows::loaded(rows, row, node);
+    let rows = rows::loaded(rows, row, record);
     let outcome = plan.outcome;
     Plan {
         lines: plan.lines,
@@ -98,7 +98,7 @@ fn plan_loaded(plan: Plan, head: Head, block: &Block) -> Plan {
     match letter {
         b'N' => plan_program::no_plan(),
         b'P' => with_numbers(plan, head.byte, block),
-        b'L' => with_row(plan, head.byte as usize, bytes::node_of(block)),
+        b'L' => with_row(plan, head.byte as usize, bytes::held_of(block)),
         _ => plan,
     }
 }
@@ -119,12 +119,12 @@ fn is_call(letter: u8) -> bool {
     }
 }
 
-fn load(state: Held, head: Head, block: &Block) -> Held {
+fn load(state: State, head: Head, block: &Block) -> State {
     let plan = state.plan;
     let part = state.part;
     let plan = plan_loaded(plan, head, block);
     let part = part_loaded(part, head, block);
-    Held {
+    State {
         plan: plan,
         part: part,
         held: state.held,
@@ -217,7 +217,7 @@ fn put_plan(output: &mut [u8; 4096], held: usize, plan: Plan) -> usize {
 }
 
 // Carries a call out and answers.
-fn call(output: &mut [u8; 4096], state: Held, head: Head, block: &Block) -> Held {
+fn call(output: &mut [u8; 4096], state: State, head: Head, block: &Block) -> State {
     let mut out = [0xA5u8; 20480];
     let room = block::word(block, 0) as usize;
     let plan = state.plan;
@@ -240,14 +240,14 @@ fn call(output: &mut [u8; 4096], state: Held, head: Head, block: &Block) -> Held
     let length = part.length;
     let text = part.text;
     let held = text_bytes::put_text(output, held, length, text);
-    Held {
+    State {
         plan: plan,
         part: part,
         held: held,
     }
 }
 
-fn run(output: &mut [u8; 4096], state: Held, head: Head, block: &Block) -> Held {
+fn run(output: &mut [u8; 4096], state: State, head: Head, block: &Block) -> State {
     if is_call(head.letter) {
         return call(output, state, head, block);
     }
@@ -257,7 +257,7 @@ fn run(output: &mut [u8; 4096], state: Held, head: Head, block: &Block) -> Held 
 // A proved loop has to end, so it counts its turns down, from a number that no run uses up.
 fn run_all(input: &mut [u8; 4096], output: &mut [u8; 4096]) -> usize {
     let mut left = Unread { at: 0, end: 0 };
-    let mut state = Held {
+    let mut state = State {
         plan: plan_program::no_plan(),
         part: plan_program::no_part(),
         held: 0,

@@ -30,8 +30,7 @@ use Rattle.node_steps.specs.Steps.{isHeard, returnIn, isOwn, ownMarks, confirme
 use Rattle.node_hearing.specs.Hearing.{slotUnheard, overheard, windowAfter, clean, windowEnd, goesOn, listeningSlot}
 use Rattle.node_sending.specs.Sending.{sends, markBits, bitsSent, returnSent}
 use Rattle.node_slot.specs.Slot.{slotIn, afterSlot}
-use Rattle.node.specs.declared.Stepped.{Stepped}
-use Rattle.node.specs.Calls.{done, refused, stepOf, offOf, restartOf}
+use Rattle.node.specs.Calls.{Stepped, done, refused, stepOf, offOf, restartOf}
 use Rattle.bench.proofs.Choices.{choose}
 use Rattle.renaming.specs.Renamed.{plainOf, nameOf, renamed}
 use Rattle.renaming.proofs.Names.{cond-by, R, R-lt, R-none, R-full, R-with, R-without, R-size, R-subset, has-name, eqb-name, eqb-none, eqb-sets, eqb-empty, name-none, name-le, name-number, Named, named-in, named-is, before-name, sponsors-name, sponsored-name, decided-name, sender-name, plain-sender}

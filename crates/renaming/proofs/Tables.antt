@@ -17,7 +17,7 @@ use Rattle.node_record.specs.declared.Node.{Node}
 use Rattle.node_record.specs.States.{isOut}
 use Rattle.node_record.specs.Soundness.{sound, limit}
 use Rattle.node_sending.specs.Sending.{sends, bitsSent, returnSent}
-use Rattle.node.specs.declared.Stepped.{Stepped}
+use Rattle.node.specs.Calls.{Stepped}
 use Rattle.node.specs.Calls as node
 use Rattle.bench.specs.Table.{Table, recordOf, each, tableSound, nodeCount, slotsOf, speaker}
 use Rattle.bench.specs.Calls.{Called, ifPassed, setUpOf, transmits, unheard, spoken, heardBy, tableAfterSlot, slotOf, offOf, restartOf}

@@ -1,4 +1,4 @@
--- Inner: the walk of specs/Ring as the code takes it: the place that it reaches, from which a further walk goes on. The laws are in proofs/Places.
+-- Inner: the walk of specs/Ring as the code takes it: the place that it reaches. The law is in proofs/Places.
 use Prim.Native.Nat.{ℕ, zero, suc, _-_}
 use mathlib.Core.Bool.{cond, _&&_}
 use lib.Dec.{eqb}
@@ -39,14 +39,6 @@ reach (suc left) cable set p j =
     let x = nodeAt (cable .order) q in
     let more = j - num (has set x) in
     cond (has set x && eqb j 1) (record { node = x; place = q; left = left }) (reach left cable set q more)
-
--- The place of the nearest member before a place.
-abbrev pub nearestOf : Cable → ℕ → Place → Place
-nearestOf cable set from = reach (from .left) cable set (from .place) 1
-
--- Where the walk to the members that node x sponsors begins: at the last of the members before it that it has not judged yet.
-abbrev pub sponsorsFrom : Cable → ℕ → ℕ → Place
-sponsorsFrom cable set x = cond (eqb (cable .lag) 0) (startAt cable x) (reach (cable .n - 1) cable set (place (cable .order) x) (cable .lag))
 
 -- The member at a place, and how many slots back from the start of the walk it speaks; nobody where the node is 0.
 abbrev pub foundAt : ℕ → Place → Found

@@ -7,7 +7,7 @@ ghost use Rattle.refusal.specs.Causes.{cause};
 ghost use Rattle.nodeset.specs.Sums.{num};
 ghost use Rattle.ring.specs.Ring.{plainCable, cableWith, sameCable, ringSize, nodeNumber, lagFits, sponsorCount, jobCount, cableFits, maySetUp, ks, previous, memberBefore, sponsors, sponsored, decided};
 ghost use Rattle.ring.specs.Answers.{faultOf, senderOf, beforeOf, sponsoredOf, decidedOf};
-ghost use Rattle.ring.specs.Places.{testsOf, startAt, reach, nearestOf, sponsorsFrom, foundAt};
+ghost use Rattle.ring.specs.Places.{testsOf, startAt, reach, foundAt};
 
 // The numbers that set-up chooses for the whole cable: how many nodes are on it, how many others a member
 // sponsors at the most, how many jobs a message reports on, and how many members before a sender it has
@@ -184,14 +184,14 @@ pub fn ks(cable: Cable, c: u32) -> u32
     others
 }
 
-// ---- Inner: the walk back, which takes every number as it is; the rules of a slot use it.
+// ---- Inner: the walk back, which takes every number as it is.
 
 // A place on the walk back: the node that it reached and its place, and the slots that it may still go
 // back from there, which tell how far back it is. Node 0: it met no further member.
-pub struct Place {
-    pub node: u32,
-    pub place: u32,
-    pub left: u32,
+struct Place {
+    node: u32,
+    place: u32,
+    left: u32,
 }
 
 // The place whose slot comes just before that of place p.
@@ -243,7 +243,7 @@ fn walk(left: u32, cable: Cable, set: u32, p: u32, j: u32) -> Place
 }
 
 // Where the walk back from node x begins. It ends before it comes round to x.
-pub fn start_at(cable: Cable, x: u32) -> Place
+fn start_at(cable: Cable, x: u32) -> Place
     ensures { λ r. ⌜ r ≡ startAt cable x ⌝ }
 {
     let order = cable.order;
@@ -252,25 +252,6 @@ pub fn start_at(cable: Cable, x: u32) -> Place
         place: slot_table::place(order, x),
         left: less(cable.n, 1),
     }
-}
-
-// The place of the nearest member before a place.
-pub fn nearest(cable: Cable, set: u32, from: Place) -> Place
-    ensures { λ r. ⌜ r ≡ nearestOf cable set from ⌝ }
-{
-    walk(from.left, cable, set, from.place, 1)
-}
-
-// Where the walk to the members that node x sponsors begins: at the last of the members before it that
-// it has not judged yet; at x where the lag is 0.
-pub fn sponsors_from(cable: Cable, set: u32, x: u32) -> Place
-    ensures { λ r. ⌜ r ≡ sponsorsFrom cable set x ⌝ }
-{
-    let start = start_at(cable, x);
-    if cable.lag == 0 {
-        return start;
-    }
-    walk(start.left, cable, set, start.place, cable.lag)
 }
 
 // The member at a place, and how many slots back from the start of the walk it speaks; nobody where the
@@ -286,7 +267,7 @@ fn found_at(n: u32, place: Place) -> Found
 }
 
 // The j-th member before node x.
-pub fn member_before(cable: Cable, set: u32, x: u32, j: u32) -> Found
+fn member_before(cable: Cable, set: u32, x: u32, j: u32) -> Found
     ensures { λ r. ⌜ r ≡ memberBefore cable set x j ⌝ }
 {
     let start = start_at(cable, x);
@@ -295,7 +276,7 @@ pub fn member_before(cable: Cable, set: u32, x: u32, j: u32) -> Found
 }
 
 // How many of the set's members one of them sponsors.
-pub fn sponsors(cable: Cable, set: u32) -> u32
+fn sponsors(cable: Cable, set: u32) -> u32
     ensures { λ r. ⌜ r ≡ sponsors cable set ⌝ }
 {
     ks(cable, nodeset::size(cable.n, set))
@@ -315,7 +296,7 @@ fn sponsored_member(cable: Cable, set: u32, x: u32, j: u32) -> Found
 }
 
 // The member that node x decides: the last that it sponsors.
-pub fn decided_member(cable: Cable, set: u32, x: u32) -> Found
+fn decided_member(cable: Cable, set: u32, x: u32) -> Found
     ensures { λ r. ⌜ r ≡ decided cable set x ⌝ }
 {
     sponsored_member(cable, set, x, sponsors(cable, set))

@@ -24,8 +24,7 @@ use Rattle.node_steps.specs.Steps.{isHeard, isOwn, ownMarks, confirmed, saysSo,
 use Rattle.node_hearing.specs.Hearing.{windowAfter, clean, windowEnd, goesOn, listeningSlot}
 use Rattle.node_sending.specs.Sending.{markBits, bitsSent}
 use Rattle.node_slot.specs.Slot.{slotIn, afterSlot}
-use Rattle.node.specs.declared.Stepped.{Stepped}
-use Rattle.node.specs.Calls.{done, refused, stepOf, offOf, restartOf}
+use Rattle.node.specs.Calls.{Stepped, done, refused, stepOf, offOf, restartOf}
 use Rattle.without_jobs.specs.Without.{withoutJobs, forget}
 
 -- ---- choices

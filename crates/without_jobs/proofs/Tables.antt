@@ -16,9 +16,8 @@ use Rattle.node_record.specs.declared.Node.{Node}
 use Rattle.node_record.specs.States.{isOut}
 use Rattle.node_record.specs.Soundness.{sound, limit}
 use Rattle.node_sending.specs.Sending.{sends, bitsSent, returnSent}
-use Rattle.node.specs.declared.Stepped.{Stepped}
 use Rattle.node.specs.Calls as node
-use Rattle.node.specs.Calls.{noNode}
+use Rattle.node.specs.Calls.{Stepped, noNode}
 use Rattle.bench.specs.Table.{Table, recordOf, eachFrom, each, tableSound, slotsOf, speaker}
 use Rattle.bench.specs.Calls.{Called, done, ifPassed, transmits, unheard, spoken, heardBy, tableAfterSlot, slotOf, tableAfterOff, offOf, tableAfterRestart, restartOf}
 use Rattle.bench.specs.Runs.{Call, slot, off, restart, callOf}

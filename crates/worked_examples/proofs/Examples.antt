@@ -1,15 +1,17 @@
 -- The tables of worked examples hold. Assumes nothing.
-use mathlib.Core.Path.{refl}
+use mathlib.Core.Path.{refl, _∙_}
 use mathlib.Core.List.{[], _∷_}
 use Rattle.message.specs.Message.{bytesOf, twoSections, messageOf, little, saidBy, readOf, writeOf}
 use Rattle.node_record.specs.declared.Node.{Node}
-use Rattle.slot_table.specs.Order.{kept}
+use Rattle.slot_table.specs.Order.{kept, nodesAt}
+use Rattle.row.specs.Rows.{asRow, soundRow, nodesIn, asSet}
 use Rattle.bench.specs.Calls.{setUpGiven}
 use Rattle.bench.proofs.Computed.{computed}
+use Rattle.plan_program.proofs.OnSets.{shown-as-before}
 use Rattle.plan_program.proofs.Computed.{printing}
 use Rattle.worked_examples.specs.Rows.{AllHold}
-use Rattle.worked_examples.specs.Examples.{examples}
-use Rattle.worked_examples.specs.Requests.{fixedOrder, feederCut, ownMarks, slowReceivers, crossedSlots}
+use Rattle.worked_examples.specs.Examples.{input, examples}
+use Rattle.worked_examples.specs.Requests.{fixedOrder, feederCut, ownMarks, slowReceivers, crossedSlots, membersAsRow}
 
 infixr 1 _and_
 _and_ : {A B : Type 0} → A → B → A × B
@@ -24,7 +26,7 @@ worked-examples a b c d =
     and refl and refl  -- {2}
     and refl and refl  -- messages written
     and refl and refl  -- messages refused
-    and refl and refl  -- the listing
+    and (shown-as-before input ∙ refl) and refl  -- the listing
     and refl  -- node 3 misses slot 2
     and refl and refl and refl and refl and refl  -- and slot 4 is lost
     and refl and refl and refl  -- nodes 1 and 2 off
@@ -59,10 +61,18 @@ crossed-hold a b c d e =
     and refl and refl  -- refused
     and tt
 
+rows-hold : AllHold membersAsRow
+unfolding membersAsRow computed kept asRow soundRow asSet nodesIn nodesAt
+rows-hold =
+    refl and refl  -- there and back
+    and refl and refl and refl and refl and refl  -- not sound
+    and tt
+
 pub request-examples : (a b c d e f : Node)
     → AllHold (fixedOrder (a ∷ b ∷ c ∷ d ∷ []))
     × AllHold (feederCut (a ∷ b ∷ c ∷ d ∷ e ∷ f ∷ []))
     × AllHold (ownMarks (a ∷ b ∷ c ∷ d ∷ []))
     × AllHold (slowReceivers (a ∷ b ∷ c ∷ d ∷ e ∷ []))
     × AllHold (crossedSlots (a ∷ b ∷ c ∷ d ∷ e ∷ []))
-request-examples a b c d e f = (order-holds a b c d, feeder-holds a b c d e f, marks-hold a b c d, slow-holds a b c d e, crossed-hold a b c d e)
+    × AllHold membersAsRow
+request-examples a b c d e f = (order-holds a b c d, feeder-holds a b c d e f, marks-hold a b c d, slow-holds a b c d e, crossed-hold a b c d e, rows-hold)

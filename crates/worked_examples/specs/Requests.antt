@@ -1,8 +1,8 @@
 -- Examples of document 02's requests, under its sentences.
-use Prim.Native.Nat.{ℕ}
+use Prim.Native.Nat.{ℕ, _-_}
 use mathlib.Core.Bool.{Bool, true, false}
 use mathlib.Core.List.{List, [], _∷_, _++_}
-use lib.ListN.{replicate}
+use lib.ListN.{length, replicate}
 use Rattle.nodeset.specs.Sets.{has}
 use Rattle.refusal.specs.Causes.{cause}
 use Rattle.ring.specs.declared.Cable.{Cable}
@@ -20,6 +20,8 @@ use Rattle.bench.specs.Calls.{setUpGiven, slotOf}
 use Rattle.bench.specs.Pairs.{slotBytes}
 use Rattle.bench.specs.Runs.{Call, off, restart}
 use Rattle.bench.specs.Plans.{ok, lost}
+use Rattle.row.specs.declared.Row as members
+use Rattle.row.specs.Rows.{asRow, soundRow, asSet}
 use Rattle.worked_examples.specs.Rows.{Row, _gives_, these, Standing, holds, out, other, standings, miss, afterOn, after}
 
 -- ---- c: changes in a fixed order
@@ -156,4 +158,24 @@ crossedSlots lent =
     -- "Table of the wrong length: 17, after 14. A node missing or doubled: 18, next".
     ∷ (setUpGiven five (3 ∷ 1 ∷ 5 ∷ 2 ∷ []) lent .answer gives answer.Refused (cause 17))
     ∷ (setUpGiven five (3 ∷ 1 ∷ 5 ∷ 2 ∷ 2 ∷ []) lent .answer gives answer.Refused (cause 18))
+    ∷ []
+
+-- ---- l: members as a row
+
+-- So many nodes, these in the first places, and zeros after them.
+abbrev pub inPlaces : ℕ → List ℕ → members.Row
+inPlaces count nodes = record { length = count; nodes = nodes ++ replicate (32 - length nodes) 0 }
+
+-- With the slot table 3, 1, 5, 2, 4.
+unfoldable pub membersAsRow : List Row
+membersAsRow =
+    -- "A row of node numbers in slot order from place 1, with its length, unused places 0": that of nodes 1, 2 and 5, and back;
+    (asRow (crossed .order) (these (1 ∷ 2 ∷ 5 ∷ [])) gives inPlaces 3 (1 ∷ 5 ∷ 2 ∷ []))
+    ∷ (asSet 5 (crossed .order) (inPlaces 3 (1 ∷ 5 ∷ 2 ∷ [])) gives these (1 ∷ 2 ∷ 5 ∷ []))
+    -- "a row out of order, doubled, longer than n or with a used spare place: 4"; and one with a number that is none.
+    ∷ (soundRow 5 (crossed .order) (inPlaces 3 (1 ∷ 2 ∷ 5 ∷ [])) gives false)
+    ∷ (soundRow 5 (crossed .order) (inPlaces 3 (1 ∷ 5 ∷ 5 ∷ [])) gives false)
+    ∷ (soundRow 5 (crossed .order) (inPlaces 6 (3 ∷ 1 ∷ 5 ∷ 2 ∷ 4 ∷ [])) gives false)
+    ∷ (soundRow 5 (crossed .order) (inPlaces 2 (1 ∷ 5 ∷ 2 ∷ [])) gives false)
+    ∷ (soundRow 5 (crossed .order) (inPlaces 3 (1 ∷ 5 ∷ 6 ∷ [])) gives false)
     ∷ []

@@ -139,7 +139,7 @@ impl Node {
         CLAUSES.iter().all(|clause| (clause.kept)(self))
     }
 
-    fn check_sound(&self) -> Result<(), u32> {
+    pub fn check_sound(&self) -> Result<(), u32> {
         if self.is_sound() {
             Ok(())
         } else {

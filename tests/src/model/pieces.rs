@@ -1,7 +1,7 @@
 //! Document 01, "The bench program": a plan text that comes in pieces.
 
 use super::bench;
-use super::node::Node;
+use super::held::{self, Record};
 use super::program::{line_one, run_line, LONGEST};
 use super::refusal;
 use std::io::Write;
@@ -15,17 +15,17 @@ pub struct Plan {
     pub lines: u64,
     pub n: u32,
     pub over: bool,
-    pub rows: Vec<Node>,
+    pub rows: Vec<Record>,
     /// A row of no node.
-    pub none: Node,
+    pub none: Record,
 }
 
 impl Plan {
-    pub fn new(none: Node, rows: usize) -> Plan {
+    pub fn new(none: Record, rows: usize) -> Plan {
         Plan { lines: 0, n: 0, over: false, rows: vec![none; rows], none }
     }
 
-    fn table(&mut self) -> &mut [Node] {
+    fn table(&mut self) -> &mut [Record] {
         let size = self.rows.len().min(self.n as usize);
         &mut self.rows[..size]
     }
@@ -35,7 +35,7 @@ impl Plan {
         if self.over || self.lines == 0 {
             return Ok(());
         }
-        bench::check_table(self.table())
+        bench::check_table(&held::rules(self.table())?)
     }
 
     fn refuse(&mut self, number: u32, out: &mut Vec<u8>) {
@@ -49,7 +49,7 @@ impl Plan {
         self.rows = vec![self.none; rows];
         let table = if line.len() <= LONGEST { line_one(line)? } else { return Err(refusal::LINE) };
         self.n = table.len() as u32;
-        self.rows[..table.len()].copy_from_slice(&table);
+        held::hold(&mut self.rows, &table);
         Ok(())
     }
 
@@ -62,7 +62,7 @@ impl Plan {
         let ended = match first {
             true => self.open(line),
             false if line.len() > LONGEST => Err(refusal::LINE),
-            false => run_line(self.table(), line, out),
+            false => held::call(self.table(), |nodes| run_line(nodes, line, out)),
         };
         if let Err(number) = ended {
             self.refuse(number, out);

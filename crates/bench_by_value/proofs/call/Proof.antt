@@ -28,7 +28,7 @@ use denote.Array.{Array}
 use denote.Ref.{RefT}
 use denote.RattleType.{RattleType, owns}
 use denote.Slice.{sliceVal, MutSlice, ShrSlice, Room, slice-vals, mut-slice-tells, shr-slice-tells}
-use denote.Lend.{Held}
+use denote.Lend.{Held as Borrowed}
 use denote.Index.{row}
 use denote.Signature.{Slot, plain, shrSliceOf}
 use denote.Steps.{only, owned, peeks, nothing}
@@ -38,8 +38,8 @@ use denote.Triple.Spec.{Meets, tripleOf}
 use denote.Triple.Table.{entered, cited}
 use denote.Triple.Walked.{says, Stays, stay-dropped, stay-slice, walkOf, goes-dropped, goes-slice, ends-at, walked, walk-meets}
 use denote.Exit.{yes}
-use Rattle.node_record.specs.declared.Node.{Node}
-use Rattle.node_record.proofs.Node as N
+use Rattle.node_record.specs.declared.Held.{Held}
+use Rattle.node_record.proofs.Held as N
 use Rattle.bench.specs.declared.Reply.{Reply}
 use Rattle.bench.proofs.Reply as O
 use Rattle.bench.proofs.Reply.Laws as O′
@@ -51,7 +51,8 @@ use Rattle.bench_by_value.proofs.Ran as S
 use Rattle.bench_by_value.proofs.Ran.Laws as S′
 use Rattle.node_reports.specs.Reports.{Counts}
 use Rattle.bench.specs.Ledger.{Ledger}
-use Rattle.bench.specs.Kept.{Kept, keptOf, bytesWith}
+use Rattle.bench.specs.Kept.{bytesWith}
+use Rattle.bench.specs.Held.{settedAll, KeptHeld, keptHeld}
 use Rattle.bench_walks.proofs.Again.{LentAgain, lends-again, comes-back}
 use Rattle.bench_walks.proofs.Calls.{Plain, uint, a-struct, an-enum, Known, Does, at, calls-by, does, arg, frees}
 use Rattle.bench_by_value.specs.ByValue.{tableOf, ended, callWith}
@@ -91,13 +92,13 @@ stayed =
 small : {k : ℕ} → k ≤ 32 → k < 2 ^ 64
 small h = omega (arith, h)
 
-abbrev kept : List Node → Ledger → List Counts → Reply → Kept
+abbrev kept : List Held → Ledger → List Counts → Reply → KeptHeld
 kept zs ms ds r = record { table = zs; ledger = ms; counts = ds; reply = r }
 
-is-so : (n : ℕ) (c : Command) (slots : List ℕ) (room : ℕ) (ls ms : Ledger) (cs ds : List Counts) (ys zs : List Node) (r : Reply) (x : Ran) → x ≡ record { rows = zs ++ dropping n ys; outcome = r .outcome; pairs = r .pairs }
-    → kept zs ms ds r ≡ keptOf c slots room ls cs (take n ys) → (x, ms, ds) ≡ callWith n c slots room ls cs ys
+is-so : (n : ℕ) (c : Command) (slots : List ℕ) (room : ℕ) (ls ms : Ledger) (cs ds : List Counts) (ys zs : List Held) (r : Reply) (x : Ran) → x ≡ record { rows = zs ++ dropping n ys; outcome = r .outcome; pairs = r .pairs }
+    → kept zs ms ds r ≡ keptHeld c slots room ls cs (take n ys) → (x, ms, ds) ≡ callWith n c slots room ls cs ys
 unfolding callWith
-is-so n c slots room ls ms cs ds ys zs r x is e = ap (λ (y : Ran). (y, ms, ds)) is ∙ ap (λ (k : Kept). (ended n ys (record { table = k .table; reply = k .reply }), k .ledger, k .counts)) e
+is-so n c slots room ls ms cs ds ys zs r x is e = ap (λ (y : Ran). (y, ms, ds)) is ∙ ap (λ (k : KeptHeld). (ended n ys (k .table) (k .reply), k .ledger, k .counts)) e
 
 module _ {M : Type 1} (𝓤 : URA M) (H : Heap 𝓤) (A : Atoms 𝓤) (W : Given 𝓤 H A) (mem : Memory → SProp 𝓤) (run : Routine → Fun 𝓤) (𝓣 : Tables 𝓤 H)
     (known-size : Known 𝓤 H A (𝓣 .C) #bench-by-value·size size.ended (size.clauses 𝓤 H A mem run)) (known-bench : Known 𝓤 H A (𝓣 .C) #bench-calls·call bench.ended (bench.clauses 𝓤 H A mem run)) (known-told : Known 𝓤 H A (𝓣 .C) #bench-by-value·told told.ended (told.clauses 𝓤 H A mem run)) where
@@ -119,7 +120,7 @@ module _ {M : Type 1} (𝓤 : URA M) (H : Heap 𝓤) (A : Atoms 𝓤) (W : Given
   does-told : Does 𝓤 H A (𝓣 .C) #bench-by-value·told (plain (λ _. R) ∷ plain (λ _. O.the-row) ∷ []) (yes, (yes, tt)) (plain (λ _. S.the-row)) (λ a r. r ≡ record { rows = a .0; outcome = a .1 .0 .outcome; pairs = a .1 .0 .pairs })
   does-told = record { clauses = told.clauses 𝓤 H A mem run; known = known-told; ghosts = λ a. tt; needs = λ a. id⊢ 𝓤 _; says = λ a r ws. id⊢ 𝓤 _ }
 
-  module _ (κ κ′ κ″ κₛ : Lft) (q q′ q″ qₛ : Share) (b o b′ o′ b″ o″ bₛ oₛ : ℕ) (γ γ′ γ″ γₛ : GName) (ls : Ledger) (cs : List Counts) (out order-lent : List ℕ) (room : Room E (length ls)) (room′ : Room grid (length cs)) (room″ : Room (UInt w8) (length out)) (roomₛ : Room (UInt w8) (length order-lent)) (ys : List Node) (g-ys : Is R ys (vals ys)) (n : ℕ) (g-n : Is (UInt w32) n (vint w32 n ∷ [])) (c : Command) (g-c : Is Q.the-row c (command .val c ∷ [])) where
+  module _ (κ κ′ κ″ κₛ : Lft) (q q′ q″ qₛ : Share) (b o b′ o′ b″ o″ bₛ oₛ : ℕ) (γ γ′ γ″ γₛ : GName) (ls : Ledger) (cs : List Counts) (out order-lent : List ℕ) (room : Room E (length ls)) (room′ : Room grid (length cs)) (room″ : Room (UInt w8) (length out)) (roomₛ : Room (UInt w8) (length order-lent)) (ys : List Held) (g-ys : Is R ys (vals ys)) (n : ℕ) (g-n : Is (UInt w32) n (vint w32 n ∷ [])) (c : Command) (g-c : Is Q.the-row c (command .val c ∷ [])) where
     abbrev y : RefT Ledger
     y = at E b o ls γ
 
@@ -145,7 +146,7 @@ module _ {M : Type 1} (𝓤 : URA M) (H : Heap 𝓤) (A : Atoms 𝓤) (W : Given
     sₛ = sliceVal (bₛ, oₛ) (length order-lent)
 
     -- the first n records
-    abbrev t : List Node
+    abbrev t : List Held
     t = take n ys
 
     abbrev len : length ys ≡ 32
@@ -200,7 +201,7 @@ module _ {M : Type 1} (𝓤 : URA M) (H : Heap 𝓤) (A : Atoms 𝓤) (W : Given
         assigns ! (agg ! (and-then ! (arg ! 6 refl) (and-then ! (load ! (from ! (fld ! refl (stop !))) (look-in ! 33 (sub ! 1 refl (whole !)))) (no-more !)))) (from ! (stop !)) (init ! 4 refl (tt, (tt, (record { fits = room″ .0 }, tt)))) $
         -- the table is lent for a lifetime ν of the call, the ledger for μ, the counts for ρ, the buffer for σ
         lft-new ! tt (λ ν. move ! (1 ∷ []) $
-        use1 W (later (some (λ (δ : GName). ‵ (MutSlice (named 0) (ν ∷ []) N.the-row .own (at N.the-row l₈ 0 t δ) (sliceVal (l₈, 0) (length t) ∷ [])) ⊛ ‵ (flent (ν ∷ []) (Held N.the-row (length t) l₈ 0 δ))))) (lends-row 𝓤 H A W (ν ∷ []) t l₈ (few n ys len)) $ await ! tt $ pick ! (λ δ. split ! $
+        use1 W (later (some (λ (δ : GName). ‵ (MutSlice (named 0) (ν ∷ []) N.the-row .own (at N.the-row l₈ 0 t δ) (sliceVal (l₈, 0) (length t) ∷ [])) ⊛ ‵ (flent (ν ∷ []) (Borrowed N.the-row (length t) l₈ 0 δ))))) (lends-row 𝓤 H A W (ν ∷ []) t l₈ (few n ys len)) $ await ! tt $ pick ! (λ δ. split ! $
         lft-new ! tt (λ μ. move ! (44 ∷ 45 ∷ []) $
         use2 W (later (some (λ (δ′ : GName). ‵ (MutSlice (named 1) (μ ∷ []) E .own (at E b o ls δ′) (s ∷ [])) ⊛ ‵ (LentAgain E κ (μ ∷ []) q γ b o δ′ ls)))) (lends-again E κ (μ ∷ []) q γ b o 𝓤 H A W (named 0) (named 1) ls) $ await ! tt $ pick ! (λ δ′. split ! $
         lft-new ! tt (λ ρ. move ! (47 ∷ 48 ∷ []) $
@@ -209,7 +210,7 @@ module _ {M : Type 1} (𝓤 : URA M) (H : Heap 𝓤) (A : Atoms 𝓤) (W : Given
         use2 W (later (some (λ (δ‴ : GName). ‵ (MutSlice (named 3) (σ ∷ []) (UInt w8) .own (at (UInt w8) b″ o″ out δ‴) (s″ ∷ [])) ⊛ ‵ (LentAgain (UInt w8) κ″ (σ ∷ []) q″ γ″ b″ o″ δ‴ out)))) (lends-again (UInt w8) κ″ (σ ∷ []) q″ γ″ b″ o″ 𝓤 H A W (named 2) (named 3) out) $ await ! tt $ pick ! (λ δ‴. split ! $
         move ! (53 ∷ 52 ∷ []) $ join ! $ move ! (12 ∷ 10 ∷ []) $ join ! $ move ! (10 ∷ 8 ∷ []) $ join ! $ move ! (8 ∷ 6 ∷ []) $ join ! $ move ! (6 ∷ 4 ∷ []) $ join ! $ group ! 5 $ use1 W (raw (tripleOf 𝓤 H A bench.signature (bench.spec 𝓤 H A mem run) .pre (bounds ν μ ρ σ l₈ δ δ′ δ″ δ‴))) (asks ν μ ρ σ l₈ δ δ′ δ″ δ‴) $
         calls-by ! (fmOf 𝓤 H (W .laws) 𝓣) bench.ended (bench.clauses 𝓤 H A mem run) known-bench (bounds ν μ ρ σ l₈ δ δ′ δ″ δ‴)
-        (λ r ws. (kept (ws .0) (ws .1 .0) (ws .1 .1 .0) r ≡ keptOf c order-lent (length out) ls cs t) × (ws .1 .1 .1 .0 ≡ bytesWith c order-lent ls cs t out)) (λ r ws. id⊢ 𝓤 _) (and-then ! (arg ! 20 refl) (and-then ! (arg ! 16 refl) (and-then ! (arg ! 12 refl) (and-then ! (arg ! 8 refl) (and-then ! (arg ! 35 refl) (and-then ! (arg ! 29 refl) (no-more !))))))) (λ v r ws is-r.
+        (λ r ws. (kept (ws .0) (ws .1 .0) (ws .1 .1 .0) r ≡ keptHeld c order-lent (length out) ls cs t) × (ws .1 .1 .1 .0 ≡ bytesWith c order-lent ls cs (settedAll t) out)) (λ r ws. id⊢ 𝓤 _) (and-then ! (arg ! 20 refl) (and-then ! (arg ! 16 refl) (and-then ! (arg ! 12 refl) (and-then ! (arg ! 8 refl) (and-then ! (arg ! 35 refl) (and-then ! (arg ! 29 refl) (no-more !))))))) (λ v r ws is-r.
         use1 W (‵ (flft (ν ∷ []) fullShare) ⊛ (‵ (flft (μ ∷ []) fullShare) ⊛ (‵ (flft (ρ ∷ []) fullShare) ⊛ (‵ (flft (σ ∷ []) fullShare) ⊛ (‵ (flft κₛ qₛ) ⊛ ‵ ftrue))))) (id⊢ 𝓤 _) $
         split ! $ lft-end ! tt $ move ! (1 ∷ []) $ split ! $ lft-end ! tt $ move ! (1 ∷ []) $ split ! $ lft-end ! tt $ move ! (1 ∷ []) $ split ! $ lft-end ! tt $
         move ! (6 ∷ []) $ fsplit ! $ fsplit ! $ move ! (1 ∷ []) $ feqL ! (λ len-zs. move ! (1 ∷ []) $ fsplit ! $ fsplit ! $ move ! (1 ∷ []) $ feqL ! (λ len-ms. move ! (1 ∷ []) $ fsplit ! $ fsplit ! $ move ! (1 ∷ []) $ feqL ! (λ len-ds. move ! (1 ∷ []) $ fsplit ! $ fsplit ! $ move ! (1 ∷ []) $ feqL ! (λ len-ws. move ! (5 ∷ 11 ∷ 0 ∷ []) $

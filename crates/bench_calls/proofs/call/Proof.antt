@@ -32,8 +32,8 @@ use denote.Triple.Spec.{Meets, tripleOf}
 use denote.Triple.Table.{entered, cited}
 use denote.Triple.Walked.{says, Stays, stay-dropped, stay-slice, walkOf, goes-dropped, goes-slice, ends-at, walked, walk-meets}
 use denote.Exit.{yes}
-use Rattle.node_record.specs.declared.Node.{Node}
-use Rattle.node_record.proofs.Node as T
+use Rattle.node_record.specs.declared.Held.{Held}
+use Rattle.node_record.proofs.Held as T
 use Rattle.bench.specs.declared.Command.{Command}
 use Rattle.bench.proofs.Command as Q
 use Rattle.bench.proofs.Command.Laws as Q′
@@ -53,7 +53,8 @@ use Rattle.bench_walks.proofs.Errand as Er
 use Rattle.bench_walks.proofs.Errand.Laws as Er′
 use Rattle.node_reports.specs.Reports.{Counts}
 use Rattle.bench.specs.Ledger.{Ledger, ledgerFits}
-use Rattle.bench.specs.Kept.{Kept, keptOf, bytesWith}
+use Rattle.bench.specs.Kept.{bytesWith}
+use Rattle.bench.specs.Held.{settedAll, KeptHeld, keptHeld}
 use Rattle.bench_walks.specs.Survey.{surveyOf}
 use Rattle.bench_walks.specs.Orders.{orderOf, errandOf, carriedFrom, replyBy, writtenBy}
 use Rattle.bench_walks.proofs.Calls.{Plain, uint, boolean, unit, a-struct, an-enum, Known, Does, at, does, lends, shares, hands, arg, frees}
@@ -121,7 +122,7 @@ abbrev stayed : Stays (this.ended .signature .params) (this.ended .kept)
 stayed =
     (stay-slice (0 ∷ []) tt (plain (λ _. T.the-row)), (stay-slice (1 ∷ []) tt (plain (λ _. E)), (stay-slice (2 ∷ []) tt (plain (λ _. grid)), (stay-slice (3 ∷ []) tt (plain (λ _. UInt w8)), (stay-dropped slots yes, (stay-dropped (plain (λ _. Q.the-row)) yes, tt))))))
 
-abbrev kept : List Node → Ledger → List Counts → Reply → Kept
+abbrev kept : List Held → Ledger → List Counts → Reply → KeptHeld
 kept zs ls cs r = record { table = zs; ledger = ls; counts = cs; reply = r }
 
 module _ {M : Type 1} (𝓤 : URA M) (H : Heap 𝓤) (A : Atoms 𝓤) (W : Given 𝓤 H A) (mem : Memory → SProp 𝓤) (run : Routine → Fun 𝓤) (𝓣 : Tables 𝓤 H)
@@ -161,12 +162,12 @@ module _ {M : Type 1} (𝓤 : URA M) (H : Heap 𝓤) (A : Atoms 𝓤) (W : Given
   does-order : Does 𝓤 H A (𝓣 .C) #order-of (plain (λ _. Q.the-row) ∷ plain (λ _. S.the-row) ∷ plain (λ _. UInt w64) ∷ plain (λ _. UInt w64) ∷ plain (λ _. B.the-row) ∷ []) (yes, (yes, (yes, (yes, (yes, tt))))) (plain (λ _. O.the-row)) (λ a r. r ≡ orderOf (a .0) (a .1 .0) (a .1 .1 .0) (a .1 .1 .1 .0) (a .1 .1 .1 .1 .0))
   does-order = record { clauses = order-of.clauses 𝓤 H A mem run; known = known-order; ghosts = λ a. tt; needs = λ a. id⊢ 𝓤 _; says = λ a r ws. id⊢ 𝓤 _ }
 
-  does-sent : Does 𝓤 H A (𝓣 .C) #sent-with (plain (λ _. O.the-row) ∷ plain (λ _. B.the-row) ∷ []) (yes, (yes, tt)) (plain (λ _. Er.the-row)) (λ a r. r ≡ errandOf (a .0) (a .1 .0))
+  does-sent : Does 𝓤 H A (𝓣 .C) #sent-with (plain (λ _. O.the-row) ∷ plain (λ _. S.the-row) ∷ plain (λ _. B.the-row) ∷ []) (yes, (yes, (yes, tt))) (plain (λ _. Er.the-row)) (λ a r. r ≡ errandOf (a .0) (a .1 .0) (a .1 .1 .0))
   does-sent = record { clauses = sent-with.clauses 𝓤 H A mem run; known = known-sent; ghosts = λ a. tt; needs = λ a. id⊢ 𝓤 _; says = λ a r ws. id⊢ 𝓤 _ }
 
-  module _ (κ κ′ κ″ κ‴ κₛ : Lft) (q q′ q″ q‴ qₛ : Share) (b o b′ o′ b″ o″ b‴ o‴ bₛ oₛ : ℕ) (γ γ′ γ″ γ‴ γₛ : GName) (xs : List Node) (ls : Ledger) (cs : List Counts) (out order-lent : List ℕ)
+  module _ (κ κ′ κ″ κ‴ κₛ : Lft) (q q′ q″ q‴ qₛ : Share) (b o b′ o′ b″ o″ b‴ o‴ bₛ oₛ : ℕ) (γ γ′ γ″ γ‴ γₛ : GName) (xs : List Held) (ls : Ledger) (cs : List Counts) (out order-lent : List ℕ)
       (room : Room T.the-row (length xs)) (room′ : Room E (length ls)) (room″ : Room grid (length cs)) (room‴ : Room (UInt w8) (length out)) (roomₛ : Room (UInt w8) (length order-lent)) (c : Command) (g-c : Is Q.the-row c (command .val c ∷ [])) where
-    abbrev x : RefT (List Node)
+    abbrev x : RefT (List Held)
     x = at T.the-row b o xs γ
 
     abbrev y : RefT Ledger
@@ -199,8 +200,8 @@ module _ {M : Type 1} (𝓤 : URA M) (H : Heap 𝓤) (A : Atoms 𝓤) (W : Given
     abbrev Post : Val → SProp 𝓤
     Post = walkOf 𝓤 H A this.ended stayed (this.clauses 𝓤 H A mem run) .post (((κ, (κ′, (κ″, (κ‴, (κₛ, tt))))), (q, (q′, (q″, (q‴, (qₛ, tt))))), tt, (x, (y, (z, (p, (t, (c, tt)))))), (s ∷ [], (s′ ∷ [], (s″ ∷ [], (s‴ ∷ [], (sₛ ∷ [], (command .val c ∷ [], tt))))))), tt)
 
-    exits : (zs : List Node) (ms : Ledger) (ds : List Counts) (ws : List ℕ) (r : Reply) → Is Rp.the-row r (reply .val r ∷ [])
-        → (kept zs ms ds r ≡ keptOf c order-lent (length out) ls cs xs) × (ws ≡ bytesWith c order-lent ls cs xs out)
+    exits : (zs : List Held) (ms : Ledger) (ds : List Counts) (ws : List ℕ) (r : Reply) → Is Rp.the-row r (reply .val r ∷ [])
+        → (kept zs ms ds r ≡ keptHeld c order-lent (length out) ls cs xs) × (ws ≡ bytesWith c order-lent ls cs (settedAll xs) out)
         → length zs ≡ length xs → length ms ≡ length ls → length ds ≡ length cs → length ws ≡ length out
         → ent 𝓤 (⋆ 𝓤 H A (‵ (MutSlice (named 3) κ‴ (UInt w8) .own (at (UInt w8) b‴ o‴ ws γ‴) (s‴ ∷ [])) ∷ ‵ (flft κ‴ q‴) ∷ ‵ (MutSlice (named 2) κ″ grid .own (at grid b″ o″ ds γ″) (s″ ∷ [])) ∷ ‵ (flft κ″ q″) ∷ ‵ (MutSlice (named 1) κ′ E .own (at E b′ o′ ms γ′) (s′ ∷ [])) ∷ ‵ (flft κ′ q′) ∷ ‵ (MutSlice (named 0) κ T.the-row .own (at T.the-row b o zs γ) (s ∷ [])) ∷ ‵ (flft κ q) ∷ ‵ (flft κₛ qₛ) ∷ [])) (Post (reply .val r))
     exits zs ms ds ws r g-r e l l′ l″ l‴ =
@@ -244,7 +245,7 @@ module _ {M : Type 1} (𝓤 : URA M) (H : Heap 𝓤) (A : Atoms 𝓤) (W : Given
         assigns ! (of-opd ! (load ! (from ! (fld ! refl (stop !))) (look-in ! 59 (sub ! 1 refl (whole !))))) (from ! (stop !)) (store ! 25 refl (tt, record { fits = room‴ .0 })) $
         does ! (fmOf 𝓤 H (W .laws) 𝓣) does-order (command, (survey, (size, (size, (fit, tt))))) (c, (v, (length xs, (length out, (h, tt))))) (g-c, (g-v, ((refl, room .0), ((refl, room‴ .0), (g-h, tt)))))
         (and-then ! (arg ! 56 refl) (and-then ! (arg ! 50 refl) (and-then ! (arg ! 54 refl) (and-then ! (arg ! 26 refl) (and-then ! (arg ! 46 refl) (no-more !)))))) order (from ! (stop !)) 43 refl (λ w g-w is-w.
-        does ! (fmOf 𝓤 H (W .laws) 𝓣) does-sent (order, (fit, tt)) (w, (h, tt)) (g-w, (g-h, tt)) (and-then ! (arg ! 44 refl) (and-then ! (arg ! 46 refl) (no-more !))) errand (from ! (stop !)) 41 refl (λ e g-e is-e. move ! (4 ∷ 5 ∷ []) $
+        does ! (fmOf 𝓤 H (W .laws) 𝓣) does-sent (order, (survey, (fit, tt))) (w, (v, (h, tt))) (g-w, (g-v, (g-h, tt))) (and-then ! (arg ! 44 refl) (and-then ! (arg ! 50 refl) (and-then ! (arg ! 46 refl) (no-more !)))) errand (from ! (stop !)) 41 refl (λ e g-e is-e. move ! (4 ∷ 5 ∷ []) $
         -- the order is carried out
         assigns ! (addr ! (from ! (fld ! refl (hop ! (look-in ! 65 (sub ! 0 refl (whole !))) (stop !))))) (from ! (stop !)) (init ! 23 refl (tt, tt)) $
         assigns ! (agg ! (and-then ! (arg ! 23 refl) (and-then ! (load ! (from ! (fld ! refl (stop !))) (look-in ! 65 (sub ! 1 refl (whole !)))) (no-more !)))) (from ! (stop !)) (init ! 21 refl (tt, (tt, (record { fits = room .0 }, tt)))) $

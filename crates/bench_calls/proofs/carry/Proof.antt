@@ -27,8 +27,8 @@ use denote.Triple.Spec.{Meets, tripleOf}
 use denote.Triple.Table.{entered, cited}
 use denote.Triple.Walked.{says, Stays, stay-dropped, stay-slice, walkOf, goes-dropped, goes-slice, ends-at}
 use denote.Exit.{yes}
-use Rattle.node_record.specs.declared.Node.{Node}
-use Rattle.node_record.proofs.Node as T
+use Rattle.node_record.specs.declared.Held.{Held}
+use Rattle.node_record.proofs.Held as T
 use Rattle.bench_walks.specs.declared.Errand.{Errand}
 use Rattle.bench_walks.proofs.Errand as O
 use Rattle.bench_walks.proofs.Errand.Laws as O′
@@ -70,12 +70,12 @@ abbrev stayed : Stays (this.ended .signature .params) (this.ended .kept)
 stayed = (stay-slice (0 ∷ []) tt (plain (λ _. T.the-row)), (stay-dropped (plain (λ _. O.the-row)) yes, tt))
 
 -- what the two walks and the answer give is the work of the definitions
-is-so : (o : Errand) (xs zs : List Node) (m : Notes) (j : ℕ) (ms : Members) (r : Work) → (zs ≡ carriedFrom o 0 xs) × (m ≡ notesOf o xs) → j ≡ reachOf m → ms ≡ membersOf (take j zs) → r ≡ record { notes = m; members = ms }
+is-so : (o : Errand) (xs zs : List Held) (m : Notes) (j : ℕ) (ms : Members) (r : Work) → (zs ≡ carriedFrom o 0 xs) × (m ≡ notesOf o xs) → j ≡ reachOf m → ms ≡ membersOf (take j zs) → r ≡ record { notes = m; members = ms }
     → (zs ≡ carriedFrom o 0 xs) × (r ≡ workOf o xs)
 is-so o xs zs m j ms r is-m is-j is-ms is-r =
     let reach : j ≡ reachOf (notesOf o xs) = is-j ∙ ap reachOf (is-m .1) in
     let found : ms ≡ membersOf (take (reachOf (notesOf o xs)) (carriedFrom o 0 xs)) =
-    is-ms ∙ ap (λ (k : ℕ). membersOf (take k zs)) reach ∙ ap (λ (l : List Node). membersOf (take (reachOf (notesOf o xs)) l)) (is-m .0) in
+    is-ms ∙ ap (λ (k : ℕ). membersOf (take k zs)) reach ∙ ap (λ (l : List Held). membersOf (take (reachOf (notesOf o xs)) l)) (is-m .0) in
     (is-m .0, is-r ∙ cc (is-m .1, found))
 
 module _ {M : Type 1} (𝓤 : URA M) (H : Heap 𝓤) (A : Atoms 𝓤) (W : Given 𝓤 H A) (mem : Memory → SProp 𝓤) (run : Routine → Fun 𝓤) (𝓣 : Tables 𝓤 H)
@@ -102,14 +102,14 @@ module _ {M : Type 1} (𝓤 : URA M) (H : Heap 𝓤) (A : Atoms 𝓤) (W : Given
   does-worked : Does 𝓤 H A (𝓣 .C) #worked (plain (λ _. N.the-row) ∷ plain (λ _. Ms.the-row) ∷ []) (yes, (yes, tt)) (plain (λ _. Wk.the-row)) (λ a r. r ≡ record { notes = a .0; members = a .1 .0 })
   does-worked = record { clauses = worked.clauses 𝓤 H A mem run; known = known-worked; ghosts = λ a. tt; needs = λ a. id⊢ 𝓤 _; says = λ a r ws. id⊢ 𝓤 _ }
 
-  module _ (κ : Lft) (q : Share) (b o : ℕ) (γ : GName) (xs : List Node) (room : Room T.the-row (length xs)) (w : Errand) (g-w : Is O.the-row w (errand .val w ∷ [])) where
+  module _ (κ : Lft) (q : Share) (b o : ℕ) (γ : GName) (xs : List Held) (room : Room T.the-row (length xs)) (w : Errand) (g-w : Is O.the-row w (errand .val w ∷ [])) where
     abbrev s : Val
     s = sliceVal (b, o) (length xs)
 
     abbrev Post : Val → SProp 𝓤
     Post = walkOf 𝓤 H A this.ended stayed (this.clauses 𝓤 H A mem run) .post (((κ, tt), (q, tt), tt, (at T.the-row b o xs γ, (w, tt)), (s ∷ [], (errand .val w ∷ [], tt))), tt)
 
-    exits : (zs : List Node) (r : Work) → Is Wk.the-row r (work .val r ∷ []) → (zs ≡ carriedFrom w 0 xs) × (r ≡ workOf w xs) → length zs ≡ length xs
+    exits : (zs : List Held) (r : Work) → Is Wk.the-row r (work .val r ∷ []) → (zs ≡ carriedFrom w 0 xs) × (r ≡ workOf w xs) → length zs ≡ length xs
         → ent 𝓤 (⋆ 𝓤 H A (‵ (MutSlice (named 0) κ T.the-row .own (at T.the-row b o zs γ) (s ∷ [])) ∷ ‵ (flft κ q) ∷ [])) (Post (work .val r))
     exits zs r g-r e l =
         qed W (‵ (MutSlice (named 0) κ T.the-row .own (at T.the-row b o zs γ) (s ∷ [])) ∷ ‵ (flft κ q) ∷ []) ∵

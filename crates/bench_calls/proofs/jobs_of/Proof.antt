@@ -2,6 +2,7 @@
 use borrow.Author.Needs.{needs}
 use mathlib.Core.Path.{_≡_, sym, ap, _∙_}
 use Rattle.node_record.specs.declared.Node.{Node}
+use Rattle.node_record.specs.Held.{setted}
 use Rattle.bench.specs.declared.Command.{Command}
 use Rattle.bench_calls.specs.Work.{jobsBy}
 use Rattle.bench_calls.proofs.jobs_of.Statement.{statement}
@@ -29,19 +30,19 @@ enum-told-4 : tie.Need-enum-told-4
 enum-told-4 c = search needs
 
 returns : tie.Need-returns
-returns c = commanded (c .before .before .args .speaker) (c .enum-told .given .1)
+returns c = commanded (setted (c .before .before .args .speaker)) (c .enum-told .given .1)
 
 returns-2 : tie.Need-returns-2
-returns-2 c = commanded (c .before .before .args .speaker) (c .enum-told2 .given .1)
+returns-2 c = commanded (setted (c .before .before .args .speaker)) (c .enum-told2 .given .1)
 
 returns-3 : tie.Need-returns-3
-returns-3 c = commanded (c .before .before .args .speaker) (c .enum-told3 .given .1)
+returns-3 c = commanded (setted (c .before .before .args .speaker)) (c .enum-told3 .given .1)
 
 returns-4 : tie.Need-returns-4
-returns-4 c = c .jobs-sent .ensures ∙ commanded (c .before .before .before .before .args .speaker) (c .before .before .command .given .1)
+returns-4 c = c .jobs-sent .ensures ∙ commanded (setted (c .before .before .before .before .args .speaker)) (c .before .before .command .given .1)
 
 returns-5 : tie.Need-returns-5
-returns-5 c = commanded (c .before .before .args .speaker) (c .enum-told4 .given .1)
+returns-5 c = commanded (setted (c .before .before .args .speaker)) (c .enum-told4 .given .1)
 
 pub jobs-of-spec : {M : Type 1} → statement M
 jobs-of-spec =

@@ -2,13 +2,13 @@
 use borrow.Author.Needs.{needs}
 use mathlib.Core.Path.{_≡_, sym, ap, _∙_}
 use Rattle.bench_walks.specs.declared.Order.{Order}
-use Rattle.node_changes.specs.Changes.{starting}
+use Rattle.node_changes.specs.Held.{starting}
 use Rattle.bench_walks.specs.Orders.{carriedBy}
 use Rattle.bench_walks.proofs.carried.Statement.{statement}
 use Rattle.bench_walks.proofs.carried.Tie as tie
 
-ordered : (start : tie.Start) {o o′ : Order} → o ≡ o′ → let a = start .args in carriedBy o′ (a .errand .cable) (a .i) (a .v) ≡ carriedBy o (a .errand .cable) (a .i) (a .v)
-ordered start e = let a = start .args in sym (ap (λ (o : Order). carriedBy o (a .errand .cable) (a .i) (a .v)) e)
+ordered : (start : tie.Start) {o o′ : Order} → o ≡ o′ → let a = start .args in carriedBy o′ (a .errand .cable) (a .errand .row) (a .i) (a .v) ≡ carriedBy o (a .errand .cable) (a .errand .row) (a .i) (a .v)
+ordered start e = let a = start .args in sym (ap (λ (o : Order). carriedBy o (a .errand .cable) (a .errand .row) (a .i) (a .v)) e)
 
 enum-told : tie.Need-enum-told
 enum-told c = search needs
@@ -45,27 +45,27 @@ enum-told-3 c = search needs
 
 returns : tie.Need-returns
 unfolding carriedBy
-returns c = ordered (c .before .before .before) (c .enum-told .given .1)
+returns c = ordered (c .before .before .before .before) (c .enum-told .given .1)
 
 returns-2 : tie.Need-returns-2
 unfolding carriedBy
-returns-2 c = c .starting .ensures ∙ ap (starting _) (c .before .number-at .ensures) ∙ ordered (c .before .before .before .before .before) (c .before .before .enum-told2 .given .1)
+returns-2 c = c .starting .ensures ∙ ap (starting _) (c .before .number-at .ensures) ∙ ordered (c .before .before .before .before .before .before) (c .before .before .enum-told2 .given .1)
 
 returns-3 : tie.Need-returns-3
 unfolding carriedBy
-returns-3 c = c .off-at .ensures ∙ ordered (c .before .before .before .before .before) (c .before .before .order .given .1)
+returns-3 c = c .off-at .ensures ∙ ordered (c .before .before .before .before .before .before) (c .before .before .order .given .1)
 
 returns-4 : tie.Need-returns-4
 unfolding carriedBy
-returns-4 c = c .restart-at .ensures ∙ ordered (c .before .before .before .before .before) (c .before .before .order2 .given .1)
+returns-4 c = c .restart-at .ensures ∙ ordered (c .before .before .before .before .before .before) (c .before .before .order2 .given .1)
 
 returns-5 : tie.Need-returns-5
 unfolding carriedBy
-returns-5 c = c .step-at .ensures ∙ ordered (c .before .before .before .before .before) (c .before .before .order3 .given .1)
+returns-5 c = c .step-at .ensures ∙ ordered (c .before .before .before .before .before .before) (c .before .before .order3 .given .1)
 
 returns-6 : tie.Need-returns-6
 unfolding carriedBy
-returns-6 c = ordered (c .before .before .before) (c .enum-told3 .given .1)
+returns-6 c = ordered (c .before .before .before .before) (c .enum-told3 .given .1)
 
 pub carried-spec : {M : Type 1} → statement M
 carried-spec =

@@ -26,7 +26,7 @@ use denote.Shadow.{pureI}
 use denote.Laws.{Is, shows}
 use denote.Plain.{UInt}
 use denote.Slice.{sliceVal, MutSlice, Room, heres, codedHoleys, at-slice, slice-vals, mut-slice-tells}
-use denote.Lend.{Held}
+use denote.Lend.{Held as Lent}
 use denote.Index.{row, elem-out, elem-put, opens-slice, closes-slice}
 use denote.Signature.{plain}
 use denote.Steps.{owned, peeks, nothing}
@@ -34,17 +34,16 @@ use denote.Triple.Spec.{Meets, tripleOf}
 use denote.Triple.Table.{entered, cited}
 use denote.Triple.Walked.{says, Stays, stay-dropped, stay-slice, walkOf, goes-dropped, goes-slice, ends-at}
 use denote.Exit.{yes}
-use Rattle.node_record.specs.declared.Node.{Node}
-use Rattle.node.specs.Calls.{noNode}
+use Rattle.node_record.specs.declared.Held.{Held}
 use Rattle.bench_walks.specs.declared.Notes.{Notes}
 use Rattle.bench_walks.specs.declared.Errand.{Errand}
-use Rattle.node_record.proofs.Node as T
-use Rattle.node_record.proofs.Node.Laws as T′
+use Rattle.node_record.proofs.Held as T
+use Rattle.node_record.proofs.Held.Laws as T′
 use Rattle.bench_walks.proofs.Notes as P
 use Rattle.bench_walks.proofs.Notes.Laws as P′
 use Rattle.bench_walks.proofs.Errand as O
 use Rattle.bench_walks.proofs.Errand.Laws as O′
-use Rattle.bench_walks.specs.Survey.{foldFrom}
+use Rattle.bench_walks.specs.Survey.{noHeld, foldFrom}
 use Rattle.bench_walks.specs.Orders.{carried, noticed, noNotes, notesOf}
 use Rattle.bench_walks.proofs.Partly.{fold-none, fold-next, take-all, partly, partly-length, partly-at, partly-next, partly-all}
 use Rattle.bench_walks.proofs.Calls.{Plain, uint, a-struct, Known, Does, does, does-over, at, arg, frees, of-mut, slice-meets}
@@ -91,32 +90,32 @@ module _ {M : Type 1} (𝓤 : URA M) (H : Heap 𝓤) (A : Atoms 𝓤) (W : Given
   does-notice : Does 𝓤 H A (𝓣 .C) notice-def.name (plain (λ _. P.the-row) ∷ plain (λ _. T.the-row) ∷ plain (λ _. T.the-row) ∷ []) (yes, (yes, (yes, tt))) (plain (λ _. P.the-row)) (λ a r. r ≡ noticed (a .0) (a .1 .0) (a .1 .1 .0))
   does-notice = record { clauses = notice.clauses 𝓤 H A mem run; known = known-notice; ghosts = λ a. tt; needs = λ a. id⊢ 𝓤 _; says = λ a r ws. id⊢ 𝓤 _ }
 
-  module _ (κ : Lft) (q : Share) (b o : ℕ) (γ : GName) (xs : List Node) (room : Room T.the-row (length xs)) (order : Errand) (g-o : Is O.the-row order (orders .val order ∷ [])) where
+  module _ (κ : Lft) (q : Share) (b o : ℕ) (γ : GName) (xs : List Held) (room : Room T.the-row (length xs)) (order : Errand) (g-o : Is O.the-row order (orders .val order ∷ [])) where
     abbrev n : ℕ
     n = length xs
 
     abbrev s : Val
     s = sliceVal (b, o) n
 
-    abbrev notices : Notes → ℕ → Node → Notes
+    abbrev notices : Notes → ℕ → Held → Notes
     notices m i v = noticed m v (carried order i v)
 
     -- what is noticed of the first i records
     abbrev acc : ℕ → Notes
     acc i = foldFrom notices noNotes 0 (take i xs)
 
-    abbrev zs : List Node
+    abbrev zs : List Held
     zs = partly (carried order) n xs
 
     abbrev Post : Val → SProp 𝓤
     Post = walkOf 𝓤 H A this.ended stayed (this.clauses 𝓤 H A mem run) .post (((κ, tt), (q, tt), tt, (at T.the-row b o xs γ, (order, tt)), (s ∷ [], (orders .val order ∷ [], tt))), tt)
 
-    exits : ent 𝓤 (⋆ 𝓤 H A (‵ (fobs γ (codedHoleys T.the-row .code (heres T.the-row zs))) ∷ ‵ (fbor κ (Held T.the-row (length zs) b o γ)) ∷ ‵ (flft κ q) ∷ ‵ (P.the-row .own (acc n) (notes .val (acc n) ∷ [])) ∷ [])) (Post (notes .val (acc n)))
+    exits : ent 𝓤 (⋆ 𝓤 H A (‵ (fobs γ (codedHoleys T.the-row .code (heres T.the-row zs))) ∷ ‵ (fbor κ (Lent T.the-row (length zs) b o γ)) ∷ ‵ (flft κ q) ∷ ‵ (P.the-row .own (acc n) (notes .val (acc n) ∷ [])) ∷ [])) (Post (notes .val (acc n)))
     unfolding notesOf
     exits =
-        qed W (‵ (fobs γ (codedHoleys T.the-row .code (heres T.the-row zs))) ∷ ‵ (fbor κ (Held T.the-row (length zs) b o γ)) ∷ ‵ (flft κ q) ∷ ‵ (P.the-row .own (acc n) (notes .val (acc n) ∷ [])) ∷ []) ∵
+        qed W (‵ (fobs γ (codedHoleys T.the-row .code (heres T.the-row zs))) ∷ ‵ (fbor κ (Lent T.the-row (length zs) b o γ)) ∷ ‵ (flft κ q) ∷ ‵ (P.the-row .own (acc n) (notes .val (acc n) ∷ [])) ∷ []) ∵
         suffices ! _ (ends-at 𝓤 H A this.ended stayed (this.clauses 𝓤 H A mem run) W (((κ, tt), (q, tt), tt, (at T.the-row b o xs γ, (order, tt)), (s ∷ [], (orders .val order ∷ [], tt))), tt) (notes .val (acc n)) (acc n) (zs, (tt, tt)) (partly-length (carried order) n xs, (tt, tt))) $
-        says ! (partly-all (carried order) xs, ap (λ (ys : List Node). foldFrom notices noNotes 0 ys) (take-all xs)) $ nothing ! $ move ! (3 ∷ 0 ∷ []) $ join ! $ frame ! $ fjoin ! $
+        says ! (partly-all (carried order) xs, ap (λ (ys : List Held). foldFrom notices noNotes 0 ys) (take-all xs)) $ nothing ! $ move ! (3 ∷ 0 ∷ []) $ join ! $ frame ! $ fjoin ! $
         pureI ! (at-slice T.the-row (at T.the-row b o zs γ) (s ∷ [])) (tt, (tt, tt)) (ap (λ (m : ℕ). sliceVal (b, o) m ∷ []) (sym (partly-length (carried order) n xs)), subst (Room T.the-row) (sym (partly-length (carried order) n xs)) room) $ fjoin ! $
         nothing ! $ nothing ! $ fjoin ! $ move ! (1 ∷ 0 ∷ []) $ fjoin ! $ frame ! $ done !
 
@@ -127,7 +126,7 @@ module _ {M : Type 1} (𝓤 : URA M) (H : Heap 𝓤) (A : Atoms 𝓤) (W : Given
       -- where i records are done: the row, what is noticed, the open borrow; then the locals, the last one first
       abbrev At : ℕ → List (Item 𝓤)
       At i = ‵ (row T.the-row fullShare (partly (carried order) i xs) b o) ∷ ‵ (P.the-row .own (acc i) (notes .val (acc i) ∷ []))
-          ∷ ‵ (fobor κ q (Held T.the-row n b o γ)) ∷ ‵ (fobs γ (codedHoleys T.the-row .code (heres T.the-row xs))) ∷ ‵ (fauth γ (codedHoleys T.the-row .code (heres T.the-row xs)))
+          ∷ ‵ (fobor κ q (Lent T.the-row n b o γ)) ∷ ‵ (fobs γ (codedHoleys T.the-row .code (heres T.the-row xs))) ∷ ‵ (fauth γ (codedHoleys T.the-row .code (heres T.the-row xs)))
           ∷ ‵ (froom tyPtr l₁₁ 0) ∷ ‵ (fdies tyPtr l₁₁) ∷ ‵ (froom T′.mir l₁₀ 0) ∷ ‵ (fdies T′.mir l₁₀) ∷ ‵ (froom tyPtr l₉ 0) ∷ ‵ (fdies tyPtr l₉) ∷ ‵ (froom tyBool l₈ 0) ∷ ‵ (fdies tyBool l₈)
           ∷ ‵ (froom word l₇ 0) ∷ ‵ (fdies word l₇) ∷ ‵ (froom T′.mir l₆ 0) ∷ ‵ (fdies T′.mir l₆) ∷ ‵ (froom T′.mir l₅ 0) ∷ ‵ (fdies T′.mir l₅) ∷ ‵ (fat fullShare word l₄ 0 (vint w64 i)) ∷ ‵ (fdies word l₄)
           ∷ ‵ (fat fullShare P′.mir l₃ 0 (notes .val (acc i))) ∷ ‵ (fdies P′.mir l₃) ∷ ‵ (fat fullShare O′.mir l₂ 0 (orders .val order)) ∷ ‵ (fdies O′.mir l₂) ∷ ‵ (fat fullShare (slice mut) l₁ 0 s) ∷ ‵ (fdies (slice mut) l₁) ∷ ‵ (froom P′.mir l₀ 0) ∷ ‵ (fdies P′.mir l₀) ∷ []
@@ -139,7 +138,7 @@ module _ {M : Type 1} (𝓤 : URA M) (H : Heap 𝓤) (A : Atoms 𝓤) (W : Given
           assigns ! (of-opd ! (load ! (from ! (fld ! refl (stop !))) (look-in ! 25 (sub ! 1 refl (whole !))))) (from ! (stop !)) (init ! 13 refl (tt, record { fits = room .0 })) $
           goes-on ! l (arg ! 19 refl) (arg ! 13 refl) (from ! (stop !)) 11 refl (arg ! 11 refl) $
           points ! (bytes n i (room .1) l) (arg ! 19 refl) (from ! (stop !)) (store ! 13 refl) (load ! (from ! (fld ! refl (stop !))) (look-in ! 25 (sub ! 0 refl (whole !)))) (arg ! 13 refl) (from ! (stop !)) 9 refl $
-          elem-out ! T.the-row (Is T.the-row) (shows 𝓤 H A T.the-row) (λ v. node .val v ∷ []) (node .tells) fullShare ys i noNode b o within (λ g-e.
+          elem-out ! T.the-row (Is T.the-row) (shows 𝓤 H A T.the-row) (λ v. node .val v ∷ []) (node .tells) fullShare ys i noHeld b o within (λ g-e.
           assigns ! (of-opd ! (load ! (from ! (hop ! (look ! 11 refl) (stop !))) (look-raw ! 0 refl))) (from ! (stop !)) (init ! 9 refl (node .typed e g-e)) $
           assigns ! (of-opd ! (arg ! 9 refl)) (from ! (stop !)) (init ! 19 refl (node .typed e g-e)) $
           move ! (1 ∷ []) $ drop ! $ move ! (2 ∷ []) $ peeks ! P.the-row (Is P.the-row) (shows 𝓤 H A P.the-row) (acc i) (notes .val (acc i) ∷ []) (λ g-a. drop ! $
@@ -148,24 +147,24 @@ module _ {M : Type 1} (𝓤 : URA M) (H : Heap 𝓤) (A : Atoms 𝓤) (W : Given
           points ! (bytes n i (room .1) l) (arg ! 19 refl) (from ! (stop !)) (store ! 13 refl) (load ! (from ! (fld ! refl (stop !))) (look-in ! 25 (sub ! 0 refl (whole !)))) (arg ! 13 refl) (from ! (stop !)) 5 refl $
           assigns ! (of-opd ! (arg ! 15 refl)) (from ! (hop ! (look ! 5 refl) (stop !))) (store-raw ! 0 refl (node .typed w g-w)) $
           owned ! T.the-row (Is T.the-row) (node .makes) w (node .val w ∷ []) g-w $ move ! (1 ∷ 0 ∷ 2 ∷ []) $ elem-put ! T.the-row fullShare ys i w (node .val w ∷ []) b o within $
-          rewrite ! 0 (λ (ws : List Node). ‵ (row T.the-row fullShare ws b o)) (ap (λ (v : Node). set ys i v) is-w ∙ partly-next (carried order) i xs noNode l) refl $
+          rewrite ! 0 (λ (ws : List Held). ‵ (row T.the-row fullShare ws b o)) (ap (λ (v : Held). set ys i v) is-w ∙ partly-next (carried order) i xs noHeld l) refl $
           owned ! P.the-row (Is P.the-row) (notes .makes) r (notes .val r ∷ []) g-r $ move ! (1 ∷ []) $
           assigns-last ! (bin ! (arg ! 19 refl) (lit ! tt) (record { fits = fits n i (room .0) l })) (from ! (stop !)) (store ! 19 refl (tt, record { fits = fits n i (room .0) l })) $
           forget ! 5 refl $ forget ! 7 refl $ forget ! 9 refl $ forget ! 11 refl $ forget ! 13 refl $ forget ! 15 refl $ forget ! 17 refl $
           rewrite ! 1 (λ (m : Notes). ‵ (P.the-row .own m (notes .val m ∷ []))) (next r w is-r is-w) refl $ rewrite ! 21 (λ (m : Notes). ‵ (fat fullShare P′.mir l₃ 0 (notes .val m))) (next r w is-r is-w) refl $ k))))
         where
-          ys : List Node
+          ys : List Held
           ys = partly (carried order) i xs
 
-          e : Node
-          e = getD ys i noNode
+          e : Held
+          e = getD ys i noHeld
 
           within : i < length ys
           within = subst (λ (m : ℕ). i < m) (sym (partly-length (carried order) i xs)) l
 
           -- a record that is not made anew yet is as it was passed
-          next : (r : Notes) (w : Node) → r ≡ noticed (acc i) e w → w ≡ carried order i e → r ≡ acc (i + 1)
-          next r w is-r is-w = is-r ∙ ap (λ (v : Node). noticed (acc i) e v) is-w ∙ ap (λ (v : Node). notices (acc i) i v) (partly-at (carried order) i xs noNode) ∙ fold-next notices noNotes i xs noNode l
+          next : (r : Notes) (w : Held) → r ≡ noticed (acc i) e w → w ≡ carried order i e → r ≡ acc (i + 1)
+          next r w is-r is-w = is-r ∙ ap (λ (v : Held). noticed (acc i) e v) is-w ∙ ap (λ (v : Held). notices (acc i) i v) (partly-at (carried order) i xs noHeld) ∙ fold-next notices noNotes i xs noHeld l
 
       -- the turn that leaves the loop, and the rest of the body: the borrow is closed at the list with each record made anew
       ends : (Q : SProp 𝓤) → Sq W (At n) (Turn 𝓣 E mir.turn-1 mir.t-4 Post Q)

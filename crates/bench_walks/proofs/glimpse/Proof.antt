@@ -33,14 +33,13 @@ use denote.Triple.Spec.{Meets, tripleOf}
 use denote.Triple.Table.{entered, cited}
 use denote.Triple.Walked.{says, needs, Stays, stay-dropped, walkOf, goes-dropped, ends-at, walked, walk-meets}
 use denote.Exit.{yes}
-use Rattle.node_record.specs.declared.Node.{Node}
-use Rattle.node.specs.Calls.{noNode}
-use Rattle.node_record.proofs.Node as T
-use Rattle.node_record.proofs.Node.Laws as T′
+use Rattle.node_record.specs.declared.Held.{Held}
+use Rattle.node_record.proofs.Held as T
+use Rattle.node_record.proofs.Held.Laws as T′
 use Rattle.bench_walks.specs.declared.Survey.{Survey}
 use Rattle.bench_walks.proofs.Survey as S
 use Rattle.bench_walks.proofs.Survey.Laws as S′
-use Rattle.bench_walks.specs.Survey.{glimpsed, glimpseOf, indexOf, recordIn, senderAfter}
+use Rattle.bench_walks.specs.Survey.{noHeld, glimpsed, glimpseOf, indexOf, recordIn, senderAfter}
 use Rattle.bench_walks.proofs.Numbers.{index-within}
 use Rattle.bench_walks.proofs.Calls.{Plain, uint, a-struct, Known, Does, does, does-over, at, arg, frees, of-shr}
 use Rattle.bench_walks.proofs.Turns.{bytes, points}
@@ -62,8 +61,8 @@ abbrev stayed : Stays (this.ended .signature .params) (this.ended .kept)
 stayed = (stay-dropped (of-shr T.the-row) yes, (stay-dropped (plain (λ _. UInt w32)) yes, tt))
 
 -- a record is read at the index of its node
-read-at : (xs : List Node) (i x y : ℕ) → i ≡ indexOf x (length xs) → x ≡ y → getD xs i noNode ≡ recordIn xs y
-read-at xs i x y e f = ap (λ (j : ℕ). getD xs j noNode) e ∙ ap (recordIn xs) f
+read-at : (xs : List Held) (i x y : ℕ) → i ≡ indexOf x (length xs) → x ≡ y → getD xs i noHeld ≡ recordIn xs y
+read-at xs i x y e f = ap (λ (j : ℕ). getD xs j noHeld) e ∙ ap (recordIn xs) f
 
 module _ {M : Type 1} (𝓤 : URA M) (H : Heap 𝓤) (A : Atoms 𝓤) (W : Given 𝓤 H A) (mem : Memory → SProp 𝓤) (run : Routine → Fun 𝓤) (𝓣 : Tables 𝓤 H)
     (known-index : Known 𝓤 H A (𝓣 .C) index-def.name index.ended (index.clauses 𝓤 H A mem run)) (known-sender : Known 𝓤 H A (𝓣 .C) sender-def.name sender.ended (sender.clauses 𝓤 H A mem run)) (known-make : Known 𝓤 H A (𝓣 .C) make-def.name make.ended (make.clauses 𝓤 H A mem run)) where
@@ -88,11 +87,11 @@ module _ {M : Type 1} (𝓤 : URA M) (H : Heap 𝓤) (A : Atoms 𝓤) (W : Given
   does-make : Does 𝓤 H A (𝓣 .C) make-def.name (plain (λ _. T.the-row) ∷ plain (λ _. T.the-row) ∷ plain (λ _. T.the-row) ∷ []) (yes, (yes, (yes, tt))) (plain (λ _. S.the-row)) (λ a r. r ≡ glimpsed (a .0) (a .1 .0) (a .1 .1 .0))
   does-make = record { clauses = make.clauses 𝓤 H A mem run; known = known-make; ghosts = λ a. tt; needs = λ a. id⊢ 𝓤 _; says = λ a r ws. id⊢ 𝓤 _ }
 
-  module _ (κ : Lft) (q : Share) (b o : ℕ) (γ : GName) (xs : List Node) (room : Room T.the-row (length xs)) (named-node : ℕ) (g-a : Is (UInt w32) named-node (vint w32 named-node ∷ [])) (some : 1 ≤ length xs) where
+  module _ (κ : Lft) (q : Share) (b o : ℕ) (γ : GName) (xs : List Held) (room : Room T.the-row (length xs)) (named-node : ℕ) (g-a : Is (UInt w32) named-node (vint w32 named-node ∷ [])) (some : 1 ≤ length xs) where
     abbrev n : ℕ
     n = length xs
 
-    abbrev x : RefT (List Node)
+    abbrev x : RefT (List Held)
     x = at T.the-row b o xs γ
 
     abbrev s : Val
@@ -111,12 +110,12 @@ module _ {M : Type 1} (𝓤 : URA M) (H : Heap 𝓤) (A : Atoms 𝓤) (W : Given
     within i y e = subst (λ (j : ℕ). j < n) (sym e) (index-within y n some)
 
     -- what is made of the three records
-    is-so : (i j k y : ℕ) (r : Survey) → i ≡ indexOf 1 n → y ≡ senderAfter (getD xs i noNode) → j ≡ indexOf y n → k ≡ indexOf named-node n → r ≡ glimpsed (getD xs i noNode) (getD xs j noNode) (getD xs k noNode) → r ≡ glimpseOf xs named-node
+    is-so : (i j k y : ℕ) (r : Survey) → i ≡ indexOf 1 n → y ≡ senderAfter (getD xs i noHeld) → j ≡ indexOf y n → k ≡ indexOf named-node n → r ≡ glimpsed (getD xs i noHeld) (getD xs j noHeld) (getD xs k noHeld) → r ≡ glimpseOf xs named-node
     unfolding glimpseOf
     is-so i j k y r is-i is-y is-j is-k is-r =
-        is-r ∙ ap (λ (v : Node). glimpsed (getD xs i noNode) (getD xs j noNode) v) (read-at xs k named-node named-node is-k refl)
-        ∙ ap (λ (v : Node). glimpsed (getD xs i noNode) v (recordIn xs named-node)) (read-at xs j y (senderAfter (getD xs i noNode)) is-j is-y)
-        ∙ ap (λ (v : Node). glimpsed v (recordIn xs (senderAfter v)) (recordIn xs named-node)) (read-at xs i 1 1 is-i refl)
+        is-r ∙ ap (λ (v : Held). glimpsed (getD xs i noHeld) (getD xs j noHeld) v) (read-at xs k named-node named-node is-k refl)
+        ∙ ap (λ (v : Held). glimpsed (getD xs i noHeld) v (recordIn xs named-node)) (read-at xs j y (senderAfter (getD xs i noHeld)) is-j is-y)
+        ∙ ap (λ (v : Held). glimpsed v (recordIn xs (senderAfter v)) (recordIn xs named-node)) (read-at xs i 1 1 is-i refl)
 
     walk : ent 𝓤 (onEntry 𝓤 H A this.signature (κ, tt) (q, tt) (x, (named-node, tt)) (s ∷ [], (vint w32 named-node ∷ [], tt))) (WpFn 𝓤 H (𝓣 .C) (𝓣 .Λ) code.function (s ∷ vint w32 named-node ∷ []) Post)
     walk =
@@ -131,27 +130,27 @@ module _ {M : Type 1} (𝓤 : URA M) (H : Heap 𝓤) (A : Atoms 𝓤) (W : Given
         -- the first record
         does ! (fmOf 𝓤 H (W .laws) 𝓣) does-index (number, (size, tt)) (1, (n, tt)) ((refl, lit< tt), ((refl, room .0), tt)) (and-then ! (lit ! tt) (and-then ! (arg ! 26 refl) (no-more !))) size (from ! (stop !)) 17 refl (λ i g-i is-i.
         points ! (bytes n i (room .1) (within i 1 is-i)) (arg ! 17 refl) (from ! (stop !)) (init ! 15 refl) (load ! (from ! (fld ! refl (stop !))) (look-in ! 29 (sub ! 0 refl (whole !)))) (arg ! 15 refl) (from ! (stop !)) 13 refl $
-        elem-out ! T.the-row (Is T.the-row) (shows 𝓤 H A T.the-row) (LL.vals T.the-type T′.the-laws) (LL.tells T.the-type T′.the-laws) q′ xs i noNode b o (within i 1 is-i) (λ g-u.
-        assigns ! (of-opd ! (load ! (from ! (hop ! (look ! 15 refl) (stop !))) (look-raw ! 0 refl))) (from ! (stop !)) (init ! 13 refl (node .typed (getD xs i noNode) g-u)) $
-        assigns ! (of-opd ! (arg ! 13 refl)) (from ! (stop !)) (init ! 25 refl (node .typed (getD xs i noNode) g-u)) $
-        elem-back ! T.the-row q′ xs i noNode (node .val (getD xs i noNode) ∷ []) b o (within i 1 is-i) $
+        elem-out ! T.the-row (Is T.the-row) (shows 𝓤 H A T.the-row) (LL.vals T.the-type T′.the-laws) (LL.tells T.the-type T′.the-laws) q′ xs i noHeld b o (within i 1 is-i) (λ g-u.
+        assigns ! (of-opd ! (load ! (from ! (hop ! (look ! 15 refl) (stop !))) (look-raw ! 0 refl))) (from ! (stop !)) (init ! 13 refl (node .typed (getD xs i noHeld) g-u)) $
+        assigns ! (of-opd ! (arg ! 13 refl)) (from ! (stop !)) (init ! 25 refl (node .typed (getD xs i noHeld) g-u)) $
+        elem-back ! T.the-row q′ xs i noHeld (node .val (getD xs i noHeld) ∷ []) b o (within i 1 is-i) $
         -- the next sender's
-        does ! (fmOf 𝓤 H (W .laws) 𝓣) does-sender (node, tt) (getD xs i noNode, tt) (g-u, tt) (and-then ! (arg ! 24 refl) (no-more !)) number (from ! (stop !)) 9 refl (λ y g-y is-y.
+        does ! (fmOf 𝓤 H (W .laws) 𝓣) does-sender (node, tt) (getD xs i noHeld, tt) (g-u, tt) (and-then ! (arg ! 24 refl) (no-more !)) number (from ! (stop !)) 9 refl (λ y g-y is-y.
         does-over ! (fmOf 𝓤 H (W .laws) 𝓣) does-index (number, (size, tt)) (y, (n, tt)) (g-y, ((refl, room .0), tt)) (and-then ! (arg ! 10 refl) (and-then ! (arg ! 26 refl) (no-more !))) size (from ! (stop !)) 17 refl (λ j g-j is-j.
         points ! (bytes n j (room .1) (within j y is-j)) (arg ! 17 refl) (from ! (stop !)) (store ! 15 refl) (load ! (from ! (fld ! refl (stop !))) (look-in ! 29 (sub ! 0 refl (whole !)))) (arg ! 15 refl) (from ! (stop !)) 7 refl $
-        elem-out ! T.the-row (Is T.the-row) (shows 𝓤 H A T.the-row) (LL.vals T.the-type T′.the-laws) (LL.tells T.the-type T′.the-laws) q′ xs j noNode b o (within j y is-j) (λ g-v.
-        assigns ! (of-opd ! (load ! (from ! (hop ! (look ! 9 refl) (stop !))) (look-raw ! 0 refl))) (from ! (stop !)) (store ! 13 refl (node .typed (getD xs j noNode) g-v)) $
-        assigns ! (of-opd ! (arg ! 13 refl)) (from ! (stop !)) (init ! 23 refl (node .typed (getD xs j noNode) g-v)) $
-        elem-back ! T.the-row q′ xs j noNode (node .val (getD xs j noNode) ∷ []) b o (within j y is-j) $
+        elem-out ! T.the-row (Is T.the-row) (shows 𝓤 H A T.the-row) (LL.vals T.the-type T′.the-laws) (LL.tells T.the-type T′.the-laws) q′ xs j noHeld b o (within j y is-j) (λ g-v.
+        assigns ! (of-opd ! (load ! (from ! (hop ! (look ! 9 refl) (stop !))) (look-raw ! 0 refl))) (from ! (stop !)) (store ! 13 refl (node .typed (getD xs j noHeld) g-v)) $
+        assigns ! (of-opd ! (arg ! 13 refl)) (from ! (stop !)) (init ! 23 refl (node .typed (getD xs j noHeld) g-v)) $
+        elem-back ! T.the-row q′ xs j noHeld (node .val (getD xs j noHeld) ∷ []) b o (within j y is-j) $
         -- that of the named node
         does-over ! (fmOf 𝓤 H (W .laws) 𝓣) does-index (number, (size, tt)) (named-node, (n, tt)) (g-a, ((refl, room .0), tt)) (and-then ! (arg ! 28 refl) (and-then ! (arg ! 26 refl) (no-more !))) size (from ! (stop !)) 17 refl (λ k g-k is-k.
         points ! (bytes n k (room .1) (within k named-node is-k)) (arg ! 17 refl) (from ! (stop !)) (store ! 15 refl) (load ! (from ! (fld ! refl (stop !))) (look-in ! 29 (sub ! 0 refl (whole !)))) (arg ! 15 refl) (from ! (stop !)) 5 refl $
-        elem-out ! T.the-row (Is T.the-row) (shows 𝓤 H A T.the-row) (LL.vals T.the-type T′.the-laws) (LL.tells T.the-type T′.the-laws) q′ xs k noNode b o (within k named-node is-k) (λ g-w.
-        assigns ! (of-opd ! (load ! (from ! (hop ! (look ! 7 refl) (stop !))) (look-raw ! 0 refl))) (from ! (stop !)) (store ! 13 refl (node .typed (getD xs k noNode) g-w)) $
-        assigns ! (of-opd ! (arg ! 13 refl)) (from ! (stop !)) (init ! 21 refl (node .typed (getD xs k noNode) g-w)) $
-        elem-back ! T.the-row q′ xs k noNode (node .val (getD xs k noNode) ∷ []) b o (within k named-node is-k) $
+        elem-out ! T.the-row (Is T.the-row) (shows 𝓤 H A T.the-row) (LL.vals T.the-type T′.the-laws) (LL.tells T.the-type T′.the-laws) q′ xs k noHeld b o (within k named-node is-k) (λ g-w.
+        assigns ! (of-opd ! (load ! (from ! (hop ! (look ! 7 refl) (stop !))) (look-raw ! 0 refl))) (from ! (stop !)) (store ! 13 refl (node .typed (getD xs k noHeld) g-w)) $
+        assigns ! (of-opd ! (arg ! 13 refl)) (from ! (stop !)) (init ! 21 refl (node .typed (getD xs k noHeld) g-w)) $
+        elem-back ! T.the-row q′ xs k noHeld (node .val (getD xs k noHeld) ∷ []) b o (within k named-node is-k) $
         shuts-slice ! tt T.the-row q′ xs b o $
-        does ! (fmOf 𝓤 H (W .laws) 𝓣) does-make (node, (node, (node, tt))) (getD xs i noNode, (getD xs j noNode, (getD xs k noNode, tt))) (g-u, (g-v, (g-w, tt))) (and-then ! (arg ! 23 refl) (and-then ! (arg ! 21 refl) (and-then ! (arg ! 19 refl) (no-more !)))) survey (from ! (stop !)) 30 refl (λ r g-r is-r.
+        does ! (fmOf 𝓤 H (W .laws) 𝓣) does-make (node, (node, (node, tt))) (getD xs i noHeld, (getD xs j noHeld, (getD xs k noHeld, tt))) (g-u, (g-v, (g-w, tt))) (and-then ! (arg ! 23 refl) (and-then ! (arg ! 21 refl) (and-then ! (arg ! 19 refl) (no-more !)))) survey (from ! (stop !)) 30 refl (λ r g-r is-r.
         returns ! (look ! 30 refl) $
         frees ! 30 {τ = survey .mir} refl refl $ frees ! 28 refl refl $ frees ! 26 refl refl $ frees ! 24 refl refl $ frees ! 22 {τ = node .mir} refl refl $ frees ! 20 {τ = node .mir} refl refl $ frees ! 18 {τ = node .mir} refl refl $ frees ! 16 refl refl $
         frees ! 14 refl refl $ frees ! 12 refl refl $ frees ! 10 {τ = node .mir} refl refl $ frees ! 8 refl refl $ frees ! 6 refl refl $ frees ! 4 refl refl $ free0 ! $

@@ -13,7 +13,7 @@ use contract.Running.{givenOf, tables, tablesOf}
 use types.Kit.{Given}
 use denote.Triple.Spec.{Meets, tripleOf}
 use denote.Triple.Table.{entered, cited}
-use Rattle.node_record.specs.declared.Node.{Node}
+use Rattle.node_record.specs.declared.Held.{Held}
 use Rattle.bench_walks.proofs.Survey as G
 use Rattle.bench_walks.proofs.Survey.Laws as G′
 use Rattle.bench_walks.specs.Survey.{foldFrom, unseen, surveyed, surveyOf}
@@ -33,7 +33,7 @@ use Rattle.bench_walks.proofs.look_over as this
 use Rattle.bench_walks.proofs.look_over.Statement as stated
 use Rattle.bench_walks.proofs.look_over.Code as code
 
-is-fold : (xs : List Node) → foldFrom surveyed unseen 0 xs ≡ surveyOf xs
+is-fold : (xs : List Held) → foldFrom surveyed unseen 0 xs ≡ surveyOf xs
 unfolding surveyOf
 is-fold xs = refl
 

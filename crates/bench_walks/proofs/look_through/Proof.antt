@@ -13,7 +13,7 @@ use contract.Running.{givenOf, tables, tablesOf}
 use types.Kit.{Given}
 use denote.Triple.Spec.{Meets, tripleOf}
 use denote.Triple.Table.{entered, cited}
-use Rattle.node_record.specs.declared.Node.{Node}
+use Rattle.node_record.specs.declared.Held.{Held}
 use Rattle.bench_walks.proofs.Members as G
 use Rattle.bench_walks.proofs.Members.Laws as G′
 use Rattle.bench_walks.specs.Survey.{foldFrom, noMembers, gathered, membersOf}
@@ -33,7 +33,7 @@ use Rattle.bench_walks.proofs.look_through as this
 use Rattle.bench_walks.proofs.look_through.Statement as stated
 use Rattle.bench_walks.proofs.look_through.Code as code
 
-is-fold : (xs : List Node) → foldFrom gathered noMembers 0 xs ≡ membersOf xs
+is-fold : (xs : List Held) → foldFrom gathered noMembers 0 xs ≡ membersOf xs
 unfolding membersOf
 is-fold xs = refl
 

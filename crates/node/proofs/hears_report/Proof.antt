@@ -14,7 +14,7 @@ has-requires c κs = search needs
 
 returns : tie.Need-returns
 returns c =
-    let a = c .before .before .before .args in
+    let a = c .before .before .before .before .args in
     ap₂ (λ (heard inside : Bool). not (eqb (a .s) (a .v .own)) && (heard && inside)) (c .before .is-heard .ensures) (c .has .ensures)
 
 pub hears-report-spec : {M : Type 1} → statement M

@@ -5,7 +5,7 @@ use mathlib.Core.Bool.{cond}
 use borrow.Author.Needs.{needs}
 use Rattle.nodeset.proofs.Tests.{told, chosen, otherwise}
 use Rattle.ring.proofs.Speakers.{is-sender, no-refusal}
-use Rattle.node.specs.Calls.{hearsReport, reporterIn}
+use Rattle.node.specs.Inner.{hearsHeld, reporterHeld}
 use Rattle.node.proofs.reporter.Statement.{statement}
 use Rattle.node.proofs.reporter.Tie as tie
 
@@ -28,22 +28,22 @@ hears-report-requires : tie.Need-hears-report-requires
 hears-report-requires c κs = search needs
 
 returns-2 : tie.Need-returns-2
-unfolding reporterIn
+unfolding reporterHeld
 returns-2 c =
     let q = c .before .before .before .before .before in
     let a = q .before .before .args in
     let v = a .v in
     let s = is-sender (v .cable) (v .slots + 1) _ (q .sender .result) (q .before .before .pre) (q .sender .ensures) (c .before .before .before .speaker .given .1) in
-    sym (chosen _ 0 (told (c .before .hears-report .ensures) (c .if1 .taken))) ∙ ap (λ (x : ℕ). cond (hearsReport x (a .heard) v) x 0) s
+    sym (chosen _ 0 (told (c .before .hears-report .ensures) (c .if1 .taken))) ∙ ap (λ (x : ℕ). cond (hearsHeld x (a .heard) v) x 0) s
 
 returns-3 : tie.Need-returns-3
-unfolding reporterIn
+unfolding reporterHeld
 returns-3 c =
     let q = c .before .before .before .before .before in
     let a = q .before .before .args in
     let v = a .v in
     let s = is-sender (v .cable) (v .slots + 1) _ (q .sender .result) (q .before .before .pre) (q .sender .ensures) (c .before .before .before .speaker .given .1) in
-    sym (otherwise _ 0 (told (c .before .hears-report .ensures) (c .if1 .left))) ∙ ap (λ (x : ℕ). cond (hearsReport x (a .heard) v) x 0) s
+    sym (otherwise _ 0 (told (c .before .hears-report .ensures) (c .if1 .left))) ∙ ap (λ (x : ℕ). cond (hearsHeld x (a .heard) v) x 0) s
 
 pub reporter-spec : {M : Type 1} → statement M
 reporter-spec =

@@ -7,9 +7,11 @@ use denote.Ref.{now}
 use Rattle.message.specs.Message.{writeOf}
 use borrow.Author.Tests.{le-leb, lt-leb}
 use Rattle.nodeset.proofs.Tests.{failed, passed, chosen, otherwise}
+use Rattle.node_record.specs.Held.{setted}
 use Rattle.node_record.proofs.Facts.{clauses}
 use Rattle.node_sending.specs.Sending.{bitsSent, returnSent}
 use Rattle.node.specs.Calls.{sendOf}
+use Rattle.node.proofs.Holding.{bits-sent-held}
 use Rattle.node.proofs.send.Statement.{statement}
 use Rattle.node.proofs.send.Tie as tie
 
@@ -35,7 +37,7 @@ returns-3 c = sym (
     ∙ otherwise _ _ (failed (c .before .jobs-within .ensures) (c .if3 .taken)))
 
 its-turn-requires : tie.Need-its-turn-requires
-its-turn-requires c κs = clauses (c .before .before .before .before .before .before .before .args .v) (passed (c .before .before .before .before .before .is-sound .ensures) (c .before .before .before .before .if1 .left)) .choices .ring
+its-turn-requires c κs = clauses (setted (c .before .before .before .before .before .before .before .args .v)) (passed (c .before .before .before .before .before .is-sound .ensures) (c .before .before .before .before .if1 .left)) .choices .ring
 
 returns-4 : tie.Need-returns-4
 unfolding sendOf
@@ -66,11 +68,13 @@ returns-5 c =
     let w = c .before .before in
     let tests = w .before .before .before .before .before in
     let a = tests .before .before .before .before .before .before .before .before .before .args in
+    let v = setted (a .v) in
+    let good = passed (tests .before .before .before .before .before .before .before .is-sound .ensures) (tests .before .before .before .before .before .before .if1 .left) in
     w .write .ensures
-    ∙ ap₂ (λ (bits : ℕ) (b : Bool). writeOf (a .v .cable .k) (a .v .cable .m) bits b (w .before .before .jobs-sent .result) (now (a .out))) (w .before .before .before .before .bits-sent .ensures) (w .before .before .before .return-sent .ensures)
-    ∙ ap (λ (j : ℕ). writeOf (a .v .cable .k) (a .v .cable .m) (bitsSent (a .v)) (returnSent (a .v)) j (now (a .out))) (w .before .before .jobs-sent .ensures)
+    ∙ ap₂ (λ (bits : ℕ) (b : Bool). writeOf (a .v .cable .k) (a .v .cable .m) bits b (w .before .before .jobs-sent .result) (now (a .out))) (w .before .before .before .before .bits-sent .ensures ∙ bits-sent-held (a .v) good) (w .before .before .before .return-sent .ensures)
+    ∙ ap (λ (j : ℕ). writeOf (a .v .cable .k) (a .v .cable .m) (bitsSent v) (returnSent v) j (now (a .out))) (w .before .before .jobs-sent .ensures)
     ∙ sym (
-    chosen _ _ (passed (tests .before .before .before .before .before .before .before .is-sound .ensures) (tests .before .before .before .before .before .before .if1 .left))
+    chosen _ _ good
     ∙ otherwise _ _ (lt-leb _ _ (tests .before .before .before .before .if2 .left))
     ∙ chosen _ _ (passed (tests .before .before .before .jobs-within .ensures) (tests .before .before .if3 .left))
     ∙ chosen _ _ (passed (tests .before .its-turn .ensures) (tests .if4 .left)))

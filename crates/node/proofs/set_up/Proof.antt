@@ -5,8 +5,10 @@ use denote.Ref.{now}
 use borrow.Author.Needs.{needs}
 use Rattle.ring.specs.declared.Cable.{Cable}
 use Rattle.node_reports.specs.Reports.{noReports}
+use Rattle.node_record.specs.Held.{rowed}
 use Rattle.node.specs.declared.Stepped.{Stepped}
-use Rattle.node.specs.Calls.{setUpOf, withCounts}
+use Rattle.node.specs.Calls.{noNode, setUpOf}
+use Rattle.node.specs.Held.{heldAs, beside}
 use Rattle.node.proofs.set_up.Statement.{statement}
 use Rattle.node.proofs.set_up.Tie as tie
 
@@ -24,7 +26,8 @@ returns c =
     let d = c .before .before in
     let a = d .before .before .args in
     c .with-counts .ensures
-    ∙ ap (λ (s : Stepped). withCounts s noReports) (c .before .started .ensures ∙ ap (λ (cable : Cable). setUpOf cable (length (now (a .slots))) (a .own)) (d .cable-with .ensures))
+    ∙ ap (λ (s : Stepped). beside s noReports)
+    (c .before .started .ensures ∙ ap (λ (cable : Cable). heldAs (rowed noNode) (setUpOf cable (length (now (a .slots))) (a .own))) (d .cable-with .ensures))
 
 pub set-up-spec : {M : Type 1} → statement M
 set-up-spec = tie.close (tie.spec cable-with-requires started-requires with-counts-requires returns)

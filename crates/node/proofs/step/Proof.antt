@@ -9,9 +9,12 @@ use Rattle.node_reports.specs.Reports.{Counts, countsWith}
 use Rattle.message.specs.declared.Reading.{Reading}
 use Rattle.node_record.specs.declared.Node.{Node}
 use Rattle.node_record.specs.Soundness.{sound}
+use Rattle.node_record.specs.Held.{setted}
 use Rattle.node_record.proofs.Facts.{clauses}
-use Rattle.node.specs.declared.Stepped.{Stepped}
-use Rattle.node.specs.Calls.{isDone, withCounts, stepOf, hearsReport, reporterIn, countsAfter, countedOf}
+use Rattle.node.specs.declared.Stepped as code
+use Rattle.node.specs.Calls.{Stepped, isDone, stepOf, hearsReport, reporterIn, countsAfter, countedOf}
+use Rattle.node.specs.Held.{heldAs, beside, heldWith}
+use Rattle.node.proofs.Holding.{reporter-held}
 use Rattle.node.proofs.step.Statement.{statement}
 use Rattle.node.proofs.step.Tie as tie
 
@@ -34,7 +37,9 @@ with-counts-requires c κs = search needs
 
 returns : tie.Need-returns
 unfolding countedOf
-returns c = c .with-counts .ensures ∙ sym (otherwise _ _ (failed (c .before .before .counts-within .ensures) (c .before .if1 .taken)))
+returns c =
+    c .with-counts .ensures
+    ∙ sym (ap (heldWith (c .before .before .before .args .v)) (otherwise _ _ (failed (c .before .before .counts-within .ensures) (c .before .if1 .taken))))
 
 after-step-requires : tie.Need-after-step-requires
 after-step-requires c κs = search needs
@@ -50,19 +55,19 @@ unfolding countedOf
 returns-2 c =
     let r = c .before .before .before in
     let a = r .before .before .before .args in
-    let stepped = stepOf (a .received .reading) (a .v) in
-    let missed : isDone (stepped .answer) ≡ false = sym (ap (λ (s : Stepped). isDone (s .answer)) (r .after-step .ensures)) ∙ failed (c .before .before .is-done .ensures) (c .before .if2 .taken) in
+    let stepped = stepOf (a .received .reading) (setted (a .v)) in
+    let missed : isDone (stepped .answer) ≡ false = sym (ap (λ (s : code.Stepped). isDone (s .answer)) (r .after-step .ensures)) ∙ failed (c .before .before .is-done .ensures) (c .before .if2 .taken) in
     c .with-counts2 .ensures
-    ∙ ap (λ (s : Stepped). withCounts s (a .counts)) (r .after-step .ensures)
-    ∙ ap (withCounts stepped) (sym (otherwise _ _ missed))
-    ∙ sym (chosen _ _ (passed (r .before .before .counts-within .ensures) (r .before .if1 .left)))
+    ∙ ap (λ (s : code.Stepped). beside s (a .counts)) (r .after-step .ensures)
+    ∙ ap (beside (heldAs (a .v) stepped)) (sym (otherwise _ _ missed))
+    ∙ sym (ap (heldWith (a .v)) (chosen _ _ (passed (r .before .before .counts-within .ensures) (r .before .if1 .left))))
 
 reporter-requires : tie.Need-reporter-requires
 reporter-requires c κs =
     let r = c .before .before in
     let a = r .before .before .before .args in
-    let made : isDone (stepOf (a .received .reading) (a .v) .answer) ≡ true = sym (ap (λ (s : Stepped). isDone (s .answer)) (r .after-step .ensures)) ∙ passed (c .before .is-done .ensures) (c .if2 .left) in
-    clauses (a .v) (done-sound (a .received .reading) (a .v) made) .choices .ring
+    let made : isDone (stepOf (a .received .reading) (setted (a .v)) .answer) ≡ true = sym (ap (λ (s : code.Stepped). isDone (s .answer)) (r .after-step .ensures)) ∙ passed (c .before .is-done .ensures) (c .if2 .left) in
+    clauses (setted (a .v)) (done-sound (a .received .reading) (setted (a .v)) made) .choices .ring
 
 counts-with-requires : tie.Need-counts-with-requires
 counts-with-requires c κs = search needs
@@ -76,16 +81,18 @@ returns-3 c =
     let q = c .before .before .before in
     let r = q .before .before in
     let a = r .before .before .before .args in
+    let w = setted (a .v) in
     let s = sender (a .v .cable) (a .v .slots + 1) in
-    let stepped = stepOf (a .received .reading) (a .v) in
-    let made : isDone (stepped .answer) ≡ true = sym (ap (λ (s : Stepped). isDone (s .answer)) (r .after-step .ensures)) ∙ passed (q .before .is-done .ensures) (q .if2 .left) in
+    let stepped = stepOf (a .received .reading) w in
+    let made : isDone (stepped .answer) ≡ true = sym (ap (λ (s : code.Stepped). isDone (s .answer)) (r .after-step .ensures)) ∙ passed (q .before .is-done .ensures) (q .if2 .left) in
+    let good : sound w ≡ true = done-sound (a .received .reading) w made in
     c .with-counts3 .ensures
-    ∙ ap₂ withCounts (r .after-step .ensures)
+    ∙ ap₂ beside (r .after-step .ensures)
     (c .before .counts-with .ensures
-    ∙ ap (λ (x : ℕ). countsWith x (a .received .jobs) (a .counts)) (c .before .before .reporter .ensures)
-    ∙ counts-if (hearsReport s (a .received .reading) (a .v)) s (a .received .jobs) (a .counts)
+    ∙ ap (λ (x : ℕ). countsWith x (a .received .jobs) (a .counts)) (c .before .before .reporter .ensures ∙ reporter-held (a .v) good (a .received .reading))
+    ∙ counts-if (hearsReport s (a .received .reading) w) s (a .received .jobs) (a .counts)
     ∙ sym (chosen _ _ made))
-    ∙ sym (chosen _ _ (passed (r .before .before .counts-within .ensures) (r .before .if1 .left)))
+    ∙ sym (ap (heldWith (a .v)) (chosen _ _ (passed (r .before .before .counts-within .ensures) (r .before .if1 .left))))
 
 pub step-spec : {M : Type 1} → statement M
 step-spec =

@@ -28,7 +28,7 @@ use denote.Triple.Walked.{says, Stays, stay-none, walkOf, goes-none, Walks, ends
 use denote.Exit.{yes}
 use Rattle.node.specs.declared.Stepped.{Stepped}
 use Rattle.node.specs.declared.Counted.{Counted}
-use Rattle.node.specs.Calls.{withCounts}
+use Rattle.node.specs.Held.{beside}
 use Rattle.node.proofs.Counts.{grid, grid-val, grid-vals, grid-tells, grid-makes, grid-lawful, copied}
 use Rattle.node.proofs.Stepped as S
 use Rattle.node.proofs.Stepped.Laws as S′
@@ -44,7 +44,7 @@ stayed = (stay-none (λ _. S.the-row) yes, (stay-none (λ _. grid) yes, tt))
 
 module _ {M : Type 1} (𝓤 : URA M) (H : Heap 𝓤) (A : Atoms 𝓤) (W : Given 𝓤 H A) (mem : Memory → SProp 𝓤) (run : Routine → Fun 𝓤) (v : Stepped) (counts : List (List ℕ)) where
   abbrev x : Counted
-  x = withCounts v counts
+  x = beside v counts
 
   abbrev own : Val
   own = LL.tuple-val S.the-type S′.the-laws (S.the-type .to v)

@@ -2,7 +2,7 @@
 use mathlib.Core.Path.{sym, _∙_}
 use borrow.Author.Needs.{needs}
 use Rattle.nodeset.proofs.Tests.{told, chosen, otherwise}
-use Rattle.node_changes.specs.Changes.{leave}
+use Rattle.node_changes.specs.Held.{leave}
 use Rattle.node_changes.proofs.leave.Statement.{statement}
 use Rattle.node_changes.proofs.leave.Tie as tie
 

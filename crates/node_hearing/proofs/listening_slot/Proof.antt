@@ -8,10 +8,11 @@ use borrow.Author.Needs.{needs}
 use Rattle.nodeset.proofs.Tests.{chosen, otherwise}
 use Rattle.message.specs.declared.Reading.{Reading}
 use Rattle.message.specs.declared.Reading.the-variants.{Heard, Refused}
-use Rattle.node_record.specs.declared.Node.{Node}
+use Rattle.node_record.specs.declared.Held.{Held}
 use Rattle.node_record.specs.declared.Window.{Window}
-use Rattle.node_changes.specs.Changes.{withWindow}
-use Rattle.node_hearing.specs.Hearing.{overheard, withDone, clean, windowEnd, goesOn, listeningBy}
+use Rattle.node_changes.specs.Held.{withWindow}
+use Rattle.node_hearing.specs.Hearing.{overheard, withDone, clean}
+use Rattle.node_hearing.specs.Held.{windowEnd, goesOn, listeningBy}
 use Rattle.node_hearing.proofs.listening_slot.Statement.{statement}
 use Rattle.node_hearing.proofs.listening_slot.Tie as tie
 
@@ -25,19 +26,19 @@ done-is s (Heard bits returnBit) w = refl
 done-is s (Refused r) w = refl
 
 -- the end of a window does not look at the count
-end-any : (done : ℕ) (w : Window) (v : Node) → windowEnd (withDone done w) v ≡ windowEnd w v
+end-any : (done : ℕ) (w : Window) (v : Held) → windowEnd (withDone done w) v ≡ windowEnd w v
 unfolding windowEnd clean
 end-any done w v = refl
 
 -- where the window goes on, and where it ends
-goes-on : (s : ℕ) (heard : Reading) (v : Node) → v .listening .done + 1 < v .cable .n
+goes-on : (s : ℕ) (heard : Reading) (v : Held) → v .listening .done + 1 < v .cable .n
     → withWindow (withDone (v .listening .done + 1) (overheard s heard (v .listening))) v ≡ listeningBy s heard v
 unfolding listeningBy goesOn
 goes-on s heard v t =
     ap (λ (w : Window). withWindow w v) (counts s heard (v .listening))
     ∙ sym (chosen _ _ (lt-ltb (overheard s heard (v .listening) .done) (v .cable .n) (omega (arith, done-is s heard (v .listening)))))
 
-ends : (s : ℕ) (heard : Reading) (v : Node) (done : ℕ) → v .cable .n ≤ v .listening .done + 1 → windowEnd (withDone done (overheard s heard (v .listening))) v ≡ listeningBy s heard v
+ends : (s : ℕ) (heard : Reading) (v : Held) (done : ℕ) → v .cable .n ≤ v .listening .done + 1 → windowEnd (withDone done (overheard s heard (v .listening))) v ≡ listeningBy s heard v
 unfolding listeningBy goesOn
 ends s heard v done t =
     end-any done (overheard s heard (v .listening)) v

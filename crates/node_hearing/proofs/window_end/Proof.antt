@@ -3,7 +3,7 @@ use mathlib.Core.Path.{sym, _∙_}
 use borrow.Author.Tests.{eq-eqb, ne-eqb}
 use borrow.Author.Needs.{needs}
 use Rattle.nodeset.proofs.Tests.{failed, passed, chosen, otherwise}
-use Rattle.node_hearing.specs.Hearing.{windowEnd}
+use Rattle.node_hearing.specs.Held.{windowEnd}
 use Rattle.node_hearing.proofs.window_end.Statement.{statement}
 use Rattle.node_hearing.proofs.window_end.Tie as tie
 

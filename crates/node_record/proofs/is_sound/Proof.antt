@@ -1,8 +1,9 @@
 -- `node_record::is_sound` meets its contract: it makes the tests of its definition. Assumes nothing.
-use mathlib.Core.Path.{ap₂}
+use mathlib.Core.Path.{ap₂, _∙_}
 use mathlib.Core.Bool.{_&&_}
 use borrow.Author.Needs.{needs}
-use Rattle.node_record.specs.Soundness.{sound}
+use Rattle.node_record.specs.Inner.{soundHeld}
+use Rattle.node_record.proofs.Holding.{held-sound}
 use Rattle.node_record.proofs.is_sound.Statement.{statement}
 use Rattle.node_record.proofs.is_sound.Tie as tie
 
@@ -37,7 +38,7 @@ enough-sound-requires : tie.Need-enough-sound-requires
 enough-sound-requires c κs = search needs
 
 returns : tie.Need-returns
-unfolding sound
+unfolding soundHeld
 returns c =
     ap₂ _&&_ (c .before .before .before .before .before .before .before .before .before .numbers-sound .ensures)
     (ap₂ _&&_ (c .before .before .before .before .before .before .before .before .sets-sound .ensures)
@@ -49,6 +50,7 @@ returns c =
     (ap₂ _&&_ (c .before .before .yes-sound .ensures)
     (ap₂ _&&_ (c .before .window-sound .ensures)
     (c .enough-sound .ensures)))))))))
+    ∙ held-sound (c .before .before .before .before .before .before .before .before .before .before .args .v)
 
 pub is-sound-spec : {M : Type 1} → statement M
 is-sound-spec =

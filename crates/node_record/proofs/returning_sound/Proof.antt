@@ -11,7 +11,7 @@ has-requires c κs = search needs
 
 returns : tie.Need-returns
 returns c =
-    let v = c .before .before .args .v in
+    let v = c .before .before .before .args .v in
     ap (λ (b : Bool). leb (v .returning) (v .cable .n) && not b) (c .has .ensures)
 
 pub returning-sound-spec : {M : Type 1} → statement M

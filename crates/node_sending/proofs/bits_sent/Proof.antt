@@ -2,7 +2,7 @@
 use mathlib.Core.Path.{sym, _∙_}
 use borrow.Author.Needs.{needs}
 use Rattle.nodeset.proofs.Tests.{told, chosen, otherwise}
-use Rattle.node_sending.specs.Sending.{bitsSent}
+use Rattle.node_sending.specs.Held.{bitsSent}
 use Rattle.node_sending.proofs.bits_sent.Statement.{statement}
 use Rattle.node_sending.proofs.bits_sent.Tie as tie
 

@@ -3,9 +3,9 @@ use borrow.Author.Needs.{needs}
 use mathlib.Core.Path.{sym, ap, _∙_}
 use Rattle.nodeset.proofs.Tests.{told, chosen, otherwise}
 use Rattle.message.specs.declared.Reading.{Reading}
-use Rattle.node_steps.specs.Digests.{trackingBy}
-use Rattle.node_hearing.specs.Hearing.{listeningBy}
-use Rattle.node_slot.specs.Inner.{afterBy}
+use Rattle.node_steps.specs.Held.{trackingBy}
+use Rattle.node_hearing.specs.Held.{listeningBy}
+use Rattle.node_slot.specs.Held.{afterBy}
 use Rattle.node_slot.proofs.after_slot.Statement.{statement}
 use Rattle.node_slot.proofs.after_slot.Tie as tie
 

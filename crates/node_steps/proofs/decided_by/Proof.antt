@@ -1,8 +1,7 @@
 -- `node_steps::decided_by` meets its contract: its test is that of the definition. Assumes nothing.
 use borrow.Author.Needs.{needs}
-use mathlib.Core.Path.{sym, ap, _∙_}
+use mathlib.Core.Path.{sym, _∙_}
 use Rattle.nodeset.proofs.Tests.{told, chosen, otherwise}
-use Rattle.ring.specs.Ring.{memberIn}
 use Rattle.node_steps.proofs.decided_by.Statement.{statement}
 use Rattle.node_steps.proofs.decided_by.Tie as tie
 
@@ -12,15 +11,11 @@ is-for-requires c κs = search needs
 returns : tie.Need-returns
 returns c = sym (chosen _ _ (told (c .before .is-for .ensures) (c .if1 .taken)))
 
-decided-member-requires : tie.Need-decided-member-requires
-decided-member-requires c κs = search needs
-
-member-in-requires : tie.Need-member-in-requires
-member-in-requires c κs = search needs
+decided-requires : tie.Need-decided-requires
+decided-requires c κs = search needs
 
 returns-2 : tie.Need-returns-2
-returns-2 c =
-    c .member-in .ensures ∙ ap memberIn (c .before .decided-member .ensures) ∙ sym (otherwise _ _ (told (c .before .before .before .before .is-for .ensures) (c .before .before .before .if1 .left)))
+returns-2 c = c .decided .ensures ∙ sym (otherwise _ _ (told (c .before .before .before .before .is-for .ensures) (c .before .before .before .if1 .left)))
 
 pub decided-by-spec : {M : Type 1} → statement M
-decided-by-spec = tie.close (tie.spec is-for-requires returns decided-member-requires member-in-requires returns-2)
+decided-by-spec = tie.close (tie.spec is-for-requires returns decided-requires returns-2)

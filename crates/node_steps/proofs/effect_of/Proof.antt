@@ -3,7 +3,9 @@ use mathlib.Core.Path.{sym, ap, _∙_}
 use borrow.Author.Needs.{needs}
 use Rattle.message.specs.declared.Reading.{Reading}
 use Rattle.node_steps.specs.declared.Said.{Said}
-use Rattle.node_steps.specs.Digests.{heardEffect, effectOf}
+use Rattle.node_record.specs.Held.{setted}
+use Rattle.node_steps.specs.Digests.{heardEffect}
+use Rattle.node_steps.specs.Held.{effectOf}
 use Rattle.node_steps.proofs.effect_of.Statement.{statement}
 use Rattle.node_steps.proofs.effect_of.Tie as tie
 
@@ -32,7 +34,7 @@ returns-2 c =
     let h = c .before .before .before .heard .given in
     let a = c .before .before .before .before .before .args in
     c .heard-effect .ensures
-    ∙ ap (λ (said : Said). heardEffect said (h .0 .1 .0) (a .v)) (c .before .said-by .ensures)
+    ∙ ap (λ (said : Said). heardEffect said (h .0 .1 .0) (setted (a .v))) (c .before .said-by .ensures)
     ∙ sym (ap (λ (r : Reading). effectOf (a .digest) (a .s) r (a .v)) (h .1))
 
 pub effect-of-spec : {M : Type 1} → statement M

@@ -3,7 +3,7 @@ use borrow.Author.Needs.{needs}
 use mathlib.Core.Path.{sym, ap, _∙_}
 use mathlib.Core.Bool.{Bool, not, _&&_}
 use Rattle.nodeset.proofs.Tests.{chosen, otherwise}
-use Rattle.node_steps.specs.Steps.{join}
+use Rattle.node_steps.specs.Held.{join}
 use Rattle.node_steps.proofs.join.Statement.{statement}
 use Rattle.node_steps.proofs.join.Tie as tie
 

@@ -2,6 +2,7 @@
 use borrow.Author.Needs.{needs}
 use mathlib.Core.Path.{_≡_}
 use Rattle.nodeset.specs.Sets.{with}
+use Rattle.row.specs.Inner.{withRow}
 use Rattle.node_steps.specs.Steps.{stateOnList}
 use Rattle.node_steps.proofs.joined.Statement.{statement}
 use Rattle.node_steps.proofs.joined.Tie as tie
@@ -17,10 +18,10 @@ with-requires-2 c κs = search needs
 
 returns : tie.Need-returns
 returns c =
-    let w = c .before .before .before .before .before .args .v in
-    let e₁ : c .before .before .before .before .state-on-list .result ≡ stateOnList (w .state) = c .before .before .before .before .state-on-list .ensures in
-    let e₂ : c .before .before .before .with .result ≡ with (w .set) (w .returning) = c .before .before .before .with .ensures in
-    let e₃ : c .before .before .with2 .result ≡ with (w .present) (w .returning) = c .before .before .with2 .ensures in
+    let w = c .before .before .before .before .before .before .before .args .v in
+    let e₁ : c .before .before .before .before .before .before .state-on-list .result ≡ stateOnList (w .state) = c .before .before .before .before .before .before .state-on-list .ensures in
+    let e₂ : c .before .before .with .result ≡ withRow (w .cable .order) (w .row) (w .returning) = c .before .before .with .ensures in
+    let e₃ : c .before .with2 .result ≡ with (w .present) (w .returning) = c .before .with2 .ensures in
     simp (e₁, e₂, e₃)
 
 pub joined-spec : {M : Type 1} → statement M

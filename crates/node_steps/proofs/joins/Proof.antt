@@ -5,7 +5,7 @@ use mathlib.Core.Path.{_≡_, sym, ap, _∙_}
 use mathlib.Core.Bool.{Bool, false, not, _&&_}
 use lib.Dec.{eqb}
 use borrow.Author.Tests.{eq-eqb, ne-eqb}
-use Rattle.ring.specs.Ring.{memberBefore, isFound}
+use Rattle.row.specs.Inner.{beforeRow}
 use Rattle.node_steps.proofs.joins.Statement.{statement}
 use Rattle.node_steps.proofs.joins.Tie as tie
 
@@ -18,18 +18,16 @@ some x b e = ap (λ (c : Bool). not c && b) (ne-eqb x 0 e)
 returns : tie.Need-returns
 returns c =
     let a = c .before .before .args in
-    sym (none (a .v .returning) (isFound (a .s) (memberBefore (a .v .cable) (a .v .set) (a .v .returning) 1)) (c .if1 .taken))
+    sym (none (a .v .returning) (eqb (beforeRow (a .v .cable .order) (a .v .row) (a .v .returning) 1) (a .s)) (c .if1 .taken))
 
-member-before-requires : tie.Need-member-before-requires
-member-before-requires c κs = search needs
-
-is-found-requires : tie.Need-is-found-requires
-is-found-requires c κs = search needs
+before-requires : tie.Need-before-requires
+before-requires c κs = search needs
 
 returns-2 : tie.Need-returns-2
 returns-2 c =
-    let a = c .before .before .before .before .before .args in
-    c .is-found .ensures ∙ ap (isFound (a .s)) (c .before .member-before .ensures) ∙ sym (some (a .v .returning) (isFound (a .s) (memberBefore (a .v .cable) (a .v .set) (a .v .returning) 1)) (c .before .before .before .if1 .left))
+    let a = c .before .before .before .before .before .before .args in
+    ap (λ (x : ℕ). eqb x (a .s)) (c .before2 .ensures)
+    ∙ sym (some (a .v .returning) (eqb (beforeRow (a .v .cable .order) (a .v .row) (a .v .returning) 1) (a .s)) (c .before .before .before .before .if1 .left))
 
 pub joins-spec : {M : Type 1} → statement M
-joins-spec = tie.close (tie.spec returns member-before-requires is-found-requires returns-2)
+joins-spec = tie.close (tie.spec returns before-requires returns-2)

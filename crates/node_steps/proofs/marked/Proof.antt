@@ -2,7 +2,7 @@
 use borrow.Author.Needs.{needs}
 use mathlib.Core.Path.{ap, _∙_}
 use mathlib.Core.Bool.{Bool, _&&_, _||_}
-use Rattle.node_changes.specs.Changes.{withMarks}
+use Rattle.node_changes.specs.Held.{withMarks}
 use Rattle.node_steps.proofs.marked.Statement.{statement}
 use Rattle.node_steps.proofs.marked.Tie as tie
 

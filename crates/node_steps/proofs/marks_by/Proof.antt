@@ -6,6 +6,7 @@ use borrow.Author.Needs.{needs}
 use Rattle.nodeset.specs.Sets.{has, without, union}
 use Rattle.nodeset.proofs.Tests.{chosen, otherwise}
 use Rattle.node_record.specs.declared.Node.{Node}
+use Rattle.node_record.specs.Held.{setted}
 use Rattle.node_steps.specs.declared.Said.{Said}
 use Rattle.node_steps.specs.Digests.{marksBy}
 use Rattle.node_steps.proofs.marks_by.Statement.{statement}
@@ -31,14 +32,14 @@ returns c =
     let a = u .before .args in
     c .without .ensures
     ∙ sym (chosen _ _ (c .before .if1 .taken))
-    ∙ with-found (a .said) (a .v) (u .union .result) (c .before .before .before .has .result) (u .union .ensures) (c .before .before .before .has .ensures)
+    ∙ with-found (a .said) (setted (a .v)) (u .union .result) (c .before .before .before .has .result) (u .union .ensures) (c .before .before .before .has .ensures)
 
 returns-2 : tie.Need-returns-2
 returns-2 c =
     let u = c .before .before .before in
     let a = u .before .args in
     sym (otherwise _ _ (c .if1 .left))
-    ∙ with-found (a .said) (a .v) (u .union .result) (c .before .before .has .result) (u .union .ensures) (c .before .before .has .ensures)
+    ∙ with-found (a .said) (setted (a .v)) (u .union .result) (c .before .before .has .result) (u .union .ensures) (c .before .before .has .ensures)
 
 pub marks-by-spec : {M : Type 1} → statement M
 marks-by-spec = tie.close (tie.spec union-requires has-requires without-requires returns returns-2)

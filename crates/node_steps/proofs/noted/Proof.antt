@@ -5,7 +5,7 @@ use mathlib.Core.Bool.{Bool, _&&_}
 use lib.Dec.{eqb}
 use borrow.Author.Tests.{eq-eqb, ne-eqb}
 use Rattle.nodeset.proofs.Tests.{chosen, otherwise}
-use Rattle.node_steps.specs.Digests.{notedBy}
+use Rattle.node_steps.specs.Held.{notedBy}
 use Rattle.node_steps.proofs.noted.Statement.{statement}
 use Rattle.node_steps.proofs.noted.Tie as tie
 

@@ -15,7 +15,7 @@ said-of-requires : tie.Need-said-of-requires
 said-of-requires c κs = search needs
 
 returns-2 : tie.Need-returns-2
-returns-2 c = c .said-of .ensures ∙ sym (otherwise _ _ (told (c .before .before .before .is-for .ensures) (c .before .before .if1 .left)))
+returns-2 c = c .said-of .ensures ∙ sym (otherwise _ _ (told (c .before .before .before .before .is-for .ensures) (c .before .before .before .if1 .left)))
 
 pub said-by-spec : {M : Type 1} → statement M
 said-by-spec = tie.close (tie.spec is-for-requires returns said-of-requires returns-2)

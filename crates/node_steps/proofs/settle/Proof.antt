@@ -3,7 +3,7 @@ use borrow.Author.Needs.{needs}
 use mathlib.Core.Path.{sym, ap, _∙_}
 use mathlib.Core.Bool.{Bool, _&&_}
 use Rattle.nodeset.proofs.Tests.{told, chosen, otherwise}
-use Rattle.node_steps.specs.Steps.{settle}
+use Rattle.node_steps.specs.Held.{settle}
 use Rattle.node_steps.proofs.settle.Statement.{statement}
 use Rattle.node_steps.proofs.settle.Tie as tie
 

@@ -11,17 +11,18 @@ use Rattle.bench.specs.Calls.{done, ifPassed, lookOf}
 use Rattle.bench.specs.Outcomes.{endedBy}
 use Rattle.bench.specs.Ledger.{Ledger, figures}
 use Rattle.bench.specs.Kept.{keptOf}
+use Rattle.bench.specs.Held.{keptHeld}
 use Rattle.bench_by_value.specs.declared.Ran.{Ran}
-use Rattle.bench_by_value.specs.ByValue.{Rows, callWith, ended, tableOf}
+use Rattle.bench_by_value.specs.ByValue.{Rows, callWith, tableOf}
 use Rattle.plan_program.specs.Program.{isRefused}
 use Rattle.plan_program.proofs.is_table.Statement.{statement}
 use Rattle.plan_program.proofs.is_table.Tie as tie
 
 look-tells : (n room : ℕ) (slots : List ℕ) (ledger : Ledger) (counts : List Counts) (rows : Rows) → not (isRefused (callWith n (Look false) slots room ledger counts rows .0 .outcome)) ≡ tableSound (tableOf n rows)
-unfolding callWith keptOf lookOf
+unfolding callWith keptHeld keptOf lookOf
 look-tells n room slots ledger counts rows = go (tableSound (tableOf n rows))
   where
-    go : (b : Bool) → not (isRefused (ended n rows (endedBy (Look false) (tableOf n rows) (ifPassed b 4 (tableOf n rows) (done (tableOf n rows)))) .outcome)) ≡ b
+    go : (b : Bool) → not (isRefused (endedBy (Look false) (tableOf n rows) (ifPassed b 4 (tableOf n rows) (done (tableOf n rows))) .reply .outcome)) ≡ b
     go true = refl
     go false = refl
 

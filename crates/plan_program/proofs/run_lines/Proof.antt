@@ -34,7 +34,7 @@ use denote.Triple.Spec.{Meets, tripleOf}
 use denote.Triple.Table.{entered, cited}
 use denote.Triple.Walked.{says, needs, Stays, stay-dropped, stay-slice, walkOf, goes-dropped, goes-slice, ends-at, walked, walk-meets}
 use denote.Exit.{yes}
-use Rattle.node_record.specs.declared.Node.{Node}
+use Rattle.node_record.specs.declared.Held.{Held}
 use Rattle.bench.proofs.Outcome as Out
 use Rattle.bench.proofs.Outcome.Laws as Out′
 use Rattle.plan_run.specs.declared.Act.{Act}
@@ -108,13 +108,13 @@ abbrev ty : ℕ → Ty
 ty k = typeOf mir.locals k
 
 -- as many rows as are asked for
-lent-count : (m : ℕ) (ys : List Node) → length ys ≡ 32 → m ≤ 32 → m ≡ length (take m ys)
+lent-count : (m : ℕ) (ys : List Held) → length ys ≡ 32 → m ≤ 32 → m ≡ length (take m ys)
 lent-count m ys len few = omega (arith, len, few, length-take m ys)
 
-some-rows : (m : ℕ) (ys : List Node) → length ys ≡ 32 → 1 ≤ m → 1 ≤ length (take m ys)
+some-rows : (m : ℕ) (ys : List Held) → length ys ≡ 32 → 1 ≤ m → 1 ≤ length (take m ys)
 some-rows m ys len low = omega (arith, len, low, length-take m ys)
 
-small : (m : ℕ) (ys : List Node) → length ys ≡ 32 → length (take m ys) < 2 ^ 64
+small : (m : ℕ) (ys : List Held) → length ys ≡ 32 → length (take m ys) < 2 ^ 64
 small m ys len = omega (arith, len, length-take m ys)
 
 module _ {M : Type 1} (𝓤 : URA M) (H : Heap 𝓤) (A : Atoms 𝓤) (W : Given 𝓤 H A) (mem : Memory → SProp 𝓤) (run : Routine → Fun 𝓤) (𝓣 : Tables 𝓤 H)
@@ -198,7 +198,7 @@ module _ {M : Type 1} (𝓤 : URA M) (H : Heap 𝓤) (A : Atoms 𝓤) (W : Given
     record Here : Type 0 where
       g : Going
       g-g : Is G.the-row g (going .val g ∷ [])
-      ys : List Node
+      ys : List Held
       g-ys : Is Array ys (vals ys)
       ws : List ℕ
       same : length ws ≡ length out

@@ -21,8 +21,8 @@ returns : tie.Need-returns
 returns c =
     let a = c .before .before .before .args in
     c .sent-with .ensures
-    ∙ ap (λ (o : Order). errandOf o (c .before .before .beside-of .result)) (c .before .order-by .ensures)
-    ∙ ap (λ (b : Beside). errandOf (orderBy (a .act) (a .s) (a .size) b) b) (c .before .before .beside-of .ensures)
+    ∙ ap (λ (o : Order). errandOf o (a .s) (c .before .before .beside-of .result)) (c .before .order-by .ensures)
+    ∙ ap (λ (b : Beside). errandOf (orderBy (a .act) (a .s) (a .size) b) (a .s) b) (c .before .before .beside-of .ensures)
 
 pub errand-by-spec : {M : Type 1} → statement M
 errand-by-spec =

@@ -30,8 +30,8 @@ use denote.Triple.Spec.{Meets, tripleOf}
 use denote.Triple.Table.{entered, cited}
 use denote.Triple.Walked.{says, needs, Stays, stay-dropped, stay-slice, walkOf, goes-dropped, goes-slice, ends-at, walked, walk-meets}
 use denote.Exit.{yes}
-use Rattle.node_record.specs.declared.Node.{Node}
-use Rattle.node_record.proofs.Node as T
+use Rattle.node_record.specs.declared.Held.{Held}
+use Rattle.node_record.proofs.Held as T
 use Rattle.bench.specs.declared.Outcome.{Outcome}
 use Rattle.bench.proofs.Outcome as Out
 use Rattle.bench.proofs.Outcome.Laws as Out′
@@ -76,7 +76,7 @@ abbrev stayed : Stays (this.ended .signature .params) (this.ended .kept)
 stayed = (stay-slice (0 ∷ []) tt (plain (λ _. T.the-row)), (stay-dropped (plain (λ _. Q.the-row)) yes, tt))
 
 -- what the functions give is what the definitions say of the line
-is-so : (c : Act) (xs zs : List Node) (a : ℕ) (s : Survey) (w : Errand) (k : Work) (r : Outcome) → a ≡ asked c → s ≡ glimpseOf xs a → w ≡ errandBy c s (length xs) → (zs ≡ carriedFrom w 0 xs) × (k ≡ workOf w xs) → r ≡ telling w k
+is-so : (c : Act) (xs zs : List Held) (a : ℕ) (s : Survey) (w : Errand) (k : Work) (r : Outcome) → a ≡ asked c → s ≡ glimpseOf xs a → w ≡ errandBy c s (length xs) → (zs ≡ carriedFrom w 0 xs) × (k ≡ workOf w xs) → r ≡ telling w k
     → (zs ≡ carriedFrom (errandOn c xs) 0 xs) × (r ≡ outcomeOn c xs)
 unfolding errandOn
 is-so c xs zs a s w k r is-a is-s is-w is-k is-r =
@@ -117,8 +117,8 @@ module _ {M : Type 1} (𝓤 : URA M) (H : Heap 𝓤) (A : Atoms 𝓤) (W : Given
   does-tell : Does 𝓤 H A (𝓣 .C) tell-def.name (plain (λ _. O.the-row) ∷ plain (λ _. Wk.the-row) ∷ []) (yes, (yes, tt)) (plain (λ _. Out.the-row)) (λ a r. r ≡ telling (a .0) (a .1 .0))
   does-tell = record { clauses = tell.clauses 𝓤 H A mem run; known = known-tell; ghosts = λ a. tt; needs = λ a. id⊢ 𝓤 _; says = λ a r ws. id⊢ 𝓤 _ }
 
-  module _ (κ : Lft) (q : Share) (b o : ℕ) (γ : GName) (xs : List Node) (room : Room T.the-row (length xs)) (c : Act) (g-c : Is Q.the-row c (act .val c ∷ [])) (some : 1 ≤ length xs) where
-    abbrev x : RefT (List Node)
+  module _ (κ : Lft) (q : Share) (b o : ℕ) (γ : GName) (xs : List Held) (room : Room T.the-row (length xs)) (c : Act) (g-c : Is Q.the-row c (act .val c ∷ [])) (some : 1 ≤ length xs) where
+    abbrev x : RefT (List Held)
     x = at T.the-row b o xs γ
 
     abbrev s : Val
@@ -127,7 +127,7 @@ module _ {M : Type 1} (𝓤 : URA M) (H : Heap 𝓤) (A : Atoms 𝓤) (W : Given
     abbrev Post : Val → SProp 𝓤
     Post = walkOf 𝓤 H A this.ended stayed (this.clauses 𝓤 H A mem run) .post (((κ, tt), (q, tt), tt, (x, (c, tt)), (s ∷ [], (act .val c ∷ [], tt))), tt)
 
-    exits : (zs : List Node) (r : Outcome) → Is Out.the-row r (outcome .val r ∷ []) → (zs ≡ carriedFrom (errandOn c xs) 0 xs) × (r ≡ outcomeOn c xs) → length zs ≡ length xs
+    exits : (zs : List Held) (r : Outcome) → Is Out.the-row r (outcome .val r ∷ []) → (zs ≡ carriedFrom (errandOn c xs) 0 xs) × (r ≡ outcomeOn c xs) → length zs ≡ length xs
         → ent 𝓤 (⋆ 𝓤 H A (‵ (MutSlice (named 0) κ T.the-row .own (at T.the-row b o zs γ) (s ∷ [])) ∷ ‵ (flft κ q) ∷ [])) (Post (outcome .val r))
     exits zs r g-r e l =
         qed W (‵ (MutSlice (named 0) κ T.the-row .own (at T.the-row b o zs γ) (s ∷ [])) ∷ ‵ (flft κ q) ∷ []) ∵

@@ -9,7 +9,7 @@ use comparison::messages::hex;
 use comparison::model::choices::Asked;
 use comparison::model::node::{Node, State};
 use comparison::model::slot_table::Order;
-use comparison::record_bytes::{shown_counts, shown_record, Reader, RECORD};
+use comparison::record_bytes::{shown_counts, shown_held, Reader, RECORD};
 use comparison::report::Count;
 use comparison::slot_tables;
 use std::io::Read;
@@ -56,12 +56,12 @@ fn answers(count: &mut Count, commands: &[Command], output: &mut dyn Read) -> Re
     let mut history = History::default();
     let mut reports = Reports::default();
     for (i, command) in commands.iter().enumerate() {
-        let before = held.table().to_vec();
+        let before = held.table();
         let told = held.run(command, &mut expected);
         let at = || format!("command {}: {}", i + 1, shown_command(command));
         if let Some(told) = told {
             note(count, command, &told, &expected);
-            note_tables(count, command, &told, (&before, held.table()));
+            note_tables(count, command, &told, (&before, &held.table()));
         }
         child::read_answer(output, expected.len(), &mut got)
             .map_err(|why| format!("{}: the answer cannot be read: {why}", at()))?;
@@ -156,7 +156,7 @@ fn off_of(command: &Command, table: &[Node]) -> Option<&'static str> {
 fn shown_command(command: &Command) -> String {
     match *command {
         Command::Size(size) => format!("size {size}"),
-        Command::Load(row, ref node) => format!("load row {row}: {}", shown_record(node)),
+        Command::Load(row, ref record) => format!("load row {row}: {}", shown_held(record)),
         Command::Lend(entries) => format!("lend {entries} entries"),
         Command::Enter(entry, ref figures) => format!("entry {entry}: {figures:?}"),
         Command::Arrays(arrays) => format!("lend {arrays} arrays of counts"),
@@ -216,7 +216,7 @@ fn shown_difference(got: &[u8], expected: &[u8]) -> String {
         )
     } else if place < entries {
         let row = (place - rows) / RECORD;
-        let shown = |answer: &[u8]| shown_record(&rows_of(answer).nth(row).expect("a row"));
+        let shown = |answer: &[u8]| shown_held(&rows_of(answer).nth(row).expect("a row"));
         both(&format!("row {row}"), shown(got), shown(expected))
     } else {
         let entry = (place - entries) / FIGURES;
@@ -229,7 +229,7 @@ fn shown_difference(got: &[u8], expected: &[u8]) -> String {
 fn shown_rows(answer: &[u8], size: usize) -> String {
     let mut text = "\n        table after it:".to_string();
     for row in rows_of(answer).take(size) {
-        text += &format!("\n        {}", shown_record(&row));
+        text += &format!("\n        {}", shown_held(&row));
     }
     text
 }

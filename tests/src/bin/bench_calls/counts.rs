@@ -7,7 +7,7 @@ use super::protocol::{Call, Command, ARRAYS};
 use super::reports::{GIVEN, TALLIES};
 use super::runs::{between, call_of, set_up};
 use super::script::{Script, ENOUGH, SHORT};
-use super::tables::{self, sound_table};
+use super::tables::{self, sound_records, sound_table};
 use comparison::adversary::Adversary;
 use comparison::events::{COUNTED, UNCOUNTED};
 use comparison::messages::{job_byte, spare_job_byte};
@@ -81,11 +81,11 @@ fn run(
     adversary.calm_down(n);
     for _ in 0..calls {
         between(script, &mut adversary.random);
-        let call = adversary.next(script.table());
+        let call = adversary.next(&script.table());
         let jobs = job_byte(&mut adversary.random, m);
         script.call(&mut adversary.random, call_of(call, jobs));
         bench::run(&Document01, &mut plain, call).expect("the call is not refused");
-        see_plain(count, script.table(), &plain)?;
+        see_plain(count, &script.table(), &plain)?;
         ask(script, &mut adversary.random, n);
     }
     script.ask_counts(n);
@@ -286,7 +286,7 @@ pub fn order(count: &mut Count) -> Result<(), String> {
         let (n, m) = (random.within(3, 31) as u32, random.below(8) as u32);
         let chosen = Choices { m, ..choices_of(&mut random, n) };
         let slots = if wrong(4) { LIMIT } else { random.below(LIMIT) };
-        let mut table = sound_table(&mut random, (chosen, slots));
+        let mut table = sound_records(&mut random, (chosen, slots));
         if wrong(0) {
             let row = random.below(u64::from(n)) as usize;
             spoil(&mut random, &mut table[row]);

@@ -9,6 +9,7 @@ mod ledgers;
 mod protocol;
 mod refusals;
 mod reports;
+mod row_vectors;
 mod runs;
 mod script;
 mod set_ups;
@@ -61,6 +62,16 @@ const CASES: &[Case] = &[
         run: set_ups::typed,
     },
     Case {
+        name: "vectors: rows of a table after each call by request l, model and program",
+        meets: &[0],
+        run: row_vectors::after_calls,
+    },
+    Case {
+        name: "vectors: tables with a damaged row by request l, every call, model and program",
+        meets: &[0, 4, 11],
+        run: row_vectors::damaged,
+    },
+    Case {
         name: "set-up: slot tables of every length from 0 to 40 and with a wrong place, for every n",
         meets: &[0, 17, 18],
         run: set_ups::every_length,
@@ -105,6 +116,11 @@ const CASES: &[Case] = &[
         name: "tables: a record not sound in one clause, for every clause",
         meets: &[0, 4],
         run: tables::unsound_record,
+    },
+    Case {
+        name: "tables: a record whose row is damaged, in every way, any slot tables",
+        meets: &[0, 4],
+        run: tables::damaged_row,
     },
     Case {
         name: "tables: sound records that are no table: numbers, n, k, m, lag, slot table, slot count, size",

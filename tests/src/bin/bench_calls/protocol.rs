@@ -5,6 +5,7 @@
 use comparison::model::bench::{self, Beside, Fate, Message};
 use comparison::model::choices::Asked;
 use comparison::model::counts::{Counts, NONE};
+use comparison::model::held::{self, Record};
 use comparison::model::ledger::Figures;
 use comparison::model::node::Node;
 use comparison::model::ring::Set;
@@ -43,7 +44,7 @@ pub enum Call {
 #[derive(Clone, Copy)]
 pub enum Command {
     Size(u8),
-    Load(u8, Node),
+    Load(u8, Record),
     /// The number of entries that are lent with every call.
     Lend(u8),
     Enter(u8, Figures),
@@ -66,9 +67,9 @@ impl Command {
     pub fn push(&self, out: &mut Vec<u8>) {
         match *self {
             Command::Size(size) => out.extend([b'N', size]),
-            Command::Load(row, ref node) => {
+            Command::Load(row, ref record) => {
                 out.extend([b'L', row]);
-                out.extend(record_bytes(node));
+                out.extend(record_bytes(record));
             }
             Command::Lend(entries) => out.extend([b'M', entries]),
             Command::Enter(entry, ref figures) => {
@@ -98,7 +99,7 @@ pub fn buffer_of(answer: &[u8]) -> &[u8] {
 }
 
 /// The rows of a whole answer.
-pub fn rows_of(answer: &[u8]) -> impl Iterator<Item = Node> + '_ {
+pub fn rows_of(answer: &[u8]) -> impl Iterator<Item = Record> + '_ {
     let rows = &answer[answer.len() - TAIL..][..ROWS * RECORD];
     rows.chunks_exact(RECORD).map(|row| Reader(row).record())
 }
@@ -189,7 +190,7 @@ fn fate_number(fate: Fate) -> u8 {
 
 /// The rows, the entries and the arrays by the model.
 pub struct Held {
-    pub rows: Vec<Node>,
+    pub rows: Vec<Record>,
     pub size: usize,
     pub entries: Vec<Figures>,
     pub lent: usize,
@@ -214,8 +215,9 @@ impl Held {
         }
     }
 
-    pub fn table(&self) -> &[Node] {
-        &self.rows[..self.size]
+    /// The records of the rules, sound or not.
+    pub fn table(&self) -> Vec<Node> {
+        self.rows[..self.size].iter().map(|record| record.node).collect()
     }
 
     /// The place of one count: there are 33 arrays of 32 rows of 8, all from 0 on.
@@ -230,7 +232,7 @@ impl Held {
         out.clear();
         match *command {
             Command::Size(size) => self.size = usize::from(size).min(ROWS),
-            Command::Load(row, node) => self.rows[usize::from(row)] = node,
+            Command::Load(row, record) => self.rows[usize::from(row)] = record,
             Command::Lend(entries) => self.lent = usize::from(entries).min(ENTRIES),
             Command::Enter(entry, figures) => {
                 if let Some(held) = self.entries.get_mut(usize::from(entry)) {
@@ -265,16 +267,14 @@ impl Held {
         let ledger = &mut self.entries[..self.lent];
         let counts = &mut self.arrays[..self.counted];
         match call {
-            Call::SetUp(asked) => {
-                table.copy_from_slice(&bench::counted_set_up(asked, self.size, counts)?);
-            }
-            Call::Off(x) => bench::off(table, ledger, x)?,
-            Call::Restart(x) => bench::restart(table, x)?,
+            Call::SetUp(asked) => held::hold(table, &bench::counted_set_up(asked, self.size, counts)?),
+            Call::Off(x) => held::call(table, |nodes| bench::off(nodes, ledger, x))?,
+            Call::Restart(x) => held::call(table, |nodes| bench::restart(nodes, x))?,
             Call::Slot { lost, missed, jobs } => {
                 let message = Message { lost, missed: Set(missed), jobs };
-                return slot(table, Beside { ledger, counts }, message, buffer);
+                return held::call(table, |nodes| slot(nodes, Beside { ledger, counts }, message, buffer));
             }
-            Call::Look { lost } => return look(table, lost),
+            Call::Look { lost } => return look(&held::rules(table)?, lost),
         }
         Ok(Told::default())
     }

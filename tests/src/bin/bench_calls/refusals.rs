@@ -4,9 +4,10 @@ use super::compare::compare;
 use super::figures;
 use super::protocol::{Call, Command, ROWS};
 use super::script::{any_record, no_node, Script, ENOUGH, SHORT};
-use super::tables::sound_table;
+use super::tables::sound_records;
 use comparison::model::choices::Choices;
-use comparison::model::node::{Node, State};
+use comparison::model::held::Record;
+use comparison::model::node::State;
 use comparison::model::ring::LIMIT;
 use comparison::numbers::{no_job_counts, no_lags};
 use comparison::random::Random;
@@ -19,7 +20,8 @@ pub fn set_up(count: &mut Count) -> Result<(), String> {
     let mut random = Random::new(96);
     let mut script = Script::new();
     let counts: Vec<u32> = (0..=8).chain(no_job_counts()).collect();
-    let lags: Vec<u32> = [0, 1].repeat(6).into_iter().chain(no_lags()).collect();
+    // Of those that are none a small one leaves room for a k in range.
+    let lags: Vec<u32> = [0, 1, 0, 1, 2, 3].repeat(3).into_iter().chain(no_lags()).collect();
     for size in (0..=36).chain([255]) {
         for row in 0..ROWS {
             let node = any_record(&mut random);
@@ -139,11 +141,11 @@ const CAUSES: [&str; 32] = [
 ];
 
 /// A table for these causes, 4 and 5, in which node x is out or is not.
-fn table(random: &mut Random, (chosen, x): (Choices, u32), unsound: bool, at_limit: bool) -> Vec<Node> {
+fn table(random: &mut Random, (chosen, x): (Choices, u32), unsound: bool, at_limit: bool) -> Vec<Record> {
     let slots = if at_limit { LIMIT } else { random.below(LIMIT) };
-    let mut table = sound_table(random, (chosen, slots));
+    let mut table = sound_records(random, (chosen, slots));
     if random.bit() {
-        table[x as usize - 1] = sound_of(random, State::Member, (chosen, x), slots);
+        table[x as usize - 1] = sound_of(random, State::Member, (chosen, x), slots).into();
     }
     if unsound {
         let row = random.below(u64::from(chosen.n)) as usize;
@@ -167,7 +169,7 @@ pub fn order(count: &mut Count) -> Result<(), String> {
         count.event(CAUSES[i & 31]);
         script.load(&mut random, &table);
         if unfit {
-            let ledger = figures::unfit(&mut random, n as usize, table[0].slots);
+            let ledger = figures::unfit(&mut random, n as usize, table[0].node.slots);
             script.lend(&mut random, &ledger);
         }
         let room = if short { SHORT[random.below(5) as usize] } else { ENOUGH[random.below(6) as usize] };

@@ -87,7 +87,7 @@ impl Reports {
             _ => {}
         }
         for (set, row) in self.sets.iter_mut().zip(rows_of(answer)) {
-            *set = row.set;
+            *set = row.node.set;
         }
         Ok(())
     }

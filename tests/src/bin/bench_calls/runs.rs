@@ -115,7 +115,7 @@ pub fn between(script: &mut Script, random: &mut Random) {
         script.call(random, Call::Look { lost: !lost });
     }
     if random.below(8) == 0 {
-        if let Some(call) = refused(random, script.table()) {
+        if let Some(call) = refused(random, &script.table()) {
             script.call(random, call);
         }
     }
@@ -138,7 +138,7 @@ fn run(script: &mut Script, adversary: &mut Adversary, (n, k, lag): (u32, u32, u
     for _ in 0..calls {
         between(script, &mut adversary.random);
         let jobs = script.jobs(&mut adversary.random);
-        let call = call_of(adversary.next(script.table()), jobs);
+        let call = call_of(adversary.next(&script.table()), jobs);
         script.call(&mut adversary.random, call);
     }
     script.ask_counts(n);
@@ -199,7 +199,7 @@ pub fn lasting(count: &mut Count) -> Result<(), String> {
         for _ in 0..6_000 {
             between(&mut script, &mut random);
             let jobs = script.jobs(&mut random);
-            let call = call_of(lasting.next(script.table()), jobs);
+            let call = call_of(lasting.next(&script.table()), jobs);
             script.call(&mut random, call);
         }
         script.ask_counts(n);

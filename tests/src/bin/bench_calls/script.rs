@@ -5,6 +5,7 @@ use super::protocol::{buffer_of, Call, Command, Held, Told, ENTRIES, ROWS};
 use comparison::messages::job_byte;
 use comparison::model::choices::Choices;
 use comparison::model::counts::{Counts, NONE};
+use comparison::model::held::Record;
 use comparison::model::ledger::Figures;
 use comparison::model::node::{Node, State};
 use comparison::model::ring::LIMIT;
@@ -33,7 +34,7 @@ impl Script {
         Script { commands: Vec::new(), held: Held::first(), answer: Vec::new() }
     }
 
-    pub fn table(&self) -> &[Node] {
+    pub fn table(&self) -> Vec<Node> {
         self.held.table()
     }
 
@@ -97,9 +98,9 @@ impl Script {
     }
 
     /// Loads the rows of a table and lends a ledger that fits it, if any does.
-    pub fn load(&mut self, random: &mut Random, table: &[Node]) {
+    pub fn load(&mut self, random: &mut Random, table: &[impl Into<Record> + Copy]) {
         self.load_rows(random, table);
-        let slots = table.first().map_or(0, |node| node.slots.min(LIMIT));
+        let slots = table.first().map_or(0, |&record| record.into().node.slots.min(LIMIT));
         let ledger = figures::fitting(random, table.len(), slots);
         self.lend(random, &ledger);
     }
@@ -115,12 +116,12 @@ impl Script {
     }
 
     /// Loads the rows of a table and lends as many arrays of counts, all 0. The rows after it hold records of any kind.
-    pub fn load_rows(&mut self, random: &mut Random, table: &[Node]) {
+    pub fn load_rows(&mut self, random: &mut Random, table: &[impl Into<Record> + Copy]) {
         self.clear_counts(table.len().min(32));
         self.push(Command::Size(table.len() as u8));
         self.push(Command::Arrays(table.len() as u8));
-        for (row, node) in (0..).zip(table) {
-            self.push(Command::Load(row, *node));
+        for (row, &record) in (0..).zip(table) {
+            self.push(Command::Load(row, record.into()));
         }
         if table.len() < ROWS {
             let row = random.within(table.len() as u64, ROWS as u64 - 1) as u8;
@@ -151,13 +152,13 @@ impl Script {
 }
 
 /// A record of any kind, most often not sound.
-pub fn any_record(random: &mut Random) -> Node {
+pub fn any_record(random: &mut Random) -> Record {
     let state = STATES[random.below(8) as usize];
-    let mut node = sound(random, state);
+    let mut record = sound(random, state).into();
     for _ in 0..random.below(4) {
-        disturb(random, &mut node);
+        disturb(random, &mut record);
     }
-    node
+    record
 }
 
 /// A node that is not out, if there is one.

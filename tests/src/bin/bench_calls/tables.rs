@@ -7,15 +7,17 @@ use super::script::{Script, ENOUGH};
 use comparison::events::{KINDS, SEVERAL};
 use comparison::model::bench::check_table;
 use comparison::model::choices::Choices;
-use comparison::model::node::{Node, State, CLAUSES};
+use comparison::model::held::{self, Record};
+use comparison::model::node::{Node, State};
 use comparison::model::refusal;
 use comparison::model::ring::{Set, LIMIT};
 use comparison::model::slot_table::Order;
 use comparison::numbers::{no_job_counts, no_lags};
 use comparison::random::Random;
-use comparison::record_bytes::shown_record;
-use comparison::records::{choices_of, size, sound_of, Break, BREAKS, STATES};
+use comparison::record_bytes::shown_held;
+use comparison::records::{choices_of, clauses, size, sound_of, BREAKS, STATES};
 use comparison::report::Count;
+use comparison::rows::{self, DAMAGES};
 use comparison::slot_tables;
 
 /// Choices and a slot count below the limit.
@@ -46,6 +48,11 @@ pub fn sound_table(random: &mut Random, (chosen, slots): (Choices, u64)) -> Vec<
         .collect()
 }
 
+/// The same as it is held.
+pub fn sound_records(random: &mut Random, ring: (Choices, u64)) -> Vec<Record> {
+    sound_table(random, ring).into_iter().map(Record::from).collect()
+}
+
 /// Any sound table, every call.
 pub fn sound(count: &mut Count) -> Result<(), String> {
     let mut random = Random::new(91);
@@ -72,10 +79,11 @@ fn no_table(
     count: &mut Count,
     random: &mut Random,
     script: &mut Script,
-    rows: &[Node],
+    rows: &[Record],
 ) -> Result<(), String> {
-    count.check(check_table(rows) == Err(refusal::UNSOUND), || {
-        format!("this is a table: {}", rows.iter().map(shown_record).collect::<Vec<_>>().join("\n        "))
+    let checked = held::rules(rows).and_then(|nodes| check_table(&nodes));
+    count.check(checked == Err(refusal::UNSOUND), || {
+        format!("this is a table: {}", rows.iter().map(shown_held).collect::<Vec<_>>().join("\n        "))
     })?;
     script.load(random, rows);
     if random.bit() {
@@ -86,14 +94,17 @@ fn no_table(
     Ok(())
 }
 
-/// A table with one record that is broken; none if the record does not allow it.
-fn broken_table(random: &mut Random, case: &Break, state: State) -> Option<Vec<Node>> {
+/// A table with one record in this state that is broken; none if the record does not allow it.
+fn broken_table(
+    random: &mut Random,
+    state: State,
+    broken: impl FnOnce(&mut Random, Node) -> Option<Record>,
+) -> Option<Vec<Record>> {
     let (chosen, slots) = ring(random);
-    let mut table = sound_table(random, (chosen, slots));
+    let mut table = sound_records(random, (chosen, slots));
     let own = random.within(1, u64::from(chosen.n)) as u32;
-    let mut node = sound_of(random, state, (chosen, own), slots);
-    (case.make)(random, &mut node)?;
-    table[own as usize - 1] = node;
+    let node = sound_of(random, state, (chosen, own), slots);
+    table[own as usize - 1] = broken(random, node)?;
     Some(table)
 }
 
@@ -103,13 +114,35 @@ pub fn unsound_record(count: &mut Count) -> Result<(), String> {
     let mut script = Script::new();
     for case in BREAKS {
         for &state in case.states {
-            for table in (0..6).filter_map(|_| broken_table(&mut random, case, state)).collect::<Vec<_>>() {
+            for _ in 0..6 {
+                let broken = broken_table(&mut random, state, |random, node| case.of(random, node));
+                let Some(table) = broken else { continue };
                 case.breaks.iter().for_each(|says| count.event(says));
                 no_table(count, &mut random, &mut script, &table)?;
             }
         }
     }
-    count.needs(&CLAUSES.iter().map(|clause| clause.says).collect::<Vec<_>>())?;
+    count.needs(&clauses())?;
+    compare(count, &script.commands)
+}
+
+/// One record's row is damaged, in each way and each state.
+pub fn damaged_row(count: &mut Count) -> Result<(), String> {
+    let mut random = Random::new(135);
+    let mut script = Script::new();
+    for damage in DAMAGES {
+        for &state in damage.states {
+            // Some ways ask for 32 nodes.
+            for _ in 0..60 / damage.states.len() {
+                let damaged = broken_table(&mut random, state, |random, node| damage.of(random, node));
+                let Some(table) = damaged else { continue };
+                count.event(damage.name);
+                damage.breaks.iter().for_each(|says| count.event(says));
+                no_table(count, &mut random, &mut script, &table)?;
+            }
+        }
+    }
+    count.needs(&rows::names())?;
     compare(count, &script.commands)
 }
 
@@ -159,27 +192,27 @@ fn another_order(random: &mut Random, chosen: Choices) -> Order {
 
 /// Rows that are no table in one way; none if this ring does not allow it. But for the ways of all records each row is
 /// sound by itself.
-fn rows_in_way(random: &mut Random, way: usize) -> Option<Vec<Node>> {
+fn rows_in_way(random: &mut Random, way: usize) -> Option<Vec<Record>> {
     let (chosen, slots) = ring(random);
     let Choices { n, k, lag, .. } = chosen;
-    let mut rows = sound_table(random, (chosen, slots));
+    let mut rows = sound_records(random, (chosen, slots));
     let (i, j) = (random.below(u64::from(n)) as usize, random.below(u64::from(n)) as usize);
     let own = i as u32 + 1;
-    let state = rows[i].state;
+    let state = rows[i].node.state;
     match way {
         0 if own < n && k < n - 1 - lag => {
             let chosen = with_n(random, chosen, n - 1);
-            rows[i] = sound_of(random, state, (chosen, own), slots);
+            rows[i] = sound_of(random, state, (chosen, own), slots).into();
         }
         0 if n < 32 => {
             let chosen = with_n(random, chosen, n + 1);
-            rows[i] = sound_of(random, state, (chosen, own), slots);
+            rows[i] = sound_of(random, state, (chosen, own), slots).into();
         }
         1 if n > 3 + lag => {
             let k = if k > 2 { k - 1 } else { 3 };
-            rows[i] = sound_of(random, state, (Choices { k, ..chosen }, own), slots);
+            rows[i] = sound_of(random, state, (Choices { k, ..chosen }, own), slots).into();
         }
-        2 => rows[i] = sound_of(random, state, (chosen, own), slots + 1),
+        2 => rows[i] = sound_of(random, state, (chosen, own), slots + 1).into(),
         3 if i != j => rows.swap(i, j),
         4 if i != j => rows[i] = rows[j],
         5 => drop(rows.pop()),
@@ -187,7 +220,7 @@ fn rows_in_way(random: &mut Random, way: usize) -> Option<Vec<Node>> {
         7 if n < 32 => rows.push(rows[n as usize - 1]),
         8 if n < 32 => {
             let chosen = with_n(random, chosen, n + 1);
-            rows = sound_table(random, (chosen, slots)).split_off(1);
+            rows = sound_records(random, (chosen, slots)).split_off(1);
         }
         9 => rows.clear(),
         10.. => choices_in_way(random, way, &mut rows, i)?,
@@ -197,31 +230,34 @@ fn rows_in_way(random: &mut Random, way: usize) -> Option<Vec<Node>> {
 }
 
 /// The ways that concern m, the lag or the slot table, of row i or of all rows.
-fn choices_in_way(random: &mut Random, way: usize, rows: &mut [Node], i: usize) -> Option<()> {
-    let chosen = rows[i].chosen;
+fn choices_in_way(random: &mut Random, way: usize, rows: &mut [Record], i: usize) -> Option<()> {
+    let chosen = rows[i].node.chosen;
     let Choices { n, k, m, lag, mut order } = chosen;
     match way {
-        10 => rows[i].chosen.m = (m + random.within(1, 8) as u32) % 9,
+        10 => rows[i].node.chosen.m = (m + random.within(1, 8) as u32) % 9,
         11 => {
             let m = no_job_counts().nth(random.below(11) as usize).unwrap_or(9);
-            rows.iter_mut().for_each(|row| row.chosen.m = m);
+            rows.iter_mut().for_each(|record| record.node.chosen.m = m);
         }
         // The row keeps its k.
-        12 if k < n - 1 => rows[i].chosen.lag = 1 - lag,
+        12 if k < n - 1 => rows[i].node.chosen.lag = 1 - lag,
         13 => {
             let lag = no_lags().nth(random.below(12) as usize).unwrap_or(2);
-            rows.iter_mut().for_each(|row| row.chosen.lag = lag);
+            rows.iter_mut().for_each(|record| record.node.chosen.lag = lag);
         }
-        14 => rows.iter_mut().for_each(|row| with_k(row, n - lag)),
-        15 => rows[i].chosen.order = another_order(random, chosen),
+        14 => rows.iter_mut().for_each(|record| with_k(&mut record.node, n - lag)),
+        15 => {
+            rows[i].node.chosen.order = another_order(random, chosen);
+            rows[i].hold(rows[i].node.set);
+        }
         16 => {
             let way = random.below(4) as usize;
             slot_tables::make_wrong(random, &mut order.0[..n as usize], way);
-            rows.iter_mut().for_each(|row| row.chosen.order = order);
+            rows.iter_mut().for_each(|record| record.node.chosen.order = order);
         }
         17 if n < 32 => {
             let (place, number) = (random.within(u64::from(n), 31) as usize, random.within(1, 255) as u8);
-            rows.iter_mut().for_each(|row| row.chosen.order.0[place] = number);
+            rows.iter_mut().for_each(|record| record.node.chosen.order.0[place] = number);
         }
         _ => return None,
     }

@@ -16,8 +16,8 @@ struct Moment {
 fn moment(answer: &[u8], n: usize) -> Moment {
     let mut moment = Moment { slots: 0, members: Set::EMPTY };
     for (row, x) in rows_of(answer).take(n).zip(1..) {
-        moment.slots = row.slots;
-        if row.state == State::Member {
+        moment.slots = row.node.slots;
+        if row.node.state == State::Member {
             moment.members = moment.members.with(x);
         }
     }

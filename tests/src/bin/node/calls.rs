@@ -167,7 +167,7 @@ pub fn sending(count: &mut Count) -> Result<(), String> {
                 turn(&mut node);
             }
             note_send(count, &node);
-            script.load(&node);
+            script.load(node);
             let jobs = job_byte(&mut random, node.chosen.m);
             for room in (0..=12).chain([255]) {
                 script.push(&Command::Send { room, jobs });
@@ -259,8 +259,8 @@ pub fn limit(count: &mut Count) -> Result<(), String> {
         for _ in 0..1_500 {
             let mut node = sound(&mut random, state);
             node.slots = LIMIT - random.below(3);
-            every_call(&mut random, &mut script, &node);
-            script.load(&node);
+            every_call(&mut random, &mut script, &node.into());
+            script.load(node);
             for _ in 0..3 {
                 let (room, jobs) = (random.below(12) as u8, job_byte(&mut random, node.chosen.m));
                 script.push(&Command::Send { room, jobs });
@@ -296,16 +296,17 @@ pub fn order(count: &mut Count) -> Result<(), String> {
     for state in STATES {
         for i in 0..16 * 200 {
             let (unsound, at_limit, own_turn, spare) = (i & 1 == 1, i & 2 == 2, i & 4 == 4, i & 8 == 8);
-            let mut node = drawn(&mut random, state, at_limit, own_turn);
+            let node = drawn(&mut random, state, at_limit, own_turn);
             let given = spare_job_byte(&mut random, node.chosen.m).filter(|_| spare);
             let jobs = given.unwrap_or_else(|| job_byte(&mut random, node.chosen.m));
             let sending = sends(&node);
+            let mut record = node.into();
             if unsound {
-                spoil(&mut random, &mut node);
+                spoil(&mut random, &mut record);
             }
             count.event(causes(unsound, at_limit, given.is_some(), !sending));
-            every_call(&mut random, &mut script, &node);
-            script.load(&node);
+            every_call(&mut random, &mut script, &record);
+            script.load(record);
             for room in [message::length(node.chosen.k) - 1, message::length(node.chosen.k)] {
                 script.push(&Command::Send { room: room as u8, jobs });
             }
@@ -354,7 +355,7 @@ pub fn switching(count: &mut Count) -> Result<(), String> {
                 [Command::Restart, Command::Off],
                 [Command::Restart, Command::Restart],
             ] {
-                script.load(&node);
+                script.load(node);
                 for call in calls {
                     script.push(&call);
                 }

@@ -5,7 +5,7 @@ use super::tally::History;
 use comparison::child;
 use comparison::messages::hex;
 use comparison::model::choices::Asked;
-use comparison::record_bytes::{record_bytes, shown_counts, shown_record, Reader, RECORD};
+use comparison::record_bytes::{record_bytes, shown_counts, shown_held, shown_record, Reader, RECORD};
 use comparison::report::Count;
 use std::io::Read;
 
@@ -24,18 +24,20 @@ fn answers(count: &mut Count, script: &Script, output: &mut dyn Read) -> Result<
     let mut history = History::default();
     while let Some(command) = next_command(&mut commands) {
         position += 1;
-        let before = held.node;
+        let before = held.record;
         let Some(number) = run_by_model(&mut held, &command, &mut expected) else {
             history.end();
             continue;
         };
         count.expected(number);
         let at = || {
-            let (call, record) = (shown_command(&command), shown_record(&before));
+            let (call, record) = (shown_command(&command), shown_held(&before));
             format!("command {position}: {call}\n        record before: {record}")
         };
-        if number == 0 && !matches!(command, Command::Counts) && !held.node.is_sound() {
-            let record = shown_record(&held.node);
+        // What is given to be held need not be sound.
+        let any = matches!(command, Command::Counts | Command::Hold(_));
+        if number == 0 && !any && !held.record.is_sound() {
+            let record = shown_held(&held.record);
             return Err(format!("{}\n        the model leaves one that is not sound: {record}", at()));
         }
         child::read_answer(output, expected.len(), &mut got)
@@ -67,7 +69,9 @@ fn shown_command(command: &Command) -> String {
         Command::Send { room, jobs } => format!("send jobs {jobs:02X} into {room} bytes"),
         Command::Off => "off".to_string(),
         Command::Restart => "restart".to_string(),
-        Command::Load(bytes) => format!("load {}", shown_record(&Reader(&bytes).record())),
+        Command::Load(bytes) => format!("load {}", shown_held(&Reader(&bytes).record())),
+        Command::Hold(ref node) => format!("hold {}", shown_record(node)),
+        Command::AsSet => "as a set".to_string(),
         Command::Count { row, job, count } => format!("count of row {row}, job {job}: {count}"),
         Command::Counts => "all counts".to_string(),
     }
@@ -83,6 +87,7 @@ fn shown_answer(command: &Command, answer: &[u8], length: usize) -> String {
             return format!("{}, {} bytes written, [{}]", answer[0], answer[1], hex(&answer[2..]));
         }
         Command::Counts => return shown_counts(&Reader(answer).counts()),
+        Command::AsSet => return format!("{}, {}", answer[0], shown_record(&Reader(&answer[1..]).rules())),
         _ => {}
     }
     if answer[1 + 20] > 7 {
@@ -92,5 +97,5 @@ fn shown_answer(command: &Command, answer: &[u8], length: usize) -> String {
     if record_bytes(&record) != answer[1..] {
         return format!("a yes or no that is neither: [{}]", hex(answer));
     }
-    format!("{}, {}", answer[0], shown_record(&record))
+    format!("{}, {}", answer[0], shown_held(&record))
 }

@@ -53,7 +53,7 @@ fn edge(
     let taken = if node.slots == LIMIT { 5 } else { 0 };
     let expected = if number > node.slots { 4 } else { taken };
     count.check(got == expected, || format!("{got} by the model, not {expected}"))?;
-    script.load(node);
+    script.load(*node);
     script.push(&Command::Count { row, job, count: number });
     script.push(&Command::Slot(&bytes));
     script.push(&Command::Counts);
@@ -85,7 +85,7 @@ pub fn edges(count: &mut Count) -> Result<(), String> {
     }
     // A record that is loaded leaves the counts.
     script.push(&Command::Count { row: 31, job: 7, count: 1 });
-    script.push(&Command::Load(record_bytes(&sound(&mut random, State::Member))));
+    script.push(&Command::Load(record_bytes(&sound(&mut random, State::Member).into())));
     script.push(&Command::Counts);
     compare(count, &script)
 }
@@ -110,10 +110,11 @@ pub fn order(count: &mut Count) -> Result<(), String> {
         let mut node = sound(&mut random, state);
         node.slots = if i & 1 == 1 { LIMIT } else { node.slots };
         let slots = node.slots;
+        let mut record = node.into();
         if i & 4 == 4 {
-            spoil(&mut random, &mut node);
+            spoil(&mut random, &mut record);
         }
-        script.load(&node);
+        script.load(record);
         for _ in 0..random.below(4) {
             any_count(&mut random, &mut script, slots);
         }
@@ -161,7 +162,7 @@ pub fn records(count: &mut Count) -> Result<(), String> {
     for state in STATES {
         for _ in 0..if matches!(state, State::Out(_)) { 200 } else { 2_500 } {
             let mut node = sound(&mut random, state);
-            script.load(&node);
+            script.load(node);
             for _ in 0..random.below(6) {
                 any_count(&mut random, &mut script, node.slots);
             }

@@ -13,6 +13,8 @@ mod lag_vectors;
 mod plans;
 mod protocol;
 mod records;
+mod row_vectors;
+mod rows;
 mod runs;
 mod table_vectors;
 mod tables;
@@ -52,6 +54,21 @@ const CASES: &[Case] = &[
         name: "vectors: set-up with slot tables by request k, model and program",
         meets: &[0, 1, 2, 3, 14, 16, 17, 18],
         run: tables::typed,
+    },
+    Case {
+        name: "vectors: rows of sets and sets of rows by request l, model and program",
+        meets: &[0],
+        run: row_vectors::sets,
+    },
+    Case {
+        name: "vectors: rows after the calls of single nodes by request l, model and program",
+        meets: &[0],
+        run: row_vectors::runs,
+    },
+    Case {
+        name: "vectors: damaged rows by request l, every call, model and program",
+        meets: &[0, 4, 10, 11],
+        run: row_vectors::damaged,
     },
     Case {
         name: "vectors: plans of whole cables, without jobs and with some, model and program",
@@ -142,6 +159,22 @@ const CASES: &[Case] = &[
         name: "records: up to three fields of any value",
         meets: &[0, 4, 8, 9, 10, 11],
         run: records::wild,
+    },
+    Case { name: "rows: damaged in every way, any slot tables, every call", meets: &[4], run: rows::damaged },
+    Case {
+        name: "rows: every one of three nodes with every slot table, numbers 0 to 4 and lengths 0 to 5",
+        meets: &[0, 4],
+        run: rows::every_row,
+    },
+    Case {
+        name: "rows: to a set and back, and from a set and back, any sound record",
+        meets: &[0],
+        run: rows::conversions,
+    },
+    Case {
+        name: "rows: to a set and from one, records up to two fields of which have any value",
+        meets: &[0, 4],
+        run: rows::wild_conversions,
     },
     Case {
         name: "records: of bytes that no call writes, each of which a refused call leaves",

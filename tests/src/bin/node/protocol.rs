@@ -3,9 +3,10 @@
 
 use comparison::model::choices::{Asked, Choices};
 use comparison::model::counts::{Counts, NONE};
+use comparison::model::held::Record;
 use comparison::model::node::Node;
 use comparison::model::slot_table::Slots;
-use comparison::record_bytes::{push_counts, record_bytes, Reader, RECORD};
+use comparison::record_bytes::{push_counts, record_bytes, rules_bytes, Reader, RECORD, RULES};
 
 /// Each byte of a lent buffer before the node sends into it.
 pub const FILL: u8 = 0xA5;
@@ -14,7 +15,7 @@ pub const FILL: u8 = 0xA5;
 /// call stay, and any other call writes the record anew.
 pub struct Held {
     bytes: [u8; RECORD],
-    pub node: Node,
+    pub record: Record,
     pub counts: Counts,
 }
 
@@ -23,15 +24,15 @@ impl Held {
     pub fn first() -> Held {
         let mut bytes = [0; RECORD];
         bytes[20] = 7;
-        Held { bytes, node: Reader(&bytes).record(), counts: NONE }
+        Held { bytes, record: Reader(&bytes).record(), counts: NONE }
     }
 
     fn load(&mut self, bytes: [u8; RECORD]) {
-        (self.bytes, self.node) = (bytes, Reader(&bytes).record());
+        (self.bytes, self.record) = (bytes, Reader(&bytes).record());
     }
 
-    fn write(&mut self, node: Node) {
-        (self.bytes, self.node) = (record_bytes(&node), node);
+    fn write(&mut self, record: Record) {
+        (self.bytes, self.record) = (record_bytes(&record), record);
     }
 
     /// There are 32 rows and 8 jobs, both from 0 on.
@@ -41,12 +42,39 @@ impl Held {
     }
 
     /// "only set-up clears them"
-    fn set_up(&mut self, asked: Asked, own: u32) -> Result<Node, u32> {
+    fn set_up(&mut self, asked: Asked, own: u32) -> Result<Record, u32> {
         let node = Node::set_up(asked, own)?;
         self.counts = NONE;
-        Ok(node)
+        Ok(node.into())
+    }
+
+    /// The answer to sending into so many bytes.
+    fn send(&self, room: u8, jobs: u8, out: &mut Vec<u8>) -> u32 {
+        let mut buffer = [FILL; 255];
+        let lent = &mut buffer[..usize::from(room)];
+        let answer = self.record.send(jobs, lent);
+        let number = answer.err().unwrap_or(0);
+        out.extend([number as u8, answer.unwrap_or(0) as u8]);
+        out.extend_from_slice(lent);
+        number
+    }
+
+    /// The answer to the conversion to a set; with a refusal comes the record of no node.
+    fn as_set(&self, out: &mut Vec<u8>) -> u32 {
+        let answer = self.record.as_set();
+        let number = answer.err().unwrap_or(0);
+        out.push(number as u8);
+        out.extend(answer.map_or(NO_NODE, |node| rules_bytes(&node)));
+        number
     }
 }
+
+/// The record of no node: all bytes 0 but the state, 7.
+const NO_NODE: [u8; RULES] = {
+    let mut bytes = [0; RULES];
+    bytes[20] = 7;
+    bytes
+};
 
 pub enum Command<'a> {
     /// What set-up is given, and the own number.
@@ -59,6 +87,10 @@ pub enum Command<'a> {
     Off,
     Restart,
     Load([u8; RECORD]),
+    /// The record becomes what holds this record of the rules.
+    Hold(Node),
+    /// Asks for the record of the rules that the record stands for.
+    AsSet,
     /// One count becomes this.
     Count {
         row: u8,
@@ -83,8 +115,8 @@ impl Script {
     }
 
     /// Loads a record beside counts of 0.
-    pub fn load(&mut self, node: &Node) {
-        self.load_bytes(record_bytes(node));
+    pub fn load(&mut self, record: impl Into<Record>) {
+        self.load_bytes(record_bytes(&record.into()));
     }
 
     pub fn load_bytes(&mut self, bytes: [u8; RECORD]) {
@@ -127,6 +159,11 @@ impl Script {
                 out.push(b'L');
                 out.extend(bytes);
             }
+            Command::Hold(ref node) => {
+                out.push(b'H');
+                out.extend(rules_bytes(node));
+            }
+            Command::AsSet => out.push(b'A'),
             Command::Count { row, job, count } => {
                 out.extend([b'C', row, job]);
                 out.extend(count.to_le_bytes());
@@ -160,7 +197,9 @@ pub fn next_command<'a>(script: &mut Reader<'a>) -> Option<Command<'a>> {
         b'T' => Command::Send { room: script.u8(), jobs: script.u8() },
         b'F' => Command::Off,
         b'R' => Command::Restart,
-        b'L' => Command::Load(script.take(RECORD).try_into().expect("92 bytes")),
+        b'L' => Command::Load(script.take(RECORD).try_into().expect("124 bytes")),
+        b'H' => Command::Hold(script.rules()),
+        b'A' => Command::AsSet,
         b'C' => Command::Count { row: script.u8(), job: script.u8(), count: script.u64() },
         b'K' => Command::Counts,
         other => panic!("{other:#04X} is no command"),
@@ -184,19 +223,13 @@ pub fn run_by_model(held: &mut Held, command: &Command, out: &mut Vec<u8>) -> Op
             push_counts(&held.counts, out);
             return Some(0);
         }
-        Command::Send { room, jobs } => {
-            let mut buffer = [FILL; 255];
-            let lent = &mut buffer[..usize::from(room)];
-            let answer = held.node.send(jobs, lent);
-            let number = answer.err().unwrap_or(0);
-            out.extend([number as u8, answer.unwrap_or(0) as u8]);
-            out.extend_from_slice(lent);
-            return Some(number);
-        }
+        Command::Send { room, jobs } => return Some(held.send(room, jobs, out)),
+        Command::AsSet => return Some(held.as_set(out)),
         Command::SetUp(asked, own) => held.set_up(asked, own),
-        Command::Slot(heard) => held.node.counted_slot(&mut held.counts, heard),
-        Command::Off => held.node.off(),
-        Command::Restart => held.node.restart(),
+        Command::Slot(heard) => held.record.counted_slot(&mut held.counts, heard),
+        Command::Off => held.record.off(),
+        Command::Restart => held.record.restart(),
+        Command::Hold(node) => Ok(node.into()),
     };
     let number = next.err().unwrap_or(0);
     if let Ok(next) = next {

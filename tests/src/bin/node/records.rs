@@ -4,10 +4,11 @@ use super::compare::compare;
 use super::protocol::{Command, Script};
 use super::{events, heard};
 use comparison::messages::job_byte;
-use comparison::model::node::{Node, State, CLAUSES};
+use comparison::model::held::Record;
+use comparison::model::node::{Node, State};
 use comparison::random::Random;
-use comparison::record_bytes::shown_record;
-use comparison::records::{broken, disturb, sound, BREAKS, STATES};
+use comparison::record_bytes::{shown_held, shown_record};
+use comparison::records::{broken, clauses, disturb, sound, BREAKS, STATES};
 use comparison::report::Count;
 
 /// What slots on any sound record must meet, beyond what cables meet.
@@ -22,7 +23,7 @@ const BEYOND_CABLES: &[&str] = &[
 
 /// Loads the record; then one to three slots, and sometimes another call.
 fn slots_on(count: &mut Count, random: &mut Random, script: &mut Script, mut node: Node) {
-    script.load(&node);
+    script.load(node);
     for _ in 0..random.within(1, 3) {
         let bytes = heard::anything(random, (node.chosen.k, node.chosen.m));
         script.push(&Command::Slot(&bytes));
@@ -62,7 +63,8 @@ pub fn sound_in_every_state(count: &mut Count) -> Result<(), String> {
 }
 
 /// Every call on the record, each time loaded anew, with bytes and rooms right and wrong.
-pub fn every_call(random: &mut Random, script: &mut Script, node: &Node) {
+pub fn every_call(random: &mut Random, script: &mut Script, record: &Record) {
+    let node = &record.node;
     let bytes = heard::readable(random, (node.chosen.k.clamp(2, 31), node.chosen.m.min(8)));
     let room = random.below(12) as u8;
     let jobs = if random.below(4) == 0 { random.byte() } else { job_byte(random, node.chosen.m.min(8)) };
@@ -74,10 +76,25 @@ pub fn every_call(random: &mut Random, script: &mut Script, node: &Node) {
         Command::Send { room: 12, jobs },
         Command::Off,
         Command::Restart,
+        Command::AsSet,
     ] {
-        script.load(node);
+        script.load(*record);
         script.push(&call);
     }
+}
+
+/// Every call on a record that breaks these clauses and no other.
+pub fn push_broken(
+    count: &mut Count,
+    random: &mut Random,
+    script: &mut Script,
+    (record, breaks): (&Record, &[&str]),
+) -> Result<(), String> {
+    let broken = broken(record);
+    count.check(broken == breaks, || format!("breaks {broken:?}, not {breaks:?}: {}", shown_held(record)))?;
+    broken.iter().for_each(|says| count.event(says));
+    every_call(random, script, record);
+    Ok(())
 }
 
 pub fn unsound_in_one_clause(count: &mut Count) -> Result<(), String> {
@@ -86,20 +103,14 @@ pub fn unsound_in_one_clause(count: &mut Count) -> Result<(), String> {
     for case in BREAKS {
         for &state in case.states {
             for _ in 0..150 {
-                let mut node = sound(&mut random, state);
-                if (case.make)(&mut random, &mut node).is_none() {
-                    continue;
+                let node = sound(&mut random, state);
+                if let Some(record) = case.of(&mut random, node) {
+                    push_broken(count, &mut random, &mut script, (&record, case.breaks))?;
                 }
-                let broken = broken(&node);
-                count.check(broken == case.breaks, || {
-                    format!("breaks {broken:?}, not {:?}: {}", case.breaks, shown_record(&node))
-                })?;
-                broken.iter().for_each(|says| count.event(says));
-                every_call(&mut random, &mut script, &node);
             }
         }
     }
-    count.needs(&CLAUSES.iter().map(|clause| clause.says).collect::<Vec<_>>())?;
+    count.needs(&clauses())?;
     compare(count, &script)
 }
 
@@ -130,13 +141,13 @@ pub fn wild(count: &mut Count) -> Result<(), String> {
     let mut script = Script::default();
     for _ in 0..30_000 {
         let state = STATES[random.below(8) as usize];
-        let mut node = sound(&mut random, state);
+        let mut record = sound(&mut random, state).into();
         for _ in 0..random.below(4) {
-            disturb(&mut random, &mut node);
+            disturb(&mut random, &mut record);
         }
-        count.event(if node.is_sound() { "sound" } else { "not sound" });
-        note_yes_heard(count, &node);
-        every_call(&mut random, &mut script, &node);
+        count.event(if record.is_sound() { "sound" } else { "not sound" });
+        note_yes_heard(count, &record.node);
+        every_call(&mut random, &mut script, &record);
     }
     count.needs(&YES_HEARD)?;
     compare(count, &script)

@@ -3,13 +3,16 @@
 
 use super::compare::compare;
 use super::protocol::Script;
-use super::vectors::{follow_by, Is::*, Nodes, Run, Step::*};
+use super::row_vectors::see;
+use super::vectors::{follow_by, record, Is::*, Nodes, Run, Step::*};
 use super::vectors::{ALL, NN, NOTHING, NY, YN, YY, YY_RETURN};
+use comparison::model::choices::Choices;
+use comparison::model::held::Record;
 use comparison::model::node::Cause;
+use comparison::model::row::Row;
 use comparison::model::slot_table::Order;
 use comparison::report::Count;
-
-const TABLE: &[u8] = &[3, 1, 4, 2];
+use comparison::typed_rows::TABLE;
 
 const WITHOUT_1: Nodes = &[2, 3, 4];
 const WITHOUT_2: Nodes = &[1, 3, 4];
@@ -98,26 +101,23 @@ const NONE: &[&[u8]] = &[
     &[],
 ];
 
-/// Every call on such a record.
-#[rustfmt::skip]
-const UNSOUND: &[Run] = &[
-    Run { what: "no table, a member", ring: (4, 2, 3), from: Some((0, Member(ALL, ALL, 0))), steps: &[
-        SendRefused(4), SlotRefused(NOTHING, 4), SlotRefused(YY, 4), OffRefused(4),
-    ] },
-    Run { what: "no table, out", ring: (4, 2, 1), from: Some((0, Out(Cause::Unconfirmed))), steps: &[
-        SendRefused(4), SlotRefused(NOTHING, 4), OffRefused(4),
-    ] },
-];
+/// Every call on a member and on a node that is out with such a table. The row of the member is that of all nodes by the
+/// table 3, 1, 4, 2.
+fn unsound(count: &mut Count, script: &mut Script, table: &[u8]) -> Result<(), String> {
+    let chosen = Choices { order: Order::kept(table), ..Choices::plain(4, 2) };
+    let what = format!("the table {table:?}");
+    let member = Record::new(record(chosen, 3, 0, Member(ALL, ALL, 0)), Row::new(4, TABLE));
+    see(count, script, &what, member, 4)?;
+    see(count, script, &what, record(chosen, 1, 0, Out(Cause::Unconfirmed)).into(), 4)
+}
 
 pub fn single_nodes(count: &mut Count) -> Result<(), String> {
     let mut script = Script::default();
     for run in RUNS {
         follow_by(count, &mut script, (0, 0, Order::kept(TABLE)), run)?;
     }
-    for run in UNSOUND {
-        for table in NONE {
-            follow_by(count, &mut script, (0, 0, Order::kept(table)), run)?;
-        }
+    for table in NONE {
+        unsound(count, &mut script, table)?;
     }
     compare(count, &script)
 }

@@ -33,17 +33,19 @@ impl History {
     /// Takes in a command and its whole answer.
     pub fn follow(&mut self, count: &mut Count, command: &Command, answer: &[u8]) -> Result<(), String> {
         match *command {
-            Command::Send { .. } => return Ok(()),
+            Command::Send { .. } | Command::AsSet => return Ok(()),
             Command::Counts => return self.judge(count, answer),
             Command::SetUp { .. } if answer[0] == 0 => {
                 self.reports.clear();
-                self.record = Some(Reader(&answer[1..]).record());
+                self.record = Some(Reader(&answer[1..]).record().node);
             }
             Command::Slot(heard) if answer[0] == 0 => self.hear(heard),
+            // Somebody else wrote the record.
+            Command::Hold(_) => self.end(),
             _ => {}
         }
         let Some(record) = &mut self.record else { return Ok(()) };
-        *record = Reader(&answer[1..]).record();
+        *record = Reader(&answer[1..]).record().node;
         if answer[0] == 4 {
             return Err("refused by 4 in a run from set-up".to_string());
         }

@@ -622,7 +622,7 @@ fn nodes(nodes: Nodes) -> Set {
     nodes.iter().fold(Set::EMPTY, |set, &x| set.with(x))
 }
 
-fn record(chosen: Choices, own: u32, slots: u64, is: Is) -> Node {
+pub fn record(chosen: Choices, own: u32, slots: u64, is: Is) -> Node {
     let (mut set, mut marks, mut returning, mut return_heard) = (&[][..], &[][..], 0, false);
     let mut listening = ListeningData::default();
     let state = match is {
@@ -695,7 +695,7 @@ fn sending(step: &Step) -> Option<(u8, Result<Bytes, u32>)> {
 fn start(script: &mut Script, (chosen, own): (Choices, u32), run: &Run) -> Result<Node, String> {
     if let Some((slots, is)) = run.from {
         let node = record(chosen, own, slots, is);
-        script.load(&node);
+        script.load(node);
         return Ok(node);
     }
     script.push(&Command::SetUp(chosen.into(), own));

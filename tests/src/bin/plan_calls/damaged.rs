@@ -62,13 +62,13 @@ pub fn plans(count: &mut Count) -> Result<(), String> {
         let table = bench::set_up(chosen, n as usize).expect("the choices are in range");
         commands.push(Command::New);
         for (row, node) in (0..).zip(&table) {
-            commands.push(Command::Load(row, *node));
+            commands.push(Command::Load(row, (*node).into()));
         }
         if random.below(3) == 0 {
             let row = random.below(ROWS as u64) as usize;
-            let mut node = table[row % table.len()];
-            disturb(&mut random, &mut node);
-            commands.push(Command::Load(row as u8, node));
+            let mut record = table[row % table.len()].into();
+            disturb(&mut random, &mut record);
+            commands.push(Command::Load(row as u8, record));
         }
         commands.push(numbers(&mut random, n));
         commands.push(part(&mut random));

@@ -4,6 +4,7 @@ mod compare;
 mod damaged;
 mod pieces;
 mod protocol;
+mod rows;
 mod texts;
 
 use comparison::report::{self, Case};
@@ -22,6 +23,16 @@ const CASES: &[Case] = &[
         run: pieces::whole,
     },
     Case { name: "damaged: any rows, numbers and parts", meets: &[0, 4, 9], run: damaged::plans },
+    Case {
+        name: "vectors: plans with a damaged row of members by request l, model and program",
+        meets: &[0, 4],
+        run: rows::typed,
+    },
+    Case {
+        name: "damaged: a row of members, in every way, any slot tables",
+        meets: &[4],
+        run: rows::damaged,
+    },
 ];
 
 fn main() -> ExitCode {

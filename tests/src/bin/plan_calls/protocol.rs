@@ -2,7 +2,7 @@
 //! are lowest byte first.
 
 use comparison::lent::{self, Call};
-use comparison::model::node::Node;
+use comparison::model::held::Record;
 use comparison::model::pieces::{Plan, LINE};
 use comparison::model::program;
 use comparison::model::refusal;
@@ -18,7 +18,7 @@ pub const PART: usize = 121;
 pub enum Command {
     New,
     Numbers { over: bool, lines: u64, n: u32 },
-    Load(u8, Node),
+    Load(u8, Record),
     Part { length: u8, text: [u8; PART] },
     Call(Call),
 }
@@ -32,9 +32,9 @@ impl lent::Command for Command {
                 out.extend(lines.to_le_bytes());
                 out.extend(n.to_le_bytes());
             }
-            Command::Load(row, node) => {
+            Command::Load(row, record) => {
                 out.extend([b'L', *row]);
-                out.extend(record_bytes(node));
+                out.extend(record_bytes(record));
             }
             Command::Part { length, text } => {
                 out.extend([b'T', *length]);
@@ -87,7 +87,7 @@ impl Held {
             Command::Numbers { over, lines, n } => {
                 (self.plan.over, self.plan.lines, self.plan.n) = (*over, *lines, *n);
             }
-            Command::Load(row, node) => self.plan.rows[usize::from(*row)] = *node,
+            Command::Load(row, record) => self.plan.rows[usize::from(*row)] = *record,
             Command::Part { length, text } => {
                 self.length = usize::from(*length);
                 self.text = *text;

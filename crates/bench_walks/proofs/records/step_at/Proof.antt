@@ -2,9 +2,9 @@
 use borrow.Author.Needs.{needs}
 use mathlib.Core.Path.{ap, _∙_}
 use Rattle.message.specs.declared.Reading.{Reading}
-use Rattle.node_record.specs.declared.Node.{Node}
-use Rattle.node_slot.specs.Inner.{afterBy}
-use Rattle.bench_walks.specs.Orders.{heardAt}
+use Rattle.node_record.specs.declared.Held.{Held}
+use Rattle.node_slot.specs.Held.{afterBy}
+use Rattle.bench_walks.specs.Orders.{heardAt, digestIn}
 use Rattle.bench_walks.proofs.records.step_at.Statement.{statement}
 use Rattle.bench_walks.proofs.records.step_at.Tie as tie
 
@@ -21,7 +21,8 @@ returns : tie.Need-returns
 returns c =
     let turn = c .before .before .before .before .args .turn in
     let v = c .before .before .before .before .args .v in
-    c .after-slot .ensures ∙ ap (λ (h : Reading). afterBy (turn .digest) (turn .sender) h (c .before .numbered .result)) (c .before .before .before .heard-at .ensures) ∙ ap (λ (w : Node). afterBy (turn .digest) (turn .sender) (heardAt turn v) w) (c .before .numbered .ensures)
+    let digest = digestIn turn (c .before .before .before .before .args .row) in
+    c .after-slot .ensures ∙ ap (λ (h : Reading). afterBy digest (turn .sender) h (c .before .numbered .result)) (c .before .before .before .heard-at .ensures) ∙ ap (λ (w : Held). afterBy digest (turn .sender) (heardAt turn v) w) (c .before .numbered .ensures)
 
 pub step-at-spec : {M : Type 1} → statement M
 step-at-spec = tie.close (tie.spec heard-at-requires numbered-requires after-slot-requires returns)

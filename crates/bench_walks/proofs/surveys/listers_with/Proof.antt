@@ -14,7 +14,7 @@ with-if-requires c κs = search needs
 
 returns : tie.Need-returns
 returns c =
-    let a = c .before .before .args in
+    let a = c .before .before .before .args in
     c .with-if .ensures ∙ ap (λ (b : Bool). withIf b (a .listers) (a .v .own)) (c .before .has .ensures)
 
 pub listers-with-spec : {M : Type 1} → statement M

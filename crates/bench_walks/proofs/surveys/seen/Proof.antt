@@ -5,17 +5,17 @@ use mathlib.Core.Path.{_≡_, sym, ap, ap₂, _∙_}
 use mathlib.Core.Bool.{Bool, _&&_}
 use Rattle.nodeset.proofs.Tests.{chosen, otherwise}
 use borrow.Author.Tests.{eq-eqb, ne-eqb}
-use Rattle.node_record.specs.declared.Node.{Node}
+use Rattle.node_record.specs.declared.Held.{Held}
 use Rattle.bench_walks.specs.declared.Survey.{Survey}
 use Rattle.bench_walks.proofs.surveys.seen.Statement.{statement}
 use Rattle.bench_walks.proofs.surveys.seen.Tie as tie
 
-abbrev with-parts : Survey → Bool → Node → ℕ → ℕ → Survey
+abbrev with-parts : Survey → Bool → Held → ℕ → ℕ → Survey
 with-parts s fine v out listers = record { fine = fine; cable = s .cable; slots = s .slots; sender = s .sender; speaker = v; out = out; listers = listers }
 
-same-parts : (s : Survey) {f f′ : Bool} {v v′ : Node} {x x′ y y′ : ℕ} → f ≡ f′ → v ≡ v′ → x ≡ x′ → y ≡ y′ → with-parts s f v x y ≡ with-parts s f′ v′ x′ y′
+same-parts : (s : Survey) {f f′ : Bool} {v v′ : Held} {x x′ y y′ : ℕ} → f ≡ f′ → v ≡ v′ → x ≡ x′ → y ≡ y′ → with-parts s f v x y ≡ with-parts s f′ v′ x′ y′
 same-parts s {f} {f′} {v} {v′} {x} {x′} {y} {y′} p q r t =
-    ap (λ (z : Bool). with-parts s z v x y) p ∙ ap (λ (z : Node). with-parts s f′ z x y) q ∙ ap₂ (with-parts s f′ v′) r t
+    ap (λ (z : Bool). with-parts s z v x y) p ∙ ap (λ (z : Held). with-parts s f′ z x y) q ∙ ap₂ (with-parts s f′ v′) r t
 
 stands-requires : tie.Need-stands-requires
 stands-requires c κs = search needs

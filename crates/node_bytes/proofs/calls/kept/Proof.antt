@@ -9,8 +9,8 @@ use Rattle.node_bytes.proofs.calls.kept.Tie as tie
 enum-told : tie.Need-enum-told
 enum-told c = search needs
 
-set-node-requires : tie.Need-set-node-requires
-set-node-requires c κs = tt
+set-held-requires : tie.Need-set-held-requires
+set-held-requires c κs = tt
 
 counts-of-requires : tie.Need-counts-of-requires
 counts-of-requires c κs = tt
@@ -30,4 +30,4 @@ returns-2 c = inr (refl, refl)
 pub kept-spec : {M : Type 1} → statement M
 kept-spec =
     tie.close
-    (tie.spec enum-told set-node-requires counts-of-requires enum-known-answer number-requires returns returns-2)
+    (tie.spec enum-told set-held-requires counts-of-requires enum-known-answer number-requires returns returns-2)
