@@ -7,9 +7,18 @@ use crate::random::Random;
 use crate::report::Count;
 use std::io::Read;
 
-/// The most bytes of a piece, and of a buffer.
+/// The most bytes of a piece.
 pub const PIECE: usize = 250;
-pub const BUFFER: usize = 20_480;
+
+/// The room that calls ask for, for each byte of a piece and for the end, and the longest buffer there is.
+pub struct Rooms {
+    pub byte: usize,
+    pub end: usize,
+    pub most: usize,
+}
+
+/// Those of plans and of recordings.
+pub const LINES: Rooms = Rooms { byte: LINE, end: LINE, most: 20_480 };
 
 /// Each byte of a lent buffer before the call.
 const FILL: u8 = 0xA5;
@@ -62,8 +71,8 @@ impl Call {
         count.event(match (self, number) {
             (Call::Feed(..), 0) if printed => "call: a piece that prints",
             (Call::Feed(..), 0) => "call: a piece that prints nothing",
-            (Call::Finish(_), 0) if printed => "call: an end that is refused",
-            (Call::Finish(_), 0) => "call: an end",
+            (Call::Finish(_), 0) if printed => "call: an end that prints",
+            (Call::Finish(_), 0) => "call: an end that prints nothing",
             (Call::Print(..), 0) => "call: a whole text",
             _ => "call: refused",
         });
@@ -82,8 +91,8 @@ impl Call {
 pub const CALLS: &[&str] = &[
     "call: a piece that prints",
     "call: a piece that prints nothing",
-    "call: an end that is refused",
-    "call: an end",
+    "call: an end that prints",
+    "call: an end that prints nothing",
     "call: refused",
 ];
 
@@ -134,19 +143,8 @@ fn same(count: &mut Count, output: &mut dyn Read, expected: &[u8]) -> Result<(),
     })
 }
 
-/// A room that is enough for so many bytes, often just so.
-pub fn enough(random: &mut Random, bytes: usize) -> usize {
-    let least = LINE * bytes;
-    match random.below(3) {
-        0 => BUFFER,
-        1 => random.within(least as u64, BUFFER as u64) as usize,
-        _ => least,
-    }
-}
-
-/// One that is too short.
-pub fn short(random: &mut Random, bytes: usize) -> usize {
-    let least = LINE * bytes;
+/// A room that is too short where so many bytes are needed.
+pub fn short(random: &mut Random, least: usize) -> usize {
     match random.below(3) {
         0 => least - 1,
         1 => random.below(least as u64) as usize,
@@ -154,27 +152,50 @@ pub fn short(random: &mut Random, bytes: usize) -> usize {
     }
 }
 
-/// The text in pieces of at most so many bytes, and its end; some calls are first made with a buffer that is too short.
-pub fn cut(random: &mut Random, text: &[u8], most: usize) -> Vec<Call> {
-    let mut calls = Vec::new();
-    let mut rest = text;
-    while !rest.is_empty() {
-        let (piece, more) = rest.split_at((random.within(0, most as u64) as usize).min(rest.len()));
-        if random.below(8) == 0 && !piece.is_empty() {
-            calls.push(Call::Feed(piece.to_vec(), short(random, piece.len())));
+impl Rooms {
+    /// One that is enough, often just so.
+    pub fn enough(&self, random: &mut Random, least: usize) -> usize {
+        match random.below(3) {
+            0 => self.most,
+            1 => random.within(least as u64, self.most as u64) as usize,
+            _ => least,
         }
-        calls.push(Call::Feed(piece.to_vec(), enough(random, piece.len())));
-        rest = more;
     }
-    if random.below(4) == 0 {
-        calls.push(Call::Finish(short(random, 1)));
-    }
-    calls.push(Call::Finish(enough(random, 1)));
-    calls
-}
 
-/// The text in two pieces, cut at a place, and its end.
-pub fn cut_at(text: &[u8], at: usize) -> [Call; 3] {
-    let (a, b) = text.split_at(at);
-    [Call::Feed(a.to_vec(), BUFFER), Call::Feed(b.to_vec(), BUFFER), Call::Finish(LINE)]
+    /// A piece is fed; now and then, before that, into a buffer that is too short.
+    pub fn feed(&self, random: &mut Random, piece: &[u8], calls: &mut Vec<Call>) {
+        let least = self.byte * piece.len();
+        if random.below(8) == 0 && !piece.is_empty() {
+            calls.push(Call::Feed(piece.to_vec(), short(random, least)));
+        }
+        calls.push(Call::Feed(piece.to_vec(), self.enough(random, least)));
+    }
+
+    /// The text ends; now and then, before that, with a buffer that is too short.
+    pub fn finish(&self, random: &mut Random, calls: &mut Vec<Call>) {
+        if random.below(4) == 0 {
+            calls.push(Call::Finish(short(random, self.end)));
+        }
+        calls.push(Call::Finish(self.enough(random, self.end)));
+    }
+
+    /// The text in pieces of at most so many bytes, and its end.
+    pub fn cut(&self, random: &mut Random, text: &[u8], most: usize) -> Vec<Call> {
+        let mut calls = Vec::new();
+        let mut rest = text;
+        while !rest.is_empty() {
+            let (piece, more) = rest.split_at((random.within(0, most as u64) as usize).min(rest.len()));
+            self.feed(random, piece, &mut calls);
+            rest = more;
+        }
+        self.finish(random, &mut calls);
+        calls
+    }
+
+    /// The text in two pieces, cut at a place, and its end.
+    pub fn cut_at(&self, text: &[u8], at: usize) -> [Call; 3] {
+        let (a, b) = text.split_at(at);
+        let feed = |piece: &[u8]| Call::Feed(piece.to_vec(), self.most);
+        [feed(a), feed(b), Call::Finish(self.end)]
+    }
 }

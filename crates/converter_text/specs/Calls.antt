@@ -1,11 +1,12 @@
 -- What `feed` and `finish` answer, what they leave in the lent bytes, and the law that ties them to the whole text.
-use Prim.Native.Nat.{ℕ, _+_, _*_, _≤_}
+use Prim.Native.Nat.{ℕ, _+_, _*_}
 use mathlib.Core.Path.{_≡_}
 use mathlib.Core.Bool.{cond}
 use mathlib.Core.List.{List, [], _∷_, _++_}
 use lib.Dec.{eqb, ltb, leb}
 use lib.ListN.{length, take, replicate, set}
 use Rattle.refusal.specs.Causes.{cause}
+use Rattle.plan_text.specs.Bytewise.{afterBytes, bytesText, RoomFor}
 use Rattle.plan_text.specs.Text.{inputOf, nextLine, pasted, writtenIn, writtenOf, Piece}
 use Rattle.plan_text.specs.declared.Written.{Written}
 use Rattle.plan_text.specs.declared.Written.the-variants.{Bytes, Refused}
@@ -43,13 +44,11 @@ unfoldable pub byteText : Recording → ℕ → List ℕ
 byteText r byte = cond (eqb byte 10) (lineText (r .direction) (nextLine (r .lines)) (bytesIn r)) []
 
 -- After some bytes, and what is printed of them.
-unfoldable pub after : Recording → List ℕ → Recording
-after r [] = r
-after r (byte ∷ rest) = after (afterByte r byte) rest
+abbrev pub after : Recording → List ℕ → Recording
+after r input = afterBytes afterByte r input
 
-unfoldable pub textOf : Recording → List ℕ → List ℕ
-textOf r [] = []
-textOf r (byte ∷ rest) = byteText r byte ++ textOf (afterByte r byte) rest
+abbrev pub textOf : Recording → List ℕ → List ℕ
+textOf r input = bytesText afterByte byteText r input
 
 -- What is printed where the input ends.
 abbrev pub endText : Recording → List ℕ
@@ -88,11 +87,6 @@ textsFed r (c ∷ more) last =
     let f = fedOf r (c .input) (c .out) in
     writtenIn (f .written) (f .out) ++ textsFed (f .recording) more last
 
--- There is room for what is printed of each piece, and of the end.
-abbrev pub Roomy : List Piece → List ℕ → Type 0
-Roomy [] last = 80 ≤ length last
-Roomy (c ∷ more) last = (80 * length (c .input) ≤ length (c .out)) × Roomy more last
-
 abbrev pub PiecesConverted : Type 0
 PiecesConverted =
-    (d : Direction) (pieces : List Piece) (last : List ℕ) → Roomy pieces last → textsFed (startOf d) pieces last ≡ converted d (inputOf pieces)
+    (d : Direction) (pieces : List Piece) (last : List ℕ) → RoomFor 80 80 pieces last → textsFed (startOf d) pieces last ≡ converted d (inputOf pieces)

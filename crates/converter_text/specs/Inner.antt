@@ -5,7 +5,7 @@ use mathlib.Core.Bool.{true, cond, _&&_}
 use mathlib.Core.List.{List}
 use lib.Dec.{eqb}
 use lib.ListN.{take}
-use Rattle.plan_text.specs.Text.{PutAt}
+use Rattle.plan_text.specs.Text.{PutFew}
 use Rattle.converter_text.specs.declared.Message.{Message}
 use Rattle.converter_text.specs.declared.Recording.{Recording}
 use Rattle.converter_text.specs.declared.Taken.{Taken}
@@ -15,11 +15,6 @@ use Rattle.converter_text.specs.Calls.{afterByte, byteText}
 -- The byte whose text is these three bytes; 256 where they are no byte's.
 abbrev pub byteAt : ℕ → ℕ → ℕ → ℕ
 byteAt space high low = cond (eqb space 32 && (isHex high && isHex low)) (digitOf high * 16 + digitOf low) 256
-
--- A text of at most so many bytes was put.
-pub record PutFew (most next at : ℕ) (text before after : List ℕ) : Type 0 where
-  pub put : PutAt next at text before after
-  pub few : next ≤ at + most
 
 -- A message was read from a text.
 pub record Read (text : List ℕ) (m : Message) : Type 0 where

@@ -9,10 +9,10 @@ ghost use mathlib.Core.List.{_++_, _∷_, []};
 ghost use Prim.Native.Nat.{_+_, _*_, _≤_, _<_};
 ghost use lib.ListN.{length};
 ghost use Rattle.plan_line.specs.Words.{isNumber, valueOf};
-ghost use Rattle.plan_text.specs.Text.{PutAt, refusalText};
+ghost use Rattle.plan_text.specs.Text.{PutAt, PutFew};
 ghost use Rattle.converter_text.specs.Recorded.{capital, conversion, digitOf, lineText, messageText, outcomeText, turned};
 ghost use Rattle.converter_text.specs.Calls.{after, fedAs, fedOf, finishedOf, lineEnded, startOf, textOf, withByte};
-ghost use Rattle.converter_text.specs.Inner.{byteAt, PutFew, Read, Took};
+ghost use Rattle.converter_text.specs.Inner.{byteAt, Read, Took};
 
 // The form that messages are brought to.
 pub enum Direction {
@@ -165,18 +165,6 @@ fn put_converted(out: &mut [u8], at: usize, word: &[u8], bytes: &[u8]) -> usize
     plan_text::put_word(out, after_message, b"\n")
 }
 
-// Puts the line of a refusal.
-fn put_refusal(out: &mut [u8], at: usize, line: u64, cause: u32) -> usize
-    requires { ⌜ at + 80 ≤ length (now out) ⌝ }
-    ensures { λ r. ⌜ PutFew 80 r at (refusalText line cause) (now (out .entry)) (now (out .exit)) ⌝ }
-{
-    let written = plan_text::refusal_line(out, at, line, cause);
-    match written {
-        Written::Bytes(count) => at + count,
-        Written::Refused(_) => at,
-    }
-}
-
 // Converts a message.
 fn turn(direction: Direction, k: u32, bytes: &[u8], out: &mut [u8]) -> message::Written
     ensures { λ r. ⌜ (r, now (out .exit)) ≡ conversion direction k (now (bytes .entry)) (now (out .entry)) ⌝ }
@@ -203,7 +191,12 @@ fn put_turned(
     let written = turn(direction, plan_line::small_value(word), bytes, &mut made);
     match written {
         message::Written::Bytes(count) => put_converted(out, at, word, &made[..count]),
-        message::Written::Refused(cause) => put_refusal(out, at, line, refusal::number(cause)),
+        message::Written::Refused(cause) => plan_text::put_refusal(
+            out,
+            at,
+            line,
+            refusal::number(cause),
+        ),
     }
 }
 
@@ -214,16 +207,16 @@ fn put_line(out: &mut [u8], at: usize, direction: Direction, line: u64, text: &[
 {
     let end = plan_line::part_end(text, 0, 32);
     if 120 < text.len() {
-        return put_refusal(out, at, line, 12);
+        return plan_text::put_refusal(out, at, line, 12);
     }
     if !plan_line::is_number(&text[..end]) {
-        return put_refusal(out, at, line, 12);
+        return plan_text::put_refusal(out, at, line, 12);
     }
     let read = message_in(&text[end..]);
     let count = read.count;
     let bytes = read.bytes;
     if !read.readable {
-        return put_refusal(out, at, line, 12);
+        return plan_text::put_refusal(out, at, line, 12);
     }
     put_turned(out, at, direction, line, &text[..end], &bytes[..count])
 }

@@ -46,7 +46,11 @@ use Rattle.plan_program.specs.declared.Part.{Part}
 use Rattle.plan_program.specs.Calls.{fedOf, finishedOf, hasRoom, planSound, printedIn}
 use Rattle.converter_text.specs.declared.Recording.{Recording}
 use Rattle.converter_text.specs.Calls as recorded
-use Rattle.demands.specs.Demand1.{Demand1, EndsBy, FeedsBy, PrintsBy, RunsBy, StepsBy, ConvertsBy, CountsBy, WritesBy, isAmong, numbersFor, ofLookup, ofReading, ofSpeaker, ofAnswer}
+use Rattle.plan_report.specs.declared.Figures.{Figures}
+use Rattle.plan_report.specs.declared.Report.{Report}
+use Rattle.plan_report.specs.Figures.{addOf, allFit}
+use Rattle.plan_report.specs.Calls as reported
+use Rattle.demands.specs.Demand1.{Demand1, AddsBy, EndsBy, FeedsBy, PrintsBy, ReportsBy, RunsBy, StepsBy, ConvertsBy, CountsBy, WritesBy, isAmong, numbersFor, ofLookup, ofReading, ofSpeaker, ofAnswer}
 
 -- ---- a test, in each of the forms that the definitions use: P holds either way
 
@@ -300,6 +304,22 @@ finishes-recorded : (r : Recording) (out : List ℕ) → Prints out (recorded.fi
 unfolding writtenOf
 finishes-recorded r out = either (Prints out) (leb (0 + 80) (length out)) (tt, tt) (refl, refl)
 
+-- ---- texts of many plans
+
+feeds-reported : (r : Report) (input out : List ℕ) → ReportsBy (4 ∷ 9 ∷ []) r out (reported.fedOf r input out)
+unfolding reported.fedOf
+feeds-reported r input out =
+    let P = ReportsBy (4 ∷ 9 ∷ []) r out in
+    either P (planSound (r .tally .plan)) (either P (leb (110 * length input) (length out)) (tt, tt) (refl, refl)) (refl, refl)
+
+finishes-reported : (r : Report) (out : List ℕ) → Prints out (reported.finishedOf r out)
+unfolding reported.finishedOf
+finishes-reported r out = either (Prints out) (leb 200 (length out)) (tt, tt) (refl, refl)
+
+adds : (totals figures : Figures) → AddsBy (19 ∷ []) totals (addOf totals figures)
+unfolding addOf
+adds totals figures = either (AddsBy (19 ∷ []) totals) (allFit totals figures) (tt, tt) (refl, refl)
+
 -- ---- the demand
 
 pub demand1 : Demand1
@@ -327,4 +347,7 @@ demand1 = record {
   finish = finishes;
   feed-recorded = feeds-recorded;
   finish-recorded = finishes-recorded;
+  feed-reported = feeds-reported;
+  finish-reported = finishes-reported;
+  add-figures = adds;
 }

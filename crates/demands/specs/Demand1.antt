@@ -1,6 +1,6 @@
 -- Demand 1: every message, plan text, node record and sequence of calls ends in a result or a numbered refusal, and a refusal changes no record and no lent
 -- byte. There is a clause for each call, over the definition that its contract cites and for all numbers, bytes, records, tables, ledgers and plans; so it holds of each
--- call of every sequence, whatever the calls before it left. What is printed of a plan text, its refused line included, is `printed` (plan_program's specs/Program), and of a text of recorded messages `converted` (converter_text's specs/Recorded).
+-- call of every sequence, whatever the calls before it left. What is printed of a plan text, its refused line included, is `printed` (plan_program's specs/Program), of a text of recorded messages `converted` (converter_text's specs/Recorded), and of a text of many plans `reported` (plan_report's specs/Report).
 use Prim.Native.Nat.{ℕ}
 use mathlib.Core.Path.{_≡_}
 use mathlib.Core.Bool.{Bool, true, false, _||_}
@@ -43,6 +43,11 @@ use Rattle.plan_program.specs.declared.Part.{Part}
 use Rattle.plan_program.specs.Calls.{Fed, fedOf, finishedOf, printedIn}
 use Rattle.converter_text.specs.declared.Recording.{Recording}
 use Rattle.converter_text.specs.Calls as recorded
+use Rattle.plan_report.specs.declared.Figures.{Figures}
+use Rattle.plan_report.specs.declared.Added.{Added}
+use Rattle.plan_report.specs.declared.Report.{Report}
+use Rattle.plan_report.specs.Figures.{addOf}
+use Rattle.plan_report.specs.Calls as reported
 
 -- ---- how a call ends
 
@@ -97,7 +102,7 @@ abbrev pub Keeps : {A : Type 0} → Ending → A → A → Type 0
 Keeps result before after = Unit {0}
 Keeps (refusal cause) before after = after ≡ before
 
--- Both: of a call that writes into lent bytes, of one on a record, of one on a record and its counts of failure reports, of one on a table with a ledger, counts and lent bytes, and of those on a plan text and on a text of recorded messages.
+-- Both: of a call that writes into lent bytes, of one on a record, of one on a record and its counts of failure reports, of one on a table with a ledger, counts and lent bytes, of those on a plan text, on a text of recorded messages and on a text of many plans, and of adding to totals.
 abbrev pub WritesBy : List ℕ → List ℕ → Written × List ℕ → Type 0
 WritesBy numbers out r = EndsBy numbers (ofWritten (r .0)) × Keeps (ofWritten (r .0)) out (r .1)
 
@@ -119,6 +124,12 @@ FeedsBy numbers p part out f =
 
 abbrev pub ConvertsBy : List ℕ → Recording → List ℕ → recorded.Fed → Type 0
 ConvertsBy numbers r out f = EndsBy numbers (ofText (f .written)) × Keeps {A = Recording × List ℕ} (ofText (f .written)) (r, out) (f .recording, f .out)
+
+abbrev pub ReportsBy : List ℕ → Report → List ℕ → reported.Fed → Type 0
+ReportsBy numbers r out f = EndsBy numbers (ofText (f .written)) × Keeps {A = Report × List ℕ} (ofText (f .written)) (r, out) (f .report, f .out)
+
+abbrev pub AddsBy : List ℕ → Figures → Added → Type 0
+AddsBy numbers totals a = EndsBy numbers (ofAnswer (a .answer)) × Keeps (ofAnswer (a .answer)) totals (a .totals)
 
 -- By which numbers a call of the bench may be refused, in the order of its tests.
 abbrev pub numbersFor : Command → List ℕ
@@ -163,3 +174,7 @@ pub record Demand1 : Type 0 where
   -- texts of recorded messages: a piece of one, and the end
   pub feed-recorded : (r : Recording) (input out : List ℕ) → ConvertsBy (9 ∷ []) r out (recorded.fedOf r input out)
   pub finish-recorded : (r : Recording) (out : List ℕ) → PrintsBy (9 ∷ []) out (recorded.finishedOf r out)
+  -- texts of many plans: a piece of one, and the end; and the totals, where figures are added
+  pub feed-reported : (r : Report) (input out : List ℕ) → ReportsBy (4 ∷ 9 ∷ []) r out (reported.fedOf r input out)
+  pub finish-reported : (r : Report) (out : List ℕ) → PrintsBy (9 ∷ []) out (reported.finishedOf r out)
+  pub add-figures : (totals figures : Figures) → AddsBy (19 ∷ []) totals (addOf totals figures)

@@ -116,7 +116,7 @@ fn begins(word: &[u8], line: &[u8]) -> bool
 }
 
 // Whether the line is just the word's bytes.
-fn same(word: &[u8], line: &[u8]) -> bool
+pub fn same(word: &[u8], line: &[u8]) -> bool
     ensures { λ r. ⌜ r ≡ same (now (word .entry)) (now (line .entry)) ⌝ }
 {
     if word.len() != line.len() {

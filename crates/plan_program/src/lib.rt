@@ -16,7 +16,7 @@ ghost use lib.ListN.{length, take};
 ghost use Rattle.bench.specs.Table.{tableSound};
 ghost use Rattle.bench_by_value.specs.ByValue.{tableOf};
 ghost use Rattle.plan_text.specs.Text.{PutAt};
-ghost use Rattle.plan_program.specs.Program.{endText, isRefused, mayEnd, noPlan, textOf};
+ghost use Rattle.plan_program.specs.Program.{afterLine, endText, isRefused, mayEnd, noPlan, textOf};
 ghost use Rattle.plan_program.specs.Calls.{bytesIn, fedAs, fedOf, finishedOf, partIn, partOf, planSound, printedIn, runPiece};
 ghost use Rattle.plan_program.specs.Inner.{actIn, afterIn, begunOf, cameOf, endOf, linesAfter, outcomeAfter, overAfter, rowsFor, sizeAfter, sizeOf, sought, withLine, Goes, Told};
 
@@ -379,6 +379,17 @@ fn run_lines(plan: Plan, part: Part, input: &[u8], out: &mut [u8]) -> Ahead
     came(rows, g)
 }
 
+// Inner: runs the line that has come, as if it had ended. Requires a plan that can go on.
+pub fn run_line(plan: Plan, part: Part) -> Plan
+    requires { ⌜ planSound plan ≡ true ⌝ }
+    ensures { λ r. ⌜ r ≡ afterLine plan (bytesIn part) ⌝ }
+{
+    let mut out = [0u8; 80];
+    let ran = run_lines(plan, part, b"\n", &mut out);
+    let after = ran.plan;
+    after
+}
+
 // Whether the table of n rows is sound: a look is not refused.
 fn is_table(n: u32, rows: [Held; 32]) -> bool
     ensures { λ r. ⌜ r ≡ tableSound (tableOf n rows) ⌝ }
@@ -394,7 +405,7 @@ fn is_table(n: u32, rows: [Held; 32]) -> bool
 }
 
 // Whether a plan can go on: its bench, where it has one, is sound.
-fn is_sound(plan: Plan) -> bool
+pub fn is_sound(plan: Plan) -> bool
     ensures { λ r. ⌜ r ≡ planSound plan ⌝ }
 {
     if plan.over {

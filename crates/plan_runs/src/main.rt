@@ -3,22 +3,15 @@
 // Numbers are lowest byte first; input that ends within a command counts as followed by zeros.
 //
 //   N 0                      the plan before line one, and no part; no answer
-//   P over lines n           lines (eight bytes), n (four) and over (1 for yes) of the plan; no answer
-//   L row record             row 0 to 31 of the plan becomes this record; no answer
-//   T length text            the part: its length and its 121 bytes; no answer
+//   P, L, T                  load the plan and the part (`plan_bytes`); no answer
 //   F length room piece      feeds a piece of so many bytes, 250 at the most
 //   E 0 room                 ends the text
 //   A length room text       prints a whole text of so many bytes, 250 at the most
 //
 // `room` (four bytes) is the length of the lent buffer, 20,480 at the most, each byte of it 0xA5. A call
 // is answered by a byte, 0 or the refusal's number; by the count of bytes (four); by the whole buffer; by
-// over (a byte), lines and n of the plan; by its 32 rows; by the part's length (eight bytes) and its 121
-// bytes.
+// the plan and by the part.
 // Any other letter ends the run.
-use bench::Outcome;
-use node_bytes::bytes;
-use node_bytes::rows;
-use node_record::Held;
 use plan_program::Part;
 use plan_program::Plan;
 use plan_text::Written;
@@ -46,12 +39,9 @@ fn is_command(letter: u8) -> bool {
 // How many bytes follow the letter and the byte after it.
 fn body(letter: u8, byte: u8) -> u8 {
     match letter {
-        b'P' => 12,
-        b'L' => bytes::RECORD,
-        b'T' => 121,
         b'F' | b'A' => text_bytes::piece_end(byte),
         b'E' => 4,
-        _ => 0,
+        _ => plan_bytes::body(letter),
     }
 }
 
@@ -61,57 +51,6 @@ fn read(input: &mut [u8; 4096], left: Unread, block: &mut Block) -> Head {
     input::fill_after(input, head, block, body(head.letter, head.byte))
 }
 
-fn with_row(plan: Plan, row: usize, record: Held) -> Plan {
-    let rows = plan.rows;
-    let rows = rows::loaded(rows, row, record);
-    let outcome = plan.outcome;
-    Plan {
-        lines: plan.lines,
-        n: plan.n,
-        rows: rows,
-        over: plan.over,
-        outcome: outcome,
-    }
-}
-
-fn with_numbers(plan: Plan, over: u8, block: &Block) -> Plan {
-    let rows = plan.rows;
-    Plan {
-        lines: block::long_word(block, 0),
-        n: block::word(block, 8),
-        rows: rows,
-        over: over == 1,
-        outcome: Outcome::Quiet,
-    }
-}
-
-fn part_of(length: u8, block: &Block) -> Part {
-    Part {
-        length: length as usize,
-        text: text_bytes::text_at(block, 0),
-    }
-}
-
-// The plan that is loaded by a command without an answer.
-fn plan_loaded(plan: Plan, head: Head, block: &Block) -> Plan {
-    let letter = head.letter;
-    match letter {
-        b'N' => plan_program::no_plan(),
-        b'P' => with_numbers(plan, head.byte, block),
-        b'L' => with_row(plan, head.byte as usize, bytes::held_of(block)),
-        _ => plan,
-    }
-}
-
-fn part_loaded(part: Part, head: Head, block: &Block) -> Part {
-    let letter = head.letter;
-    match letter {
-        b'N' => plan_program::no_part(),
-        b'T' => part_of(head.byte, block),
-        _ => part,
-    }
-}
-
 fn is_call(letter: u8) -> bool {
     match letter {
         b'F' | b'E' | b'A' => true,
@@ -119,14 +58,20 @@ fn is_call(letter: u8) -> bool {
     }
 }
 
+// The plan and the part that are loaded by a command without an answer.
 fn load(state: State, head: Head, block: &Block) -> State {
+    if head.letter == b'N' {
+        return State {
+            plan: plan_program::no_plan(),
+            part: plan_program::no_part(),
+            held: state.held,
+        };
+    }
     let plan = state.plan;
     let part = state.part;
-    let plan = plan_loaded(plan, head, block);
-    let part = part_loaded(part, head, block);
     State {
-        plan: plan,
-        part: part,
+        plan: plan_bytes::plan_loaded(plan, head, block),
+        part: plan_bytes::part_loaded(part, head, block),
         held: state.held,
     }
 }
@@ -204,18 +149,6 @@ fn run_room(
     }
 }
 
-fn put_plan(output: &mut [u8; 4096], held: usize, plan: Plan) -> usize {
-    let mut answer = [0u8; 255];
-    if plan.over {
-        answer[0] = 1;
-    }
-    block::set_long_word(&mut answer, 1, plan.lines);
-    block::set_word(&mut answer, 9, plan.n);
-    let held = output::put_block(output, held, &answer, 13);
-    let rows = plan.rows;
-    rows::put_rows(output, held, rows)
-}
-
 // Carries a call out and answers.
 fn call(output: &mut [u8; 4096], state: State, head: Head, block: &Block) -> State {
     let mut out = [0xA5u8; 20480];
@@ -236,10 +169,8 @@ fn call(output: &mut [u8; 4096], state: State, head: Head, block: &Block) -> Sta
     let part = ran.part;
     let held = text_bytes::put_written(output, state.held, written);
     let held = output::put_bytes(output, held, &out, room);
-    let held = put_plan(output, held, plan);
-    let length = part.length;
-    let text = part.text;
-    let held = text_bytes::put_text(output, held, length, text);
+    let held = plan_bytes::put_plan(output, held, plan);
+    let held = plan_bytes::put_part(output, held, part);
     State {
         plan: plan,
         part: part,

@@ -2,3 +2,4 @@
 pub mod Paste
 pub mod Digits
 pub mod ReadBack
+pub mod Bytewise

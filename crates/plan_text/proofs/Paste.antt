@@ -10,8 +10,10 @@ use lib.Dec.{eqb}
 use lib.ListN.{length, take, drop, getD, set, length-append, take-append-drop}
 use lib.Seq.{length-take-le, lt-length-set, take-at, drop-at, drop-cons, drop-drop, drop-set-lt, take-set-le, getD-set-same, set-split, paste, paste-suc}
 use Rattle.plan_text.proofs.Digits.{length-digits}
-use Rattle.plan_text.specs.Text.{PutAt, digits, glyph, pasted, writtenOf}
-use Rattle.plan_text.specs.declared.Written.the-variants.{Bytes}
+use Rattle.plan_text.specs.Text.{PutAt, PutFew, digits, glyph, pasted, writtenOf}
+use Rattle.plan_text.specs.declared.Written.{Written}
+use Rattle.plan_text.specs.declared.Written.the-variants.{Bytes, Refused}
+use Rattle.refusal.specs.declared.Refusal.{Refusal}
 use borrow.Author.Tests.{le-leb, ne-eqb}
 
 -- ---- one text
@@ -94,6 +96,30 @@ unfolding writtenOf
 written text at out next last room put =
     let size : next - at ≡ length text = omega (arith, put .end) in
     simp (le-leb (at + 80) (length out) room) (cc (size, put .bytes))
+
+-- ---- a line that is written
+
+module _ {w : Written} {last : List ℕ} (text out : List ℕ) (at : ℕ) (room : at + 80 ≤ length out) (wrote : _≡_ {A = Written × List ℕ} (w, last) (writtenOf text at out)) where
+  is-written : _≡_ {A = Written × List ℕ} (w, last) (Bytes (length text), pasted out at text)
+  unfolding writtenOf
+  is-written = simp (le-leb (at + 80) (length out) room) at wrote
+
+  pub count-is : {count : ℕ} → w ≡ Bytes count → count ≡ length text
+  count-is e = let first : w ≡ Bytes (length text) = ap (λ (p : Written × List ℕ). p .0) is-written in cc
+
+  pub put-few : {count : ℕ} → length text ≤ 80 → w ≡ Bytes count → PutFew 80 (at + count) at text out last
+  put-few {count} short e =
+      let size : count ≡ length text = count-is e in
+      record {
+        put = record { end = omega arith; bytes = ap (λ (p : Written × List ℕ). p .1) is-written };
+        few = omega arith;
+      }
+
+  pub not-refused : {cause : Refusal} → w ≡ Refused cause → ⊥
+  not-refused e =
+      let first : w ≡ Bytes (length text) = ap (λ (p : Written × List ℕ). p .0) is-written in
+      let z : _≡_ {A = ℕ} 0 1 = cc in
+      omega arith
 
 -- ---- a turn of a loop
 

@@ -1,5 +1,5 @@
 -- Document 01, "The bench program": the text of what the program prints, as the list of its bytes, and what writing it into lent bytes leaves.
-use Prim.Native.Nat.{ℕ, zero, suc, _+_, _/_, _%_}
+use Prim.Native.Nat.{ℕ, zero, suc, _+_, _/_, _%_, _≤_}
 use mathlib.Core.Path.{_≡_}
 use mathlib.Core.Bool.{cond}
 use mathlib.Core.List.{List, [], _∷_, _++_}
@@ -84,6 +84,11 @@ pasted out at text = take at out ++ (text ++ drop (at + length text) out)
 pub record PutAt (next at : ℕ) (text before after : List ℕ) : Type 0 where
   pub end : next ≡ at + length text
   pub bytes : after ≡ pasted before at text
+
+-- A text of at most so many bytes was put.
+pub record PutFew (most next at : ℕ) (text before after : List ℕ) : Type 0 where
+  pub put : PutAt next at text before after
+  pub few : next ≤ at + most
 
 -- What comes of writing a line: the number of its bytes, and all of the lent bytes afterwards. "Lent output too short" is 9: 80 bytes from the place on
 -- hold every line. It leaves "every byte" as it was.

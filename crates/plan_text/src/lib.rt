@@ -7,7 +7,7 @@ ghost use mathlib.Core.Path.{_≡_};
 ghost use Prim.Native.Nat.{_+_, _≤_, _<_};
 ghost use lib.Dec.{leb};
 ghost use lib.ListN.{length};
-ghost use Rattle.plan_text.specs.Text.{digits, fateText, glyph, nextLine, numberThen, pasted, places, refusalText, shownText, slotText, writtenOf, PutAt};
+ghost use Rattle.plan_text.specs.Text.{digits, fateText, glyph, nextLine, numberThen, pasted, places, refusalText, shownText, slotText, writtenOf, PutAt, PutFew};
 
 // What came of writing: the number of bytes, or why none was written.
 pub enum Written {
@@ -91,7 +91,7 @@ pub fn next_line(lines: u64) -> u64
 }
 
 // Puts a number and the byte after it.
-fn put_number(out: &mut [u8], at: usize, x: u64, byte: u8) -> usize
+pub fn put_number(out: &mut [u8], at: usize, x: u64, byte: u8) -> usize
     requires { ⌜ at + 21 ≤ length (now out) ⌝ }
     ensures { λ r. ⌜ PutAt r at (numberThen byte x) (now (out .entry)) (now (out .exit)) ⌝ }
 {
@@ -172,4 +172,16 @@ pub fn refusal_line(out: &mut [u8], at: usize, line: u64, cause: u32) -> Written
     let after_refusal = put_word(out, after_line, b"refusal ");
     let end = put_number(out, after_refusal, cause as u64, 10);
     Written::Bytes(end - at)
+}
+
+// Puts the line of a refusal.
+pub fn put_refusal(out: &mut [u8], at: usize, line: u64, cause: u32) -> usize
+    requires { ⌜ at + 80 ≤ length (now out) ⌝ }
+    ensures { λ r. ⌜ PutFew 80 r at (refusalText line cause) (now (out .entry)) (now (out .exit)) ⌝ }
+{
+    let written = refusal_line(out, at, line, cause);
+    match written {
+        Written::Bytes(count) => at + count,
+        Written::Refused(_) => at,
+    }
 }

@@ -3,7 +3,7 @@ use Prim.Native.Nat.{ℕ}
 use mathlib.Core.Bool.{cond}
 use lib.Dec.{eqb}
 use Rattle.refusal.specs.declared.Refusal.{Refusal}
-use Rattle.refusal.specs.declared.Refusal.the-variants.{RingSize, SponsorCount, NodeNumber, Unsound, SlotLimit, MessageLength, SectionCount, SpareBit, OutputShort, NotItsSlot, NotOut, PlanLine, LedgerUnfit, JobCount, HasJobs, Lag, TableLength, TableNodes}
+use Rattle.refusal.specs.declared.Refusal.the-variants.{RingSize, SponsorCount, NodeNumber, Unsound, SlotLimit, MessageLength, SectionCount, SpareBit, OutputShort, NotItsSlot, NotOut, PlanLine, LedgerUnfit, JobCount, HasJobs, Lag, TableLength, TableNodes, SumPasses}
 
 abbrev pub numberOf : Refusal → ℕ
 -- "n not 3 to 32"
@@ -42,6 +42,8 @@ numberOf Lag = 16
 numberOf TableLength = 17
 -- "A node missing or doubled" (request k)
 numberOf TableNodes = 18
+-- "A sum passing 64 bits" (request m)
+numberOf SumPasses = 19
 
 -- The cause with this number, so that a definition can name a refusal as document 01 does. (proofs/Numbers: its number is this one. No
 -- definition asks for a number that is none.)
@@ -63,4 +65,5 @@ cause number =
     (cond (eqb number 14) JobCount
     (cond (eqb number 15) HasJobs
     (cond (eqb number 16) Lag
-    (cond (eqb number 17) TableLength TableNodes))))))))))))))))
+    (cond (eqb number 17) TableLength
+    (cond (eqb number 18) TableNodes SumPasses)))))))))))))))))

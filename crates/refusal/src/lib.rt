@@ -22,6 +22,7 @@ pub enum Refusal {
     Lag,
     TableLength,
     TableNodes,
+    SumPasses,
 }
 
 // The number of the cause.
@@ -47,5 +48,6 @@ pub fn number(cause: Refusal) -> u32
         Refusal::Lag => 16,
         Refusal::TableLength => 17,
         Refusal::TableNodes => 18,
+        Refusal::SumPasses => 19,
     }
 }

@@ -14,20 +14,33 @@ pub const LONGEST: usize = 120;
 /// from 1, and ends the run."
 pub fn run(input: &[u8]) -> Vec<u8> {
     let mut out = Vec::new();
-    if let Err((line, number)) = run_lines(input, &mut out) {
-        writeln!(out, "line {line} refusal {number}").expect("a vector takes every byte");
+    if let Err((line, number)) = run_lines(lines(input), |_, told| told.print(&mut out)) {
+        print_refusal(line, number, &mut out);
     }
     out
 }
 
-/// The number of the line that is refused, and of the refusal.
-fn run_lines(input: &[u8], out: &mut Vec<u8>) -> Result<(), (u64, u32)> {
-    let mut lines = (1..).zip(input.split_inclusive(|&byte| byte == b'\n'));
+/// The lines of a text, each with its line feed; the last one may have none.
+pub fn lines(input: &[u8]) -> impl Iterator<Item = &[u8]> {
+    input.split_inclusive(|&byte| byte == b'\n')
+}
+
+/// Runs the lines of a plan; `see` is given the table after each slot, and what is told of it. The number of the line
+/// that is refused, and of the refusal.
+pub fn run_lines<'a>(
+    lines: impl Iterator<Item = &'a [u8]>,
+    mut see: impl FnMut(&[Node], &Told),
+) -> Result<(), (u64, u32)> {
+    let mut lines = (1..).zip(lines);
     // "Empty input .. is an unreadable line."
     let (_, first) = lines.next().ok_or((1, refusal::LINE))?;
     let mut nodes = whole(first).and_then(line_one).map_err(|number| (1, number))?;
     for (number, line) in lines {
-        whole(line).and_then(|line| run_line(&mut nodes, line, out)).map_err(|cause| (number, cause))?;
+        let told =
+            whole(line).and_then(|line| run_line(&mut nodes, line)).map_err(|cause| (number, cause))?;
+        if let Some(told) = told {
+            see(&nodes, &told);
+        }
     }
     Ok(())
 }
@@ -48,12 +61,10 @@ pub fn line_one(line: &[u8]) -> Result<Vec<Node>, u32> {
     bench::set_up(Choices::plain(n, k), n as usize)
 }
 
-pub fn run_line(nodes: &mut [Node], line: &[u8], out: &mut Vec<u8>) -> Result<(), u32> {
+/// Runs a line that is not the first: what is told of it, if it is a slot.
+pub fn run_line(nodes: &mut [Node], line: &[u8]) -> Result<Option<Told>, u32> {
     let call = call(nodes[0].chosen.n, line)?;
-    if let Some(slot) = bench::run(&Document01, nodes, call)? {
-        print_slot(nodes, &slot, out);
-    }
-    Ok(())
+    Ok(bench::run(&Document01, nodes, call)?.map(|slot| Told::new(nodes, &slot)))
 }
 
 /// What a line says. "Then `ok`, `lost`, `miss a b` (numbers rising, at least one) each run a slot;
@@ -69,17 +80,39 @@ pub fn call(n: u32, line: &[u8]) -> Result<Call, u32> {
     }
 }
 
-/// "Each slot prints: slot, sender, fate, the set of the lowest-numbered member as eight hexadecimal
-/// digits (node 1 is the lowest bit; `--------` if none), the greatest distance between sets of two
-/// members"
-fn print_slot(nodes: &[Node], slot: &Slot, out: &mut Vec<u8>) {
-    let (number, sender, fate) = (nodes[0].slots, slot.sender, word(slot.fate));
-    let distance = bench::greatest_distance(nodes);
-    match bench::list(nodes) {
-        Some(set) => writeln!(out, "{number} {sender} {fate} {:08x} {distance}", set.0),
-        None => writeln!(out, "{number} {sender} {fate} -------- {distance}"),
+/// "Each slot prints: slot, sender, fate, the set of the lowest-numbered member .., the greatest distance between sets
+/// of two members"
+#[derive(Clone, Copy, PartialEq, Eq)]
+pub struct Told {
+    pub slot: u64,
+    pub sender: u32,
+    pub fate: Fate,
+    pub list: Option<Set>,
+    pub distance: u32,
+}
+
+impl Told {
+    fn new(nodes: &[Node], slot: &Slot) -> Told {
+        Told {
+            slot: nodes[0].slots,
+            sender: slot.sender,
+            fate: slot.fate,
+            list: bench::list(nodes),
+            distance: bench::greatest_distance(nodes),
+        }
     }
-    .expect("a vector takes every byte");
+
+    /// The set is printed "as eight hexadecimal digits (node 1 is the lowest bit; `--------` if none)".
+    pub fn print(&self, out: &mut Vec<u8>) {
+        let Told { slot, sender, fate, list, distance } = *self;
+        let list = list.map_or("--------".to_string(), |set| format!("{:08x}", set.0));
+        writeln!(out, "{slot} {sender} {} {list} {distance}", word(fate)).expect("a vector takes every byte");
+    }
+}
+
+/// "A refused line prints `line L refusal N`"
+pub fn print_refusal(line: u64, number: u32, out: &mut Vec<u8>) {
+    writeln!(out, "line {line} refusal {number}").expect("a vector takes every byte");
 }
 
 fn word(fate: Fate) -> &'static str {

@@ -2,12 +2,10 @@
 //! a call asks for and what is kept of a line, is as the contracts say; sentences marked (contract) are those of
 //! `converter_text/specs/Calls` and of what it cites.
 
+use super::part::Part;
 use super::pieces::LINE;
 use super::recorded_text::{print, Form};
 use super::refusal;
-
-/// "With one byte more of the next line, of which 121 are kept: no longer line is readable." (contract)
-pub const KEPT: usize = 121;
 
 /// A recording as far as it has come.
 #[derive(Clone)]
@@ -15,21 +13,14 @@ pub struct Recording {
     pub form: Form,
     /// How many lines have ended.
     pub lines: u64,
-    /// How many bytes have come of the next line. No call makes it more than 121.
-    pub length: u64,
-    pub text: [u8; KEPT],
+    /// What has come of the next line.
+    pub part: Part,
 }
 
 impl Recording {
     /// "Before the first line." (contract)
     pub fn new(form: Form) -> Recording {
-        Recording { form, lines: 0, length: 0, text: [0; KEPT] }
-    }
-
-    /// How many bytes are kept: all 121 where a recording comes with a larger length, since "the bytes that have come of
-    /// the next line" (contract) are the first `length` of its text.
-    fn kept(&self) -> usize {
-        self.length.min(KEPT as u64) as usize
+        Recording { form, lines: 0, part: Part::new() }
     }
 
     /// "The count stops at the last number of 64 bits" (contract)
@@ -37,22 +28,11 @@ impl Recording {
         self.lines.saturating_add(1)
     }
 
-    /// Bytes of the next line take the places that are free, as far as these go. Where none is free nothing changes,
-    /// and so a length above 121 stays. (the first sentence)
-    fn keep(&mut self, bytes: &[u8]) {
-        let free = KEPT - self.kept();
-        let taken = &bytes[..bytes.len().min(free)];
-        for (place, &byte) in self.text[KEPT - free..].iter_mut().zip(taken) {
-            *place = byte;
-        }
-        self.length += taken.len() as u64;
-    }
-
-    /// The next line ends; its bytes are left where they stand. "After the end of the line." (contract)
+    /// The next line ends. "After the end of the line." (contract)
     fn end_line(&mut self, out: &mut Vec<u8>) {
-        let line = [&self.text[..self.kept()], b"\n"].concat();
+        let mut line = self.part.end();
+        line.push(b'\n');
         self.lines = self.next_line();
-        self.length = 0;
         print(self.form, self.lines, &line, out);
     }
 
@@ -67,7 +47,7 @@ impl Recording {
             if i > 0 {
                 self.end_line(&mut out);
             }
-            self.keep(part);
+            self.part.keep(part);
         }
         Ok(out)
     }
@@ -79,7 +59,7 @@ impl Recording {
             return Err(refusal::OUTPUT);
         }
         let mut out = Vec::new();
-        if self.kept() > 0 {
+        if self.part.length > 0 {
             print(self.form, self.next_line(), b"unended", &mut out);
         }
         Ok(out)

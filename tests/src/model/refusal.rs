@@ -36,3 +36,5 @@ pub const LAG: u32 = 16;
 pub const TABLE_LENGTH: u32 = 17;
 /// request k: "A node missing or doubled"
 pub const TABLE_NODES: u32 = 18;
+/// request m: "A sum passing 64 bits"
+pub const SUM: u32 = 19;

@@ -9,8 +9,9 @@ use denote.Ref.{now}
 use Rattle.plan_text.specs.Text.{PutAt}
 use Rattle.plan_text.proofs.Paste.{both, nothing}
 use Rattle.converter_text.specs.declared.Recording.{Recording}
-use Rattle.converter_text.specs.Calls.{after, afterByte, textOf}
-use Rattle.converter_text.proofs.Lines.{after-next, text-next}
+use Rattle.plan_text.specs.Bytewise.{afterBytes, bytesText}
+use Rattle.plan_text.proofs.Bytewise.{after-next, text-next}
+use Rattle.converter_text.specs.Calls.{after, afterByte, byteText, textOf}
 use borrow.Author.Needs.{needs}
 use Rattle.converter_text.proofs.take_bytes.Statement.{statement}
 use Rattle.converter_text.proofs.take_bytes.Tie as tie
@@ -22,7 +23,7 @@ abbrev μ-loop : tie.MeasureT-loop
 μ-loop input out₀ taken₀ i₀ out taken i = length input - i
 
 loop-holds : tie.Need-loop-holds Inv-loop μ-loop
-unfolding after textOf
+unfolding afterBytes bytesText
 loop-holds c = (omega arith, refl, omega arith, refl, nothing 0 (now (c .before .before .args .out)) .put)
 
 shared-slice-read-take-byte : tie.Need-shared-slice-read-take-byte Inv-loop μ-loop
@@ -48,8 +49,8 @@ loop-again c =
       omega arith,
       took .kept .1 .1 .0 ∙ loop .inv .1,
       omega (arith, took .ensures .put .few, loop .inv .2),
-      took .ensures .is ∙ ap (λ (r : Recording). afterByte r byte) (loop .inv .3) ∙ sym (after-next (a .r) input (loop .i) below),
-      rw (text-next (a .r) input (loop .i) below) (both (omega arith) (loop .inv .4) (rw (loop .inv .3) at (took .ensures .put .put))),
+      took .ensures .is ∙ ap (λ (r : Recording). afterByte r byte) (loop .inv .3) ∙ sym (after-next afterByte (a .r) input (loop .i) below),
+      rw (text-next afterByte (a .r) input (loop .i) below byteText) (both (omega arith) (loop .inv .4) (rw (loop .inv .3) at (took .ensures .put .put))),
     )
 
 same-length : tie.Need-same-length Inv-loop μ-loop

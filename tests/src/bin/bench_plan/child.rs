@@ -1,5 +1,6 @@
 //! A run of a bench program on a plan: what it prints, how long it works, how much memory it takes.
 
+use comparison::memory;
 use std::fs::{self, File};
 use std::io::{Read, Write};
 use std::path::Path;
@@ -39,9 +40,8 @@ pub fn peak_memory(program: &Path, plan: &Path) -> u64 {
     let mut input = child.stdin.take().expect("piped");
     input.write_all(&fs::read(plan).expect("the plan was written")).expect("the program reads");
     thread::sleep(Duration::from_millis(500));
-    let status = fs::read_to_string(format!("/proc/{}/status", child.id())).expect("Linux keeps figures");
+    let peak = memory::peak(child.id()).expect("the program waits");
     drop(input);
     child.wait().expect("the program ends");
-    let line = status.lines().find_map(|line| line.strip_prefix("VmHWM:")).expect("a line for the peak");
-    line.trim().trim_end_matches(" kB").parse().expect("a number")
+    peak
 }

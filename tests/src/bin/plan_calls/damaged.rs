@@ -1,9 +1,10 @@
 //! Plans and parts as no call leaves them: rows that are no table, any numbers, any bytes.
 
 use super::compare::compare;
-use super::protocol::{Command, PART, ROWS};
-use comparison::lent::{Call, BUFFER, PIECE};
+use super::protocol::Command;
+use comparison::lent::{Call, LINES, PIECE};
 use comparison::model::bench;
+use comparison::plan_bytes::{outcome, part, Load, ROWS};
 use comparison::random::Random;
 use comparison::records::{choices_of, disturb};
 use comparison::report::Count;
@@ -16,21 +17,10 @@ fn numbers(random: &mut Random, n: u32) -> Command {
         _ => random.within(1, 300),
     };
     let n = if random.below(4) == 0 { [0, 1, n + 1, 33, 40, u32::MAX][random.below(6) as usize] } else { n };
-    Command::Numbers { over: random.below(6) == 0, lines, n }
+    Command::Load(Load::Numbers { over: random.below(6) == 0, lines, n, outcome: outcome(random) })
 }
 
-/// Often one that goes on with a line that can be read; some hold a line feed.
-fn part(random: &mut Random) -> Command {
-    let mut text = [b'0'; PART];
-    let begun: &[u8] = [&b""[..], b"o", b"ok", b"miss 1 ", b"4 2\nok", b"off "][random.below(6) as usize];
-    text[..begun.len()].copy_from_slice(begun);
-    let length = match random.below(6) {
-        0 => random.byte(),
-        1 => random.within(119, 123) as u8,
-        _ => begun.len() as u8,
-    };
-    Command::Part { length, text }
-}
+const BEGUN: &[&[u8]] = &[b"", b"o", b"ok", b"miss 1 ", b"4 2\nok", b"off "];
 
 fn piece(random: &mut Random) -> Vec<u8> {
     let pieces: [&[u8]; 8] = [
@@ -62,18 +52,18 @@ pub fn plans(count: &mut Count) -> Result<(), String> {
         let table = bench::set_up(chosen, n as usize).expect("the choices are in range");
         commands.push(Command::New);
         for (row, node) in (0..).zip(&table) {
-            commands.push(Command::Load(row, (*node).into()));
+            commands.push(Command::Load(Load::Row(row, (*node).into())));
         }
         if random.below(3) == 0 {
             let row = random.below(ROWS as u64) as usize;
             let mut record = table[row % table.len()].into();
             disturb(&mut random, &mut record);
-            commands.push(Command::Load(row as u8, record));
+            commands.push(Command::Load(Load::Row(row as u8, record)));
         }
         commands.push(numbers(&mut random, n));
-        commands.push(part(&mut random));
+        commands.push(Command::Load(Load::Part(part(&mut random, BEGUN))));
         for _ in 0..3 {
-            let room = if random.below(8) == 0 { 79 } else { BUFFER };
+            let room = if random.below(8) == 0 { 79 } else { LINES.most };
             commands.push(Command::Call(Call::Feed(piece(&mut random), room)));
         }
         commands.push(Command::Call(Call::Finish(if random.below(8) == 0 { 79 } else { 80 })));

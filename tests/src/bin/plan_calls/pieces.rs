@@ -4,7 +4,8 @@ use super::compare::compare;
 use super::protocol::Command;
 use super::texts::text;
 use comparison::adversary::Adversary;
-use comparison::lent::{cut, cut_at, enough, short, Call, CALLS, PIECE};
+use comparison::lent::{short, Call, CALLS, LINES, PIECE};
+use comparison::model::pieces::LINE;
 use comparison::report::Count;
 
 /// Plans of every n, in pieces of up to 250 bytes.
@@ -18,7 +19,7 @@ pub fn drawn(count: &mut Count) -> Result<(), String> {
         let text = text(&mut adversary, n, k, lines);
         let most = [1, 2, 3, 7, 40, 250][i as usize % 6];
         commands.push(Command::New);
-        commands.extend(cut(&mut adversary.random, &text, most).into_iter().map(Command::Call));
+        commands.extend(LINES.cut(&mut adversary.random, &text, most).into_iter().map(Command::Call));
     }
     compare(count, &commands)?;
     count.needs(CALLS)
@@ -38,7 +39,7 @@ pub fn every_cut(count: &mut Count) -> Result<(), String> {
     ] {
         for at in 0..=text.len() {
             commands.push(Command::New);
-            commands.extend(cut_at(text, at).map(Command::Call));
+            commands.extend(LINES.cut_at(text, at).map(Command::Call));
         }
     }
     compare(count, &commands)
@@ -55,8 +56,8 @@ pub fn whole(count: &mut Count) -> Result<(), String> {
         let mut text = text(&mut adversary, n, k, lines);
         text.truncate(adversary.random.within(0, PIECE as u64) as usize);
         let random = &mut adversary.random;
-        let room =
-            if random.below(4) == 0 { short(random, text.len() + 1) } else { enough(random, text.len() + 1) };
+        let least = LINE * (text.len() + 1);
+        let room = if random.below(4) == 0 { short(random, least) } else { LINES.enough(random, least) };
         commands.push(Command::Call(Call::Print(text, room)));
     }
     compare(count, &commands)?;

@@ -1,9 +1,11 @@
 //! Plans with a row of members that is damaged, typed from request l and in every way: no line of them is run.
 
 use super::compare::compare;
-use super::protocol::{Command, Held, ROWS};
-use comparison::lent::{Call, BUFFER};
+use super::protocol::{Command, Held};
+use comparison::lent::{Call, LINES};
 use comparison::model::held::Record;
+use comparison::model::pieces::Outcome;
+use comparison::plan_bytes::{Load, ROWS};
 use comparison::random::Random;
 use comparison::record_bytes::shown_held;
 use comparison::records::sound;
@@ -14,16 +16,18 @@ use comparison::typed_rows::{self, table_about};
 /// A plan of this table, whose line one has been run; a record that is not one of the table, if there is room.
 fn load(commands: &mut Vec<Command>, table: &[Record], spare: &Record) {
     commands.push(Command::New);
-    commands.extend((0..).zip(table).map(|(row, record)| Command::Load(row, *record)));
+    let load = |row, record: &Record| Command::Load(Load::Row(row, *record));
+    commands.extend((0..).zip(table).map(|(row, record)| load(row, record)));
     if table.len() < ROWS {
-        commands.push(Command::Load(table.len() as u8, *spare));
+        commands.push(load(table.len() as u8, spare));
     }
-    commands.push(Command::Numbers { over: false, lines: 1, n: table.len() as u32 });
+    let n = table.len() as u32;
+    commands.push(Command::Load(Load::Numbers { over: false, lines: 1, n, outcome: Outcome::Quiet }));
 }
 
 /// A piece is fed to this plan; the model answers by this number.
 fn feed(count: &mut Count, commands: &mut Vec<Command>, piece: &[u8], expected: u32) -> Result<(), String> {
-    commands.push(Command::Call(Call::Feed(piece.to_vec(), BUFFER)));
+    commands.push(Command::Call(Call::Feed(piece.to_vec(), LINES.most)));
     let start = commands.iter().rposition(|command| matches!(command, Command::New)).unwrap_or(0);
     let mut held = Held::first();
     let numbers = commands[start..].iter().map(|command| held.run(command, &mut Vec::new()));

@@ -8,21 +8,23 @@ const BENCH: Program = Program { name: "bench_main", arguments: &[] };
 
 /// The program prints what the model says.
 pub fn compare(count: &mut Count, plan: &[u8]) -> Result<(), String> {
-    compare_in_pieces(count, plan, usize::MAX)
+    let expected = program::run(plan);
+    note(count, &expected);
+    BENCH.prints(count, plan, &expected)
 }
 
-/// The same, with the plan sent in pieces of this many bytes.
+/// The same, where each read gives the program so many bytes.
 pub fn compare_in_pieces(count: &mut Count, plan: &[u8], piece: usize) -> Result<(), String> {
     let expected = program::run(plan);
     note(count, &expected);
-    BENCH.prints(count, plan, &expected, piece)
+    BENCH.prints_in_pieces(count, plan, &expected, piece)
 }
 
 /// Model and program print this.
 pub fn compare_with(count: &mut Count, plan: &[u8], expected: &[u8]) -> Result<(), String> {
     note(count, expected);
     see(count, "the model", plan, &program::run(plan), expected)?;
-    BENCH.prints(count, plan, expected, usize::MAX)
+    BENCH.prints(count, plan, expected)
 }
 
 /// Notes what happens in a plan, by its expected output.

@@ -2,9 +2,8 @@
 //! plans.
 
 use super::compare::compare_with;
-use comparison::printed::repository;
+use comparison::printed;
 use comparison::report::Count;
-use std::fs;
 
 /// The lines of a plan, parted by "; ", and those that it prints.
 type Vector = (&'static str, &'static [&'static str]);
@@ -174,17 +173,9 @@ pub fn refused(count: &mut Count) -> Result<(), String> {
 
 /// Every plan of plans/, with the expected output beside it.
 pub fn samples(count: &mut Count) -> Result<(), String> {
-    let folder = repository("plans");
-    let entries = fs::read_dir(&folder).map_err(|why| format!("{}: {why}", folder.display()))?;
-    for entry in entries {
-        let path = entry.map_err(|why| format!("{}: {why}", folder.display()))?.path();
-        if path.extension().is_none_or(|extension| extension != "plan") {
-            continue;
-        }
-        let read =
-            |path: &std::path::Path| fs::read(path).map_err(|why| format!("{}: {why}", path.display()));
-        let (plan, printed) = (read(&path)?, read(&path.with_extension("expected"))?);
-        compare_with(count, &plan, &printed).map_err(|why| format!("{}: {why}", path.display()))?;
+    for sample in printed::samples("plan")? {
+        compare_with(count, &sample.text, &sample.expected)
+            .map_err(|why| format!("{}: {why}", sample.path.display()))?;
     }
     Ok(())
 }

@@ -1,9 +1,10 @@
 //! Recordings as no call leaves them: any number of lines, any length, any bytes.
 
 use super::protocol::{compare, Command};
-use comparison::lent::{enough, short, Call, BUFFER, PIECE};
+use comparison::lent::{Call, LINES, PIECE};
+use comparison::model::part::{Part, KEPT};
 use comparison::model::pieces::LINE;
-use comparison::model::recorded_pieces::{Recording, KEPT};
+use comparison::model::recorded_pieces::Recording;
 use comparison::model::recorded_text::Form;
 use comparison::random::Random;
 use comparison::recorded_lines::{damage, text, FORMS};
@@ -35,7 +36,8 @@ pub fn lengths(count: &mut Count) -> Result<(), String> {
     for length in (0..=130).chain(LARGE) {
         for (start, filling) in SHAPES {
             for form in FORMS {
-                let loaded = Recording { form, lines: length % 7, length, text: filled(start, filling) };
+                let part = Part { length, text: filled(start, filling) };
+                let loaded = Recording { form, lines: length % 7, part };
                 ended(&loaded, &mut commands);
             }
         }
@@ -48,7 +50,7 @@ fn ended(loaded: &Recording, commands: &mut Vec<Command>) {
         commands.push(Command::Load(loaded.clone()));
         commands.push(Command::Call(Call::Feed(piece.to_vec(), LINE * piece.len())));
         commands.push(Command::Call(Call::Finish(LINE)));
-        commands.push(Command::Call(Call::Finish(BUFFER)));
+        commands.push(Command::Call(Call::Finish(LINES.most)));
     }
 }
 
@@ -99,7 +101,7 @@ fn begun(count: &mut Count, random: &mut Random, form: Form, k: u32) -> (Recordi
     let mut piece = whole.split_off(at);
     piece.truncate(PIECE);
     let (lines, length) = (lines(count, random), length(count, random, at));
-    (Recording { form, lines, length, text: kept }, piece)
+    (Recording { form, lines, part: Part { length, text: kept } }, piece)
 }
 
 /// Recordings of every k and both forms, each fed twice; some calls are first made with a buffer that is too short.
@@ -109,15 +111,12 @@ pub fn drawn(count: &mut Count) -> Result<(), String> {
     for i in 0..8_000 {
         let (loaded, piece) = begun(count, &mut random, FORMS[i % 2], 2 + (i / 2) as u32 % 30);
         let (a, b) = piece.split_at(random.below(piece.len() as u64 + 1) as usize);
+        let mut calls = Vec::new();
+        LINES.feed(&mut random, a, &mut calls);
+        LINES.feed(&mut random, b, &mut calls);
+        LINES.finish(&mut random, &mut calls);
         commands.push(Command::Load(loaded));
-        for piece in [a, b] {
-            if random.below(4) == 0 && !piece.is_empty() {
-                commands.push(Command::Call(Call::Feed(piece.to_vec(), short(&mut random, piece.len()))));
-            }
-            commands.push(Command::Call(Call::Feed(piece.to_vec(), enough(&mut random, piece.len()))));
-        }
-        let room = if random.below(4) == 0 { short(&mut random, 1) } else { enough(&mut random, 1) };
-        commands.push(Command::Call(Call::Finish(room)));
+        commands.extend(calls.into_iter().map(Command::Call));
     }
     compare(count, &commands)?;
     count.needs(LOADED)

@@ -1,7 +1,7 @@
 //! Texts cut into pieces of every size, and buffers of every length about those that are needed.
 
 use super::protocol::{compare, Command};
-use comparison::lent::{cut, cut_at, Call, CALLS, PIECE};
+use comparison::lent::{Call, CALLS, LINES, PIECE};
 use comparison::model::pieces::LINE;
 use comparison::random::Random;
 use comparison::recorded_lines::{damage, text, DAMAGES, FORMS};
@@ -20,7 +20,7 @@ pub fn drawn(count: &mut Count) -> Result<(), String> {
         }
         let most = [1, 2, 3, 7, 40, PIECE][i / 2 % 6];
         commands.push(Command::New(form));
-        commands.extend(cut(&mut random, &text, most).into_iter().map(Command::Call));
+        commands.extend(LINES.cut(&mut random, &text, most).into_iter().map(Command::Call));
     }
     compare(count, &commands)?;
     count.needs(CALLS)?;
@@ -43,7 +43,7 @@ pub fn every_cut(count: &mut Count) -> Result<(), String> {
         for at in 0..=text.len() {
             for form in FORMS {
                 commands.push(Command::New(form));
-                commands.extend(cut_at(text, at).map(Command::Call));
+                commands.extend(LINES.cut_at(text, at).map(Command::Call));
             }
         }
     }

@@ -3,6 +3,7 @@
 use comparison::lent::{self, Call};
 use comparison::model::recorded_pieces::Recording;
 use comparison::model::recorded_text::Form;
+use comparison::plan_bytes::push_part;
 use comparison::recorded_lines::note;
 use comparison::report::Count;
 
@@ -22,8 +23,7 @@ fn form_byte(form: Form) -> u8 {
 fn push_recording(recording: &Recording, out: &mut Vec<u8>) {
     out.push(form_byte(recording.form));
     out.extend(recording.lines.to_le_bytes());
-    out.extend(recording.length.to_le_bytes());
-    out.extend(recording.text);
+    push_part(&recording.part, out);
 }
 
 impl lent::Command for Command {

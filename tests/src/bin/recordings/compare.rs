@@ -16,19 +16,21 @@ fn program(form: Form) -> Program {
 
 /// The program prints what the model says.
 pub fn compare(count: &mut Count, form: Form, text: &[u8]) -> Result<(), String> {
-    compare_in_pieces(count, form, text, usize::MAX)
+    let expected = run(form, text);
+    note(count, &expected);
+    program(form).prints(count, text, &expected)
 }
 
-/// The same, with the text sent in pieces of this many bytes.
+/// The same, where each read gives the program so many bytes.
 pub fn compare_in_pieces(count: &mut Count, form: Form, text: &[u8], piece: usize) -> Result<(), String> {
     let expected = run(form, text);
     note(count, &expected);
-    program(form).prints(count, text, &expected, piece)
+    program(form).prints_in_pieces(count, text, &expected, piece)
 }
 
 /// Model and program print this.
 pub fn compare_with(count: &mut Count, form: Form, text: &[u8], expected: &[u8]) -> Result<(), String> {
     note(count, expected);
     see(count, "the model", text, &run(form, text), expected)?;
-    program(form).prints(count, text, expected, usize::MAX)
+    program(form).prints(count, text, expected)
 }

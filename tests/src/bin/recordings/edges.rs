@@ -100,7 +100,7 @@ pub fn ends(count: &mut Count) -> Result<(), String> {
     Ok(())
 }
 
-/// The text comes in small pieces, so that a read gives less than the buffer holds.
+/// The text comes in pieces, so that a read gives less than the buffer holds.
 pub fn pieces(count: &mut Count) -> Result<(), String> {
     let mut random = Random::new(85);
     for i in 0..200 {
@@ -109,7 +109,7 @@ pub fn pieces(count: &mut Count) -> Result<(), String> {
         text.extend(b"31");
         compare_in_pieces(count, form, &text, [1, 2, 3, 5, 7, 64, 100][i % 7])?;
     }
-    for piece in [4_095, 4_096, 4_097, 1_000] {
+    for piece in [4_095, 4_096, 1_000] {
         for form in FORMS {
             compare_in_pieces(count, form, &filled(40_001), piece)?;
         }

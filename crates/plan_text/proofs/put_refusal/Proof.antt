@@ -1,12 +1,12 @@
--- `converter_text::put_refusal` meets its contract: where there is room a refusal is written. Assumes nothing.
+-- `plan_text::put_refusal` meets its contract: where there is room a refusal is written. Assumes nothing.
 use native.Mathlib.Omega.{arith}
 use denote.Ref.{now}
 use Rattle.plan_text.specs.Text.{refusalText}
 use Rattle.plan_text.proofs.Digits.{refusal-short}
-use Rattle.converter_text.proofs.Lines.{count-is, not-refused, put-few}
+use Rattle.plan_text.proofs.Paste.{count-is, not-refused, put-few}
 use borrow.Author.Needs.{needs}
-use Rattle.converter_text.proofs.put_refusal.Statement.{statement}
-use Rattle.converter_text.proofs.put_refusal.Tie as tie
+use Rattle.plan_text.proofs.put_refusal.Statement.{statement}
+use Rattle.plan_text.proofs.put_refusal.Tie as tie
 
 refusal-line-requires : tie.Need-refusal-line-requires
 refusal-line-requires c κs = search needs
