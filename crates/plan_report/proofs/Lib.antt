@@ -2,5 +2,6 @@ pub mod Sums
 pub mod Counting
 pub mod Lines
 pub mod Told
-pub mod Pieces
 pub mod Summed
+pub mod Plans
+pub mod Pieces

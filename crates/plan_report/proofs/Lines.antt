@@ -10,7 +10,8 @@ use Rattle.plan_program.specs.Calls.{bytesIn, planSound}
 use Rattle.plan_program.proofs.Sound.{sound-line}
 use Rattle.plan_report.specs.declared.Report.{Report}
 use Rattle.plan_report.specs.declared.Tally.{Tally}
-use Rattle.plan_report.specs.Report.{afterLineIn, endText, isNext, lineDone, lineText, planEnded}
+use Rattle.plan_report.specs.Report.{isNext}
+use Rattle.plan_report.specs.Tallies.{afterLineIn, endText, lineDone, lineText, planEnded}
 use Rattle.plan_report.specs.Calls.{afterByte, byteText, lineEnded, withByte}
 
 -- ---- a line

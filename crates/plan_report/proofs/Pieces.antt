@@ -20,9 +20,11 @@ use Rattle.plan_program.specs.declared.Plan.{Plan}
 use Rattle.plan_program.proofs.Lines.{enough}
 use Rattle.plan_report.specs.declared.Report.{Report}
 use Rattle.plan_report.specs.declared.Tally.{Tally}
-use Rattle.plan_report.specs.Report.{afterLineIn, endText, faultIn, figuresAfter, isNext, lastText, lineDone, lineText, linesText, planEnded, reported, totalText}
+use Rattle.plan_report.specs.Report.{faultIn, isNext, totalText}
+use Rattle.plan_report.specs.Tallies.{afterLineIn, endText, figuresAfter, lastText, lineDone, lineText, linesText, planEnded}
 use Rattle.plan_report.specs.Calls.{after, afterByte, byteText, fedOf, finalText, finishedOf, lineEnded, startOf, textOf, textsFed, withByte, PiecesReported}
 use Rattle.plan_report.proofs.Lines.{an-end, no-end, sound-byte}
+use Rattle.plan_report.proofs.Plans.{by-plans}
 
 -- ---- what the calls write
 
@@ -130,6 +132,7 @@ follows =
 -- ---- the law
 
 pub pieces-reported : PiecesReported
-unfolding reported byLine planSound
+unfolding byLine planSound
 pieces-reported pieces last room =
     in-pieces calls pieces startOf last refl room ∙ all-lines follows (inputOf pieces) (record { tally = refl; kept = kept-none (startOf .part .text) refl })
+    ∙ by-plans (inputOf pieces)

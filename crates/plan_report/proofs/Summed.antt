@@ -1,65 +1,72 @@
--- The figures of a plan are sums over the tables of its run (specs/Summed): a slot adds 32 to each at the most, so that no sum is stopped at 2 ^ 64 - 1.
+-- The figures of every plan have 64 bits: a table is no further than the slot limit, a line that runs a slot takes it one slot on, and a slot adds 32 to each figure at the most.
 -- Assumes nothing.
-use Prim.Native.Nat.{ℕ, _+_, _*_, _≤_}
+use Prim.Native.Nat.{ℕ, _+_, _-_, _*_, _≤_}
 use mathlib.Core.Path.{_≡_, refl, sym, ap, _∙_}
 use mathlib.Core.Bool.{Bool, true, false, cond, false≢true}
 use mathlib.Core.List.{List, [], _∷_}
 use native.Mathlib.Omega.{arith}
 use lib.Dec.{eqb, ltb}
-use lib.ListN.{length}
+use borrow.Author.Tests.{leb-true}
+use Rattle.nodeset.specs.Sums.{num}
 use Rattle.nodeset.proofs.Counts.{size-le}
 use Rattle.nodeset.proofs.Tests.{by-cases}
 use Rattle.ring.proofs.Ranges.{ring-size}
-use Rattle.node_record.proofs.Facts.{clauses}
+use Rattle.node_record.specs.Soundness.{limit}
 use Rattle.node_record.specs.States.{isMember}
-use Rattle.bench.specs.Table.{Table, nodeCount, recordOf, tableSound}
-use Rattle.bench.specs.Calls.{greatest}
-use Rattle.bench.specs.Runs.{listOf}
+use Rattle.node_record.proofs.Facts.{clauses}
+use Rattle.node.specs.declared.Answer.{Answer}
+use Rattle.node.specs.declared.Answer.the-variants as answer
+use Rattle.node.specs.Calls.{isDone}
+use Rattle.bench.specs.Table.{Table, nodeCount, recordOf, slotsOf, tableSound}
+use Rattle.bench.specs.Calls.{Called, greatest, offOf, restartOf}
 use Rattle.bench.specs.declared.Outcome.{Outcome}
 use Rattle.bench.specs.declared.Outcome.the-variants as outcome
-use Rattle.bench.proofs.Places.{sound-placed}
+use Rattle.bench.specs.Outcomes.{endedOf, quietOutcome, slotGiven, slotOutcome}
+use Rattle.bench.specs.Runs.{Call, slot, off, restart, callOf, isSlot, listOf, tableAfter}
+use Rattle.bench.proofs.Ledgers.{given-none}
+use Rattle.bench.proofs.Places.{InPlace, sound-placed, slots-of-placed}
+use Rattle.bench.proofs.Runs.{placed-call}
+use Rattle.bench_by_value.specs.ByValue as by-value
 use Rattle.bench_by_value.specs.ByValue.{Rows, tableOf}
-use Rattle.plan_text.specs.Text.{nextLine}
+use Rattle.plan_line.specs.declared.Line.{Line}
+use Rattle.plan_line.specs.declared.Line.the-variants as lines
+use Rattle.plan_line.specs.Plan.{lineOf}
+use Rattle.plan_run.specs.Run.{actOf, ranBy}
 use Rattle.plan_program.specs.declared.Plan.{Plan}
-use Rattle.plan_program.specs.Program.{afterLine, noPlan, planWith}
+use Rattle.plan_program.specs.Program.{afterLine, isRefused, noPlan}
 use Rattle.plan_program.specs.Calls.{planSound}
-use Rattle.plan_program.proofs.Sound.{first-line, next-line-some, over-line, ran-line, some-record, sound-line}
+use Rattle.plan_program.proofs.Sound.{first-line, line-table, next-line-some, over-line, ran-line, some-record, sound-line}
 use Rattle.plan_report.specs.declared.Figures.{Figures}
-use Rattle.plan_report.specs.declared.Tally.{Tally}
 use Rattle.plan_report.specs.Figures.{last64, membersIn, noFigures, plus, slotFigures}
-use Rattle.plan_report.specs.Report.{figuresAfter, isSlotLine, lineDone, raisedBy, tallyWith}
-use Rattle.plan_report.specs.Summed.{afterLinesIn, slotTables, sumOver, FiguresSummed, NoNext}
+use Rattle.plan_report.specs.Report.{isSlotLine, slotTables, sumOver}
 use Rattle.plan_report.proofs.Counting.{num-few}
-use Rattle.plan_report.proofs.Lines.{goes-on}
-use Rattle.plan_report.proofs.Sums.{raised-plain}
+use Rattle.plan_report.proofs.Sums.{both-few, more-room, none-few, none-plus, AtMost}
 
--- figures are equal where each of the four is
-four : {f g : Figures} → f .slots ≡ g .slots → f .members ≡ g .members → f .listed ≡ g .listed → f .apart ≡ g .apart → f ≡ g
-four {f} {g} s m l d =
-    ap (λ (x : ℕ). record { slots = x; members = f .members; listed = f .listed; apart = f .apart }) s
-    ∙ ap (λ (x : ℕ). record { slots = g .slots; members = x; listed = f .listed; apart = f .apart }) m
-    ∙ ap (λ (x : ℕ). record { slots = g .slots; members = g .members; listed = x; apart = f .apart }) l
-    ∙ ap (λ (x : ℕ). record { slots = g .slots; members = g .members; listed = g .listed; apart = x }) d
+-- ---- a table
 
--- ---- a slot adds 32 to each figure at the most
+module _ (t : Table) (sound : tableSound t ≡ true) where
+  some : 1 ≤ recordOf t 1 .cable .n
+  some = omega (arith, some-record t sound, sound-placed t sound .length-is)
 
-few-nodes : (t : Table) → tableSound t ≡ true → nodeCount t ≤ 32
-few-nodes t e =
-    let placed = sound-placed t e in
-    let first = placed .at 1 (omega arith) (omega (arith, some-record t e, placed .length-is)) in
-    omega (arith, placed .length-is, ring-size (recordOf t 1 .cable .n) (clauses (recordOf t 1) (first .is-sound) .choices .ring))
+  first : InPlace (recordOf t 1 .cable) (slotsOf t) 1 (recordOf t 1)
+  first = sound-placed t sound .at 1 (omega arith) some
+
+  few-nodes : nodeCount t ≤ 32
+  few-nodes = omega (arith, sound-placed t sound .length-is, ring-size (recordOf t 1 .cable .n) (clauses (recordOf t 1) (first .is-sound) .choices .ring))
+
+  within-limit : slotsOf t ≤ limit
+  within-limit = omega (arith, first .slots-is, leb-true (recordOf t 1 .slots) limit (clauses (recordOf t 1) (first .is-sound) .slots))
+
+  -- a slot takes it one slot on, and no other call does
+  slots-call : (c : Call) → slotsOf (callOf c t .table) ≡ slotsOf t + num (isSlot c t)
+  slots-call c =
+      slots-of-placed (recordOf t 1 .cable) (slotsOf t + num (isSlot c t)) (callOf c t .table) some
+      (placed-call (recordOf t 1 .cable) (slotsOf t) t some (sound-placed t sound) c)
 
 members-le : (t : Table) → membersIn t ≤ nodeCount t
 unfolding membersIn
 members-le [] = omega arith
 members-le (v ∷ t) = omega (arith, num-few (isMember (v .state)), members-le t)
-
--- Each figure is so much at the most.
-record AtMost (most : ℕ) (f : Figures) : Type 0 where
-  slots : f .slots ≤ most
-  members : f .members ≤ most
-  listed : f .listed ≤ most
-  apart : f .apart ≤ most
 
 slot-few : (t : Table) → tableSound t ≡ true → AtMost 32 (slotFigures t)
 slot-few t e =
@@ -71,99 +78,138 @@ slot-few t e =
       apart = omega (arith, num-few (ltb 0 (greatest (nodeCount t) t)));
     }
 
-module _ {a b : ℕ} {f g : Figures} (x : AtMost a f) (y : AtMost b g) where
-  both-few : AtMost (a + b) (plus f g)
-  both-few = record { slots = omega (arith, x .slots, y .slots); members = omega (arith, x .members, y .members); listed = omega (arith, x .listed, y .listed); apart = omega (arith, x .apart, y .apart) }
-
-  not-stopped : a + b ≤ last64 → raisedBy f g ≡ plus f g
-  not-stopped room =
-      four
-      (raised-plain (f .slots) (g .slots) (omega (arith, x .slots, y .slots)))
-      (raised-plain (f .members) (g .members) (omega (arith, x .members, y .members)))
-      (raised-plain (f .listed) (g .listed) (omega (arith, x .listed, y .listed)))
-      (raised-plain (f .apart) (g .apart) (omega (arith, x .apart, y .apart)))
-
 -- ---- a line
 
--- a table after a slot is sound
-sound-slot : (L n : ℕ) (rows : Rows) (o : Outcome) → eqb L 0 ≡ false → planSound (planWith L n rows o) ≡ true → isSlotLine o ≡ true → tableSound (tableOf n rows) ≡ true
-unfolding planSound
-sound-slot L n rows outcome.Quiet begun sound e = absurd (false≢true e)
-sound-slot L n rows (outcome.Slot slot sender fate shown distance) begun sound e = simp begun at sound
-sound-slot L n rows (outcome.Refused cause) begun sound e = absurd (false≢true e)
+pub stays-over : (p : Plan) (line : List ℕ) → p .over ≡ true → afterLine p line .over ≡ true
+stays-over p line e = rw (over-line p line e) e
 
-slot-sound : (p : Plan) (line : List ℕ) → planSound p ≡ true → isSlotLine (afterLine p line .outcome) ≡ true
-    → tableSound (tableOf (afterLine p line .n) (afterLine p line .rows)) ≡ true
-slot-sound p line sound slot =
-    by-cases (p .over)
-    (λ over. absurd (false≢true (sym (ap (λ (q : Plan). isSlotLine (q .outcome)) (over-line p line over)) ∙ slot)))
-    (λ going. by-cases (eqb (p .lines) 0) (λ first. told (first-line p line first going)) (λ begun. told (ran-line p line begun going)))
-  where
-    told : {n : ℕ} {rows : Rows} {o : Outcome} → afterLine p line ≡ planWith (nextLine (p .lines)) n rows o → tableSound (tableOf (afterLine p line .n) (afterLine p line .rows)) ≡ true
-    told {n} {rows} {o} e =
-        rw e (sound-slot (nextLine (p .lines)) n rows o (next-line-some (p .lines))
-        (sym (ap planSound e) ∙ sound-line p line sound)
-        (sym (ap (λ (q : Plan). isSlotLine (q .outcome)) e) ∙ slot))
+pub over-refused : (p : Plan) (line : List ℕ) → p .over ≡ false → afterLine p line .over ≡ isRefused (afterLine p line .outcome)
+over-refused p line going =
+    by-cases (eqb (p .lines) 0)
+    (λ first. rw (first-line p line first going) refl)
+    (λ begun. rw (ran-line p line begun going) refl)
+
+slot-line : (lost : Bool) (before after : Table) (a : Answer) → isDone a ≡ isSlotLine (slotOutcome lost before after a)
+slot-line lost before after answer.Done = refl
+slot-line lost before after (answer.Refused cause) = refl
+
+quiet-line : (a : Answer) → false ≡ isSlotLine (quietOutcome a)
+quiet-line answer.Done = refl
+quiet-line (answer.Refused cause) = refl
+
+module _ (n : ℕ) (rows : Rows) (sound : tableSound (tableOf n rows) ≡ true) where
+  abbrev t : Table
+  t = tableOf n rows
+
+  ran-slot : (lost : Bool) (missed : ℕ) → isSlot (slot lost missed 64) t ≡ isSlotLine (slotOutcome lost t (slotGiven lost missed 0 64 t .table) (slotGiven lost missed 0 64 t .answer))
+  unfolding isSlot
+  ran-slot lost missed =
+      sym (ap (λ (c : Called). isDone (c .answer)) (given-none lost missed 64 t))
+      ∙ slot-line lost t (slotGiven lost missed 0 64 t .table) (slotGiven lost missed 0 64 t .answer)
+
+  line-slots : (l : Line) → slotsOf (tableOf n (ranBy n rows (actOf l) .rows)) ≡ slotsOf t + num (isSlotLine (ranBy n rows (actOf l) .outcome))
+  unfolding by-value.callOf endedOf tableAfter isSlot
+  line-slots lines.Ok = ap slotsOf (line-table n rows sound lines.Ok) ∙ slots-call t sound (slot false 0 64) ∙ ap (λ (b : Bool). slotsOf t + num b) (ran-slot false 0)
+  line-slots lines.Lost = ap slotsOf (line-table n rows sound lines.Lost) ∙ slots-call t sound (slot true 0 64) ∙ ap (λ (b : Bool). slotsOf t + num b) (ran-slot true 0)
+  line-slots (lines.Miss missed) = ap slotsOf (line-table n rows sound (lines.Miss missed)) ∙ slots-call t sound (slot false missed 64) ∙ ap (λ (b : Bool). slotsOf t + num b) (ran-slot false missed)
+  line-slots (lines.Off a) = ap slotsOf (line-table n rows sound (lines.Off a)) ∙ slots-call t sound (off a) ∙ ap (λ (b : Bool). slotsOf t + num b) (quiet-line (offOf a t .answer))
+  line-slots (lines.On a) = ap slotsOf (line-table n rows sound (lines.On a)) ∙ slots-call t sound (restart a) ∙ ap (λ (b : Bool). slotsOf t + num b) (quiet-line (restartOf a t .answer))
+  line-slots (lines.Refused cause) = omega arith
+
+refused-no-slot : (o : Outcome) → isRefused o ≡ true → isSlotLine o ≡ false
+refused-no-slot outcome.Quiet e = refl
+refused-no-slot (outcome.Slot number sender fate shown distance) e = absurd (false≢true e)
+refused-no-slot (outcome.Refused cause) e = refl
+
+-- ---- plans
+
+abbrev tableIn : Plan → Table
+tableIn p = tableOf (p .n) (p .rows)
+
+-- A plan that goes on after line one.
+record Goes (p : Plan) : Type 0 where
+  sound : planSound p ≡ true
+  begun : eqb (p .lines) 0 ≡ false
+  on : p .over ≡ false
+
+table-sound : {p : Plan} → Goes p → tableSound (tableIn p) ≡ true
+unfolding planSound
+table-sound {p} g = simp (g .on, g .begun) at (g .sound)
+
+-- the plan after a line that was run goes on, or it is over
+after-begun : (p : Plan) (line : List ℕ) → p .over ≡ false → eqb (afterLine p line .lines) 0 ≡ false
+after-begun p line going =
+    by-cases (eqb (p .lines) 0)
+    (λ first. rw (first-line p line first going) (next-line-some (p .lines)))
+    (λ begun. rw (ran-line p line begun going) (next-line-some (p .lines)))
+
+goes-on : (p : Plan) (line : List ℕ) → planSound p ≡ true → p .over ≡ false → afterLine p line .over ≡ false → Goes (afterLine p line)
+goes-on p line sound going on = record { sound = sound-line p line sound; begun = after-begun p line going; on = on }
+
+slots-after : {p : Plan} (g : Goes p) (line : List ℕ) → slotsOf (tableIn (afterLine p line)) ≡ slotsOf (tableIn p) + num (isSlotLine (afterLine p line .outcome))
+slots-after {p} g line = rw (ran-line p line (g .begun) (g .on)) (line-slots (p .n) (p .rows) (table-sound g) (lineOf (p .n) line))
+
+-- ---- what lines add
 
 -- What a line adds that left this plan.
-abbrev lineFigures : Plan → Figures
+abbrev pub lineFigures : Plan → Figures
 lineFigures q = cond (isSlotLine (q .outcome)) (slotFigures (tableOf (q .n) (q .rows))) noFigures
 
-line-few : (p : Plan) (line : List ℕ) → planSound p ≡ true → AtMost 32 (lineFigures (afterLine p line))
-line-few p line sound =
-    by-cases (isSlotLine (afterLine p line .outcome))
-    (λ slot. rw slot (slot-few (tableOf (afterLine p line .n) (afterLine p line .rows)) (slot-sound p line sound slot)))
-    (λ none. rw none (record { slots = omega arith; members = omega arith; listed = omega arith; apart = omega arith }))
-
--- ---- adding
-
-plus-none : (f : Figures) → plus f noFigures ≡ f
-plus-none f = four (omega arith) (omega arith) (omega arith) (omega arith)
-
-none-plus : (f : Figures) → plus noFigures f ≡ f
-none-plus f = four (omega arith) (omega arith) (omega arith) (omega arith)
-
-plus-plus : (f g h : Figures) → plus (plus f g) h ≡ plus f (plus g h)
-plus-plus f g h = four (omega arith) (omega arith) (omega arith) (omega arith)
-
--- the figures after a line are those before it and what the line adds
-line-adds : (f : Figures) (q : Plan) (most : ℕ) → AtMost most f → AtMost 32 (lineFigures q) → most + 32 ≤ last64 → figuresAfter f q ≡ plus f (lineFigures q)
-line-adds f q most few adds room = go (isSlotLine (q .outcome)) adds
-  where
-    go : (slot : Bool) → AtMost 32 (cond slot (slotFigures (tableOf (q .n) (q .rows))) noFigures)
-        → cond slot (raisedBy f (slotFigures (tableOf (q .n) (q .rows)))) f ≡ plus f (cond slot (slotFigures (tableOf (q .n) (q .rows))) noFigures)
-    go true less = not-stopped few less room
-    go false less = sym (plus-none f)
-
-sum-none : (p : Plan) → sumOver (slotTables p []) ≡ noFigures
-unfolding slotTables sumOver
-sum-none p = refl
-
-sum-next : (p : Plan) (line : List ℕ) (more : List (List ℕ))
+pub sum-next : (p : Plan) (line : List ℕ) (more : List (List ℕ))
     → sumOver (slotTables p (line ∷ more)) ≡ plus (lineFigures (afterLine p line)) (sumOver (slotTables (afterLine p line) more))
 unfolding slotTables sumOver
 sum-next p line more = by-cases (isSlotLine (afterLine p line .outcome)) (λ e. rw e refl) (λ e. rw e (sym (none-plus (sumOver (slotTables (afterLine p line) more)))))
 
--- ---- all lines
+pub sum-none : (p : Plan) → sumOver (slotTables p []) ≡ noFigures
+unfolding slotTables sumOver
+sum-none p = refl
 
-summed : (t : Tally) (lines : List (List ℕ)) (most : ℕ) → planSound (t .plan) ≡ true → AtMost most (t .figures) → most + 32 * length lines ≤ last64 → NoNext lines
-    → afterLinesIn t lines .figures ≡ plus (t .figures) (sumOver (slotTables (t .plan) lines))
-unfolding afterLinesIn
-summed t [] most sound few room plain = sym (ap (plus (t .figures)) (sum-none (t .plan)) ∙ plus-none (t .figures))
-summed t (line ∷ more) most sound few room plain =
-    let q = afterLine (t .plan) line in
+line-none : (q : Plan) → isSlotLine (q .outcome) ≡ false → lineFigures q ≡ noFigures
+line-none q e = ap (λ (slot : Bool). cond slot (slotFigures (tableIn q)) noFigures) e
+
+line-few : {q : Plan} → Goes q → AtMost 32 (lineFigures q)
+line-few {q} g = by-cases (isSlotLine (q .outcome)) (λ e. rw e (slot-few (tableIn q) (table-sound g))) (λ e. rw e (none-few 32))
+
+-- nothing is added once a plan is over
+over-none : (p : Plan) (lines : List (List ℕ)) → p .over ≡ true → sumOver (slotTables p lines) ≡ noFigures
+over-none p [] over = sum-none p
+over-none p (line ∷ more) over =
+    let q = afterLine p line in
+    sum-next p line more
+    ∙ ap (λ (f : Figures). plus (lineFigures q) f) (over-none q more (stays-over p line over))
+    ∙ ap (λ (f : Figures). plus f noFigures) (line-none q (ap (λ (r : Plan). isSlotLine (r .outcome)) (over-line p line over)))
+    ∙ none-plus noFigures
+
+-- nor by the line that ends it
+ended-few : (p : Plan) (line : List ℕ) (more : List (List ℕ)) (most : ℕ) → p .over ≡ false → afterLine p line .over ≡ true → AtMost most (sumOver (slotTables p (line ∷ more)))
+ended-few p line more most going over =
+    let q = afterLine p line in
+    let none : lineFigures q ≡ noFigures = line-none q (refused-no-slot (q .outcome) (sym (over-refused p line going) ∙ over)) in
+    rw (sum-next p line more, over-none q more over, none, none-plus noFigures) (none-few most)
+
+few-left : (lines : List (List ℕ)) {p : Plan} → Goes p → AtMost (32 * (limit - slotsOf (tableIn p))) (sumOver (slotTables p lines))
+few-left [] {p} g = rw (sum-none p) (none-few (32 * (limit - slotsOf (tableIn p))))
+few-left (line ∷ more) {p} g =
+    let q = afterLine p line in
     let rest = sumOver (slotTables q more) in
-    let adds = line-few (t .plan) line sound in
-    let now : figuresAfter (t .figures) q ≡ plus (t .figures) (lineFigures q) = line-adds (t .figures) q most few adds (omega arith) in
-    let few-now : AtMost (most + 32) (figuresAfter (t .figures) q) = rw now (both-few few adds) in
-    ap (λ (u : Tally). afterLinesIn u more .figures) (goes-on t line (plain .0))
-    ∙ summed (lineDone t line) more (most + 32) (sound-line (t .plan) line sound) few-now (omega arith) (plain .1)
-    ∙ ap (λ (f : Figures). plus f rest) now
-    ∙ plus-plus (t .figures) (lineFigures q) rest
-    ∙ ap (plus (t .figures)) (sym (sum-next (t .plan) line more))
+    by-cases (q .over)
+    (λ over. ended-few p line more (32 * (limit - slotsOf (tableIn p))) (g .on) over)
+    (λ on.
+    let next : Goes q = goes-on p line (g .sound) (g .on) on in
+    let left = few-left more next in
+    let slots = slots-after g line in
+    rw (sum-next p line more)
+    (by-cases (isSlotLine (q .outcome))
+    (λ e. more-room (omega (arith, rw e at slots, within-limit (tableIn q) (table-sound next))) (both-few (line-few next) left))
+    (λ e. rw (line-none q e, none-plus rest) (more-room (omega (arith, rw e at slots)) left))))
 
-pub figures-summed : FiguresSummed
+pub all-few : (lines : List (List ℕ)) → AtMost last64 (sumOver (slotTables noPlan lines))
 unfolding planSound
-figures-summed plans totals lines plain few =
-    summed (tallyWith plans totals) lines 0 refl (record { slots = omega arith; members = omega arith; listed = omega arith; apart = omega arith }) (omega (arith, few)) plain
-    ∙ none-plus (sumOver (slotTables noPlan lines))
+all-few [] = rw (sum-none noPlan) (none-few last64)
+all-few (line ∷ more) =
+    let q = afterLine noPlan line in
+    by-cases (q .over)
+    (λ over. ended-few noPlan line more last64 refl over)
+    (λ on.
+    let next : Goes q = goes-on noPlan line refl refl on in
+    rw (sum-next noPlan line more) (more-room (omega arith) (both-few (line-few next) (few-left more next))))

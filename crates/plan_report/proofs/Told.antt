@@ -28,7 +28,8 @@ use Rattle.plan_program.specs.Calls.{planSound}
 use Rattle.plan_program.proofs.Sound.{first-line, line-left, over-line, ran-line}
 use Rattle.plan_report.specs.declared.Figures.{Figures}
 use Rattle.plan_report.specs.Figures.{slotFigures}
-use Rattle.plan_report.specs.Report.{figuresAfter, isSlotLine, raisedBy}
+use Rattle.plan_report.specs.Report.{isSlotLine}
+use Rattle.plan_report.specs.Tallies.{figuresAfter, raisedBy}
 use Rattle.plan_report.specs.Inner.{figuresBy}
 
 -- The figures by what is printed of a line are those by the table after it.

@@ -14,7 +14,8 @@ use Rattle.plan_program.specs.declared.Part.{Part}
 use Rattle.plan_program.specs.Calls.{bytesIn, partOf, planSound}
 use Rattle.plan_report.specs.declared.Report.{Report}
 use Rattle.plan_report.specs.declared.Fed as code
-use Rattle.plan_report.specs.Report.{noTally, afterLineIn, lineText, lastText, reported}
+use Rattle.plan_report.specs.Report.{reported}
+use Rattle.plan_report.specs.Tallies.{noTally, afterLineIn, lineText, lastText}
 
 -- ---- a report, byte by byte
 

@@ -45,7 +45,7 @@ allFit t f =
     && (leb (t .listed + f .listed) last64
     && leb (t .apart + f .apart) last64))
 
--- "A sum passing 64 bits in that call: 19, its only refusal; the totals keep what they had."
+-- "Adding four figures to four totals is a call of its own that takes any 64-bit figures. (A sum passing 64 bits in that call: 19, its only refusal; the totals keep what they had. ..)"
 unfoldable pub addOf : Figures → Figures → Added
 addOf totals figures =
     cond (allFit totals figures)

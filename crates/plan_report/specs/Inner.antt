@@ -17,7 +17,7 @@ use Rattle.plan_report.specs.declared.Figures.{Figures}
 use Rattle.plan_report.specs.declared.Report.{Report}
 use Rattle.plan_report.specs.declared.Taken.{Taken}
 use Rattle.plan_report.specs.Figures.{membersIn}
-use Rattle.plan_report.specs.Report.{raisedBy}
+use Rattle.plan_report.specs.Tallies.{raisedBy}
 use Rattle.plan_report.specs.Calls.{afterByte, byteText}
 
 -- The figures of a slot by what is printed of it, and the table after it.

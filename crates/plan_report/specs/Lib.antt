@@ -1,5 +1,5 @@
 pub mod Figures
 pub mod Report
-pub mod Summed
+pub mod Tallies
 pub mod Calls
 pub mod Inner

@@ -23,7 +23,8 @@ ghost use Rattle.bench.specs.Table.{nodeCount};
 ghost use Rattle.bench.specs.Runs.{setIn};
 ghost use Rattle.nodeset.specs.Sets.{size};
 ghost use Rattle.plan_report.specs.Figures.{addOf, allFit, last64, membersIn};
-ghost use Rattle.plan_report.specs.Report.{afterLineIn, endText, faultIn, figuresText, isNext, lineDone, lineText, planEnded, raised, raisedBy, tallyWith, totalText, totalsBy, verdictOf, verdictText};
+ghost use Rattle.plan_report.specs.Report.{faultIn, figuresText, isNext, totalText, verdictText};
+ghost use Rattle.plan_report.specs.Tallies.{afterLineIn, endText, lineDone, lineText, planEnded, raised, raisedBy, tallyWith, totalsBy, verdictOf};
 ghost use Rattle.plan_report.specs.Calls.{after, fedAs, fedOf, finishedOf, lineEnded, startOf, textOf, withByte};
 ghost use Rattle.plan_report.specs.Inner.{figuresBy, toldFigures, Took};
 
@@ -126,7 +127,7 @@ pub fn add(totals: Figures, figures: Figures) -> Added
 fn raised(x: u64, by: u64) -> u64
     ensures { λ r. ⌜ r ≡ raised x by ⌝ }
 {
-    if by <= u64::MAX - x {
+    if fits(x, by) {
         return x + by;
     }
     u64::MAX

@@ -21,7 +21,7 @@ pub struct Report {
     /// The plan that runs, and its figures.
     pub plan: Plan,
     pub figures: Figures,
-    /// By which number its last line was refused; 0 for none.
+    /// By which number a line of it was refused; 0 for none.
     pub fault: u32,
     pub totals: Figures,
     /// What has come of the next line.

@@ -1,6 +1,6 @@
 -- `plan_report::figures_by` meets its contract. Assumes nothing.
 use mathlib.Core.Path.{sym, ap, _∙_}
-use Rattle.plan_report.specs.Report.{raisedBy}
+use Rattle.plan_report.specs.Tallies.{raisedBy}
 use Rattle.plan_report.specs.Inner.{figuresBy}
 use borrow.Author.Needs.{needs}
 use Rattle.plan_report.proofs.figures_by.Statement.{statement}

@@ -7,7 +7,8 @@ use borrow.Author.Needs.{needs}
 use Rattle.plan_program.specs.declared.Plan.{Plan}
 use Rattle.plan_program.specs.Program.{afterLine}
 use Rattle.plan_program.specs.Calls.{bytesIn}
-use Rattle.plan_report.specs.Report.{faultIn, figuresAfter}
+use Rattle.plan_report.specs.Report.{faultIn}
+use Rattle.plan_report.specs.Tallies.{figuresAfter}
 use Rattle.plan_report.specs.Inner.{figuresBy}
 use Rattle.plan_report.proofs.Told.{tells}
 use Rattle.plan_report.proofs.line_done.Statement.{statement}

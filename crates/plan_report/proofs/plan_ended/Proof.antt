@@ -3,7 +3,7 @@ use Prim.Native.Nat.{ℕ}
 use mathlib.Core.Path.{ap, _∙_}
 use Rattle.plan_text.specs.Text.{nextLine}
 use Rattle.plan_report.specs.declared.Verdict.{Verdict}
-use Rattle.plan_report.specs.Report.{tallyWith, totalsBy}
+use Rattle.plan_report.specs.Tallies.{tallyWith, totalsBy}
 use borrow.Author.Needs.{needs}
 use Rattle.plan_report.proofs.plan_ended.Statement.{statement}
 use Rattle.plan_report.proofs.plan_ended.Tie as tie

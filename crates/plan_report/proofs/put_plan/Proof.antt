@@ -7,7 +7,7 @@ use Rattle.plan_line.specs.Words.{bytes}
 use Rattle.plan_text.specs.Text.{nextLine, numberThen}
 use Rattle.plan_text.proofs.Paste.{Sofar, more, nothing, both}
 use Rattle.plan_text.proofs.Digits.{number-short}
-use Rattle.plan_report.specs.Report.{endText}
+use Rattle.plan_report.specs.Report.{planText}
 use borrow.Author.Needs.{needs}
 use Rattle.plan_report.proofs.put_plan.Statement.{statement}
 use Rattle.plan_report.proofs.put_plan.Tie as tie
@@ -40,7 +40,7 @@ same-length : tie.Need-same-length
 same-length c = search needs
 
 returns : tie.Need-returns
-unfolding endText
+unfolding planText
 returns c =
     let begun = after-number (c .before .before .before .before .before .before) in
     let rest = rw (c .before .before .before .before .before .before .before .before .before .before .before .before .before .before .verdict-of .ensures) at (c .before .before .put-verdict .ensures) in

@@ -2,7 +2,7 @@
 use mathlib.Core.Path.{sym, ap, _∙_}
 use Rattle.plan_report.specs.declared.Added.{Added}
 use Rattle.plan_report.specs.declared.Verdict.{Verdict}
-use Rattle.plan_report.specs.Report.{totalsBy}
+use Rattle.plan_report.specs.Tallies.{totalsBy}
 use borrow.Author.Needs.{needs}
 use Rattle.plan_report.proofs.totals_by.Statement.{statement}
 use Rattle.plan_report.proofs.totals_by.Tie as tie

@@ -9,26 +9,27 @@ use Rattle.plan_report.specs.declared.Added.{Added}
 use Rattle.plan_report.specs.declared.Tally.{Tally}
 use Rattle.plan_report.specs.declared.Verdict.the-variants.{Counted, Refused}
 use Rattle.plan_report.specs.Figures.{addOf}
-use Rattle.plan_report.specs.Report.{verdictOf}
+use Rattle.plan_report.specs.Report.{verdictWith}
+use Rattle.plan_report.specs.Tallies.{verdictOf}
 use borrow.Author.Needs.{needs}
 use Rattle.plan_report.proofs.verdict_of.Statement.{statement}
 use Rattle.plan_report.proofs.verdict_of.Tie as tie
 
 module _ (t : Tally) (begun : Bool) where
   was-refused : t .plan .over ≡ true → verdictOf t begun ≡ Refused (t .plan .lines) (t .fault)
-  unfolding verdictOf
+  unfolding verdictWith
   was-refused e = simp e
 
   unended : t .plan .over ≡ false → (eqb (t .plan .lines) 0 || begun) ≡ true → verdictOf t begun ≡ Refused (nextLine (t .plan .lines)) 12
-  unfolding verdictOf
+  unfolding verdictWith
   unended e f = simp (e, f)
 
   counted : t .plan .over ≡ false → (eqb (t .plan .lines) 0 || begun) ≡ false → isDone (addOf (t .totals) (t .figures) .answer) ≡ true → verdictOf t begun ≡ Counted
-  unfolding verdictOf
+  unfolding verdictWith
   counted e f g = simp (e, f, g)
 
   passed : t .plan .over ≡ false → (eqb (t .plan .lines) 0 || begun) ≡ false → isDone (addOf (t .totals) (t .figures) .answer) ≡ false → verdictOf t begun ≡ Refused (t .plan .lines) 19
-  unfolding verdictOf
+  unfolding verdictWith
   passed e f g = simp (e, f, g)
 
 add-requires : tie.Need-add-requires

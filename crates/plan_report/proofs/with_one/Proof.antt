@@ -1,7 +1,7 @@
 -- `plan_report::with_one` meets its contract. Assumes nothing.
 use mathlib.Core.Path.{_≡_}
 use native.Mathlib.Omega.{arith}
-use Rattle.plan_report.specs.Report.{raised}
+use Rattle.plan_report.specs.Tallies.{raised}
 use borrow.Author.Needs.{needs}
 use Rattle.plan_report.proofs.with_one.Statement.{statement}
 use Rattle.plan_report.proofs.with_one.Tie as tie
