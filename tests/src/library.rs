@@ -31,6 +31,21 @@ mod c {
             out_ptr: *mut u8,
             out_len: usize,
         ) -> u64;
+        pub unsafe fn cover_light_level(
+            node_ptr: *const u8,
+            node_len: usize,
+            bases_ptr: *const u8,
+            bases_len: usize,
+            lamp: u32,
+        ) -> u64;
+        pub unsafe fn cover_light_levels(
+            node_ptr: *const u8,
+            node_len: usize,
+            bases_ptr: *const u8,
+            bases_len: usize,
+            out_ptr: *mut u8,
+            out_len: usize,
+        ) -> u64;
         pub unsafe fn ring_sender(n: u32, ptr: *const u8, len: usize, done: u64) -> u64;
         pub unsafe fn ring_before(n: u32, ptr: *const u8, len: usize, set: u32, x: u32, j: u32) -> u64;
         pub unsafe fn ring_sponsored(
@@ -214,4 +229,21 @@ pub fn decided(asked: &Asked, set: u32, x: u32) -> Found {
         )
     };
     Found { member: answer(member), back: answer(back) }
+}
+
+/// The level of a lamp, or the number of the refusal. A record is lent as bytes.
+pub fn level(node: &[u8], bases: &[u8], lamp: u32) -> Result<u64, u64> {
+    // SAFETY: each pointer and its length are those of one slice, which is only read.
+    let answer =
+        unsafe { c::cover_light_level(node.as_ptr(), node.len(), bases.as_ptr(), bases.len(), lamp) };
+    value(answer)
+}
+
+/// The number of levels written, or the number of the refusal.
+pub fn levels(node: &[u8], bases: &[u8], out: &mut [u8]) -> Result<u64, u64> {
+    let (lent, room) = (out.as_mut_ptr(), out.len());
+    // SAFETY: each pointer and its length are those of one slice; two are only read, the last lent for the call alone.
+    let answer =
+        unsafe { c::cover_light_levels(node.as_ptr(), node.len(), bases.as_ptr(), bases.len(), lent, room) };
+    value(answer)
 }

@@ -3,8 +3,8 @@
 use std::collections::BTreeMap;
 use std::process::ExitCode;
 
-/// The refusals' numbers reach to 19; 0 stands for an accepted call.
-const ANSWERS: usize = 20;
+/// The refusals' numbers reach to 20; 0 stands for an accepted call.
+const ANSWERS: usize = 21;
 
 /// What a case has compared so far.
 #[derive(Default)]

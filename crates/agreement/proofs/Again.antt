@@ -12,6 +12,7 @@ use Rattle.nodeset.specs.Sets.{has, without, size}
 use Rattle.nodeset.proofs.Tests.{by-cases, chosen, otherwise}
 use Rattle.nodeset.proofs.Sums.{sum-first, sum-next, sum-rest, sum-split}
 use Rattle.nodeset.proofs.Counts.{size-with, size-without}
+use Rattle.nodeset.proofs.Laws.{without-part}
 use Rattle.ring.specs.declared.Cable.{Cable}
 use Rattle.ring.specs.declared.Found.the-variants as found
 use Rattle.ring.specs.Ring.{sender, sponsors, decided, memberIn}
@@ -26,7 +27,7 @@ use Rattle.node_changes.specs.Changes.{leave, withSet}
 use Rattle.node_steps.specs.Steps.{marksAfter, leaves, settle}
 use Rattle.node_steps.specs.Inner.{readMarked, departing}
 use Rattle.agreement.proofs.History.{World, Untold, K, lst, failed, few-from, told-failures, told-in-time, span, sponsors-are, Before, before, num-is}
-use Rattle.agreement.proofs.Parts.{without-part, size-part}
+use Rattle.agreement.proofs.Parts.{size-part}
 use Rattle.agreement.proofs.Invariant.{Knock}
 use Rattle.agreement.proofs.Marks.{no-both, not-true, not-false}
 use Rattle.agreement.proofs.Listed.{ListedSlot, Hearer, off-after, on-after}

@@ -9,7 +9,7 @@ use Rattle.nodeset.specs.Sums.{sum, num}
 use Rattle.nodeset.specs.Sets.{has, without, size}
 use Rattle.nodeset.proofs.Tests.{by-cases}
 use Rattle.nodeset.proofs.Sums.{sum-le, sum-first, sum-none, sum-next, sum-split, one-place, num-le}
-use Rattle.nodeset.proofs.Laws.{has-without, has-without-other, without-lt}
+use Rattle.nodeset.proofs.Laws.{has-without, has-without-other, without-lt, without-part}
 use Rattle.nodeset.proofs.Counts.{size-without}
 use Rattle.ring.specs.declared.Cable.{Cable}
 use Rattle.ring.specs.declared.Found.the-variants.{Member}
@@ -20,7 +20,6 @@ use Rattle.ring.proofs.Members.{same-member}
 use Rattle.ring.proofs.Walks.{Met, walk-meets, before-is, others}
 use Rattle.node_steps.proofs.Answers.{At}
 use Rattle.agreement.proofs.History.{World, K, KFact, lst, one-knock, size-from, num-is, num-isnt}
-use Rattle.agreement.proofs.Parts.{without-part}
 use Rattle.agreement.proofs.Marks.{no-both, not-true}
 use Rattle.agreement.proofs.Listed.{ListedSlot, other-sender, same-window}
 

@@ -1,24 +1,15 @@
 -- Parts of a set. Assumes nothing.
 use Prim.Native.Nat.{ℕ, _≤_}
-use mathlib.Core.Path.{_≡_, sym, _∙_, ap}
+use mathlib.Core.Path.{_≡_, _∙_, ap}
 use mathlib.Core.Logic.{_≢_}
-use mathlib.Core.Bool.{true, true≢false}
+use mathlib.Core.Bool.{true}
 use native.Mathlib.Omega.{arith}
-use native.Mathlib.Decide.{ℕ-discrete}
 use Rattle.nodeset.specs.Sums.{num}
 use Rattle.nodeset.specs.Sets.{has, without, size}
 use Rattle.nodeset.proofs.Tests.{by-cases}
 use Rattle.nodeset.proofs.Sums.{sum-le}
-use Rattle.nodeset.proofs.Laws.{has-without, has-without-other}
+use Rattle.nodeset.proofs.Laws.{has-without-other}
 use Rattle.nodeset.proofs.Counts.{size-without}
-
--- a set without a node is a part of it
-pub without-part : (s x y : ℕ) → has (without s x) y ≡ true → has s y ≡ true
-without-part s x y e = go (ℕ-discrete x y)
-  where
-    go : Dec (x ≡ y) → has s y ≡ true
-    go (yes p) = absurd (true≢false (sym e ∙ rw p (has-without s y)))
-    go (no p) = sym (has-without-other s x y p) ∙ e
 
 -- a part has no more nodes
 pub size-part : (n a b : ℕ) → ((x : ℕ) → has a x ≡ true → has b x ≡ true) → size n a ≤ size n b

@@ -32,6 +32,8 @@ use Rattle.node_record.specs.declared.Node.{Node}
 use Rattle.node.specs.declared.Answer.the-variants as answer
 use Rattle.node.specs.Calls.{Stepped, itsTurn, noNode, setUpOf, stepOf, sendOf, offOf, restartOf, isDone, refused, withCounts, countsAfter, countedOf}
 use Rattle.node.proofs.Sent.{sent-or-short}
+use Rattle.cover_light.specs.declared.Light.{Light}
+use Rattle.cover_light.specs.Light.{basesFit, levelOf, levelsOf}
 use Rattle.bench.specs.declared.Command.{Command}
 use Rattle.bench.specs.declared.Command.the-variants as command
 use Rattle.bench.specs.Table.{Table, tableSound, nodeCount, slotsOf, recordOf}
@@ -50,7 +52,7 @@ use Rattle.plan_report.specs.declared.Figures.{Figures}
 use Rattle.plan_report.specs.declared.Report.{Report}
 use Rattle.plan_report.specs.Figures.{addOf, allFit}
 use Rattle.plan_report.specs.Calls as reported
-use Rattle.demands.specs.Demand1.{Demand1, AddsBy, EndsBy, FeedsBy, PrintsBy, ReportsBy, RunsBy, StepsBy, ConvertsBy, CountsBy, WritesBy, isAmong, numbersFor, ofLookup, ofReading, ofSpeaker, ofAnswer}
+use Rattle.demands.specs.Demand1.{Demand1, AddsBy, EndsBy, FeedsBy, PrintsBy, ReportsBy, RunsBy, StepsBy, ConvertsBy, CountsBy, WritesBy, isAmong, numbersFor, ofLookup, ofReading, ofSpeaker, ofAnswer, ofLight}
 
 -- ---- a test, in each of the forms that the definitions use: P holds either way
 
@@ -228,6 +230,22 @@ sends v jobs out =
     (λ h. rw (s, l, h) (refl, refl))))
     (λ s. rw s (refl, refl))
 
+-- ---- cover light
+
+gives-level : (v : Node) (bases : List ℕ) (lamp : ℕ) → EndsBy (4 ∷ 3 ∷ 20 ∷ []) (ofLight (levelOf v bases lamp))
+unfolding levelOf
+gives-level v bases lamp =
+    let P : Light → Type 0 = λ l. EndsBy (4 ∷ 3 ∷ 20 ∷ []) (ofLight l) in
+    either P (sound v) (either P (nodeNumber (v .cable .n) lamp) (either P (basesFit (v .cable .n) bases) tt refl) refl) refl
+
+writes-levels : (v : Node) (bases out : List ℕ) → WritesBy (4 ∷ 20 ∷ 9 ∷ []) out (levelsOf v bases out)
+unfolding levelsOf
+writes-levels v bases out =
+    let P = WritesBy (4 ∷ 20 ∷ 9 ∷ []) out in
+    either-written P (sound v) 4
+    (either-written P (basesFit (v .cable .n) bases) 20
+    (either-written P (leb (v .cable .n) (length out)) 9 (tt, tt) (refl, refl)) (refl, refl)) (refl, refl)
+
 -- ---- the bench
 
 abbrev Runs : Command → Table → Ledger → List Counts → List ℕ → bench.Called → Type 0
@@ -341,6 +359,8 @@ demand1 = record {
   send = sends;
   off = switches-off;
   restart = restarts;
+  level = gives-level;
+  levels = writes-levels;
   bench = runs;
   print-plan = prints;
   feed = feeds;

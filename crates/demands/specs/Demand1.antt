@@ -29,6 +29,9 @@ use Rattle.node_record.specs.declared.Node.{Node}
 use Rattle.node.specs.declared.Answer.{Answer}
 use Rattle.node.specs.declared.Answer.the-variants as answer
 use Rattle.node.specs.Calls.{Stepped, Counted, startOf, countedOf, slotOf, sendOf, offOf, restartOf}
+use Rattle.cover_light.specs.declared.Light.{Light}
+use Rattle.cover_light.specs.declared.Light.the-variants as light
+use Rattle.cover_light.specs.Light.{levelOf, levelsOf}
 use Rattle.bench.specs.declared.Command.{Command}
 use Rattle.bench.specs.declared.Command.the-variants as command
 use Rattle.bench.specs.declared.Outcome.{Outcome}
@@ -75,6 +78,10 @@ ofWritten (written.Refused cause) = refusal cause
 abbrev pub ofAnswer : Answer → Ending
 ofAnswer answer.Done = result
 ofAnswer (answer.Refused cause) = refusal cause
+
+abbrev pub ofLight : Light → Ending
+ofLight (light.Level level) = result
+ofLight (light.Refused cause) = refusal cause
 
 abbrev pub ofOutcome : Outcome → Ending
 ofOutcome outcome.Quiet = result
@@ -163,6 +170,9 @@ pub record Demand1 : Type 0 where
   pub send : (v : Node) (jobs : ℕ) (out : List ℕ) → WritesBy (4 ∷ 5 ∷ 8 ∷ 10 ∷ 9 ∷ []) out (sendOf v jobs out)
   pub off : (v : Node) → StepsBy (4 ∷ []) v (offOf v)
   pub restart : (v : Node) → StepsBy (4 ∷ 11 ∷ []) v (restartOf v)
+  -- cover light (document 02, n): the level of a lamp, and all levels; `bases` are only read
+  pub level : (v : Node) (bases : List ℕ) (lamp : ℕ) → EndsBy (4 ∷ 3 ∷ 20 ∷ []) (ofLight (levelOf v bases lamp))
+  pub levels : (v : Node) (bases out : List ℕ) → WritesBy (4 ∷ 20 ∷ 9 ∷ []) out (levelsOf v bases out)
   -- the bench: set-up, slot, off, restart and a look; `slots` is the slot table that is lent, `out` are the lent bytes
   pub bench : (c : Command) (slots : List ℕ) (t : Table) (ledger : Ledger) (counts : List Counts) (out : List ℕ)
       → let kept = keptOf c slots (length out) ledger counts t in

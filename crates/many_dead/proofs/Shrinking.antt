@@ -11,7 +11,7 @@ use Rattle.nodeset.specs.Sums.{sum}
 use Rattle.nodeset.specs.Sets.{has, without, size}
 use Rattle.nodeset.proofs.Tests.{by-cases, both}
 use Rattle.nodeset.proofs.Sums.{sum-first, one-place}
-use Rattle.nodeset.proofs.Laws.{has-without-other}
+use Rattle.nodeset.proofs.Laws.{has-without-other, without-part}
 use Rattle.nodeset.proofs.Counts.{size-without}
 use Rattle.ring.specs.declared.Cable.{Cable}
 use Rattle.ring.specs.declared.Found.{Found}
@@ -24,7 +24,6 @@ use Rattle.node_steps.proofs.Answers.{At}
 use Rattle.bench.proofs.Choices.{choose}
 use Rattle.agreement.proofs.Backwards.{Before, before}
 use Rattle.agreement.proofs.History.{num-is}
-use Rattle.agreement.proofs.Parts.{without-part}
 use Rattle.agreement.proofs.Marks.{no-both}
 
 module _ (cable : Cable) (turns : Turns cable) (k-pos : 1 ≤ cable .k) where

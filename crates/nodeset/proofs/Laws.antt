@@ -5,7 +5,7 @@ use mathlib.Core.Path.{_≡_, refl, sym, ap, _∙_}
 use mathlib.Core.Logic.{_≢_}
 use mathlib.Core.Bool.{Bool, true, false, cond, _||_, true≢false, and-false}
 use native.Mathlib.Omega.{arith}
-use native.Mathlib.Decide.{decLe, decLt}
+use native.Mathlib.Decide.{decLe, decLt, ℕ-discrete}
 use lib.Dec.{eqb, ltb}
 use lib.Bits.{or-lt}
 use lib.Pow.{pow-pos, pow-mono}
@@ -79,6 +79,14 @@ has-without-other s (suc i) (suc j) h =
     by-cases (has s (suc i))
     (λ e. ap (λ (q : ℕ). has q (suc j)) (without-there s i e) ∙ has-less-other s i j e (λ p. h (ap suc p)))
     (λ e. ap (λ (q : ℕ). has q (suc j)) (without-absent s (suc i) e))
+
+-- a set without a node is a part of it
+pub without-part : (s x y : ℕ) → has (without s x) y ≡ true → has s y ≡ true
+without-part s x y e = go (ℕ-discrete x y)
+  where
+    go : Dec (x ≡ y) → has s y ≡ true
+    go (yes p) = absurd (true≢false (sym e ∙ rw p (has-without s y)))
+    go (no p) = sym (has-without-other s x y p) ∙ e
 
 -- ---- sets of the nodes 1 to n are the numbers below 2 ^ n
 

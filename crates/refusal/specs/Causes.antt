@@ -3,7 +3,7 @@ use Prim.Native.Nat.{ℕ}
 use mathlib.Core.Bool.{cond}
 use lib.Dec.{eqb}
 use Rattle.refusal.specs.declared.Refusal.{Refusal}
-use Rattle.refusal.specs.declared.Refusal.the-variants.{RingSize, SponsorCount, NodeNumber, Unsound, SlotLimit, MessageLength, SectionCount, SpareBit, OutputShort, NotItsSlot, NotOut, PlanLine, LedgerUnfit, JobCount, HasJobs, Lag, TableLength, TableNodes, SumPasses}
+use Rattle.refusal.specs.declared.Refusal.the-variants.{RingSize, SponsorCount, NodeNumber, Unsound, SlotLimit, MessageLength, SectionCount, SpareBit, OutputShort, NotItsSlot, NotOut, PlanLine, LedgerUnfit, JobCount, HasJobs, Lag, TableLength, TableNodes, SumPasses, LampBases}
 
 abbrev pub numberOf : Refusal → ℕ
 -- "n not 3 to 32"
@@ -44,6 +44,8 @@ numberOf TableLength = 17
 numberOf TableNodes = 18
 -- "A sum passing 64 bits" (request m)
 numberOf SumPasses = 19
+-- "Base above 254 or a table not of n entries" (request n)
+numberOf LampBases = 20
 
 -- The cause with this number, so that a definition can name a refusal as document 01 does. (proofs/Numbers: its number is this one. No
 -- definition asks for a number that is none.)
@@ -66,4 +68,5 @@ cause number =
     (cond (eqb number 15) HasJobs
     (cond (eqb number 16) Lag
     (cond (eqb number 17) TableLength
-    (cond (eqb number 18) TableNodes SumPasses)))))))))))))))))
+    (cond (eqb number 18) TableNodes
+    (cond (eqb number 19) SumPasses LampBases))))))))))))))))))

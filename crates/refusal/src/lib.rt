@@ -23,6 +23,7 @@ pub enum Refusal {
     TableLength,
     TableNodes,
     SumPasses,
+    LampBases,
 }
 
 // The number of the cause.
@@ -49,5 +50,6 @@ pub fn number(cause: Refusal) -> u32
         Refusal::TableLength => 17,
         Refusal::TableNodes => 18,
         Refusal::SumPasses => 19,
+        Refusal::LampBases => 20,
     }
 }

@@ -5,13 +5,15 @@ use Rattle.message.specs.Message.{bytesOf, twoSections, messageOf, little, said
 use Rattle.node_record.specs.declared.Node.{Node}
 use Rattle.slot_table.specs.Order.{kept, nodesAt}
 use Rattle.row.specs.Rows.{asRow, soundRow, nodesIn, asSet}
+use Rattle.node_reports.specs.Reports.{everyBelow}
+use Rattle.cover_light.specs.Light.{base, half, worked, lampLevel, basesFit, levelOf, allLevels, levelsOf}
 use Rattle.bench.specs.Calls.{setUpGiven}
 use Rattle.bench.proofs.Computed.{computed}
 use Rattle.plan_program.proofs.OnSets.{shown-as-before}
 use Rattle.plan_program.proofs.Computed.{printing}
 use Rattle.worked_examples.specs.Rows.{AllHold}
 use Rattle.worked_examples.specs.Examples.{input, examples}
-use Rattle.worked_examples.specs.Requests.{fixedOrder, feederCut, ownMarks, slowReceivers, crossedSlots, membersAsRow}
+use Rattle.worked_examples.specs.Requests.{fixedOrder, feederCut, ownMarks, slowReceivers, crossedSlots, membersAsRow, coverLight}
 
 infixr 1 _and_
 _and_ : {A B : Type 0} → A → B → A × B
@@ -68,6 +70,14 @@ rows-hold =
     and refl and refl and refl and refl and refl  -- not sound
     and tt
 
+light-holds : (a b c d : Node) → AllHold (coverLight (a ∷ b ∷ c ∷ d ∷ []))
+unfolding coverLight computed everyBelow base half worked lampLevel basesFit levelOf allLevels levelsOf
+light-holds a b c d =
+    refl and refl and refl  -- by a member and by a node that is out
+    and refl and refl and refl and refl  -- halves, and one neighbour
+    and refl and refl and refl  -- refused
+    and tt
+
 pub request-examples : (a b c d e f : Node)
     → AllHold (fixedOrder (a ∷ b ∷ c ∷ d ∷ []))
     × AllHold (feederCut (a ∷ b ∷ c ∷ d ∷ e ∷ f ∷ []))
@@ -75,4 +85,5 @@ pub request-examples : (a b c d e f : Node)
     × AllHold (slowReceivers (a ∷ b ∷ c ∷ d ∷ e ∷ []))
     × AllHold (crossedSlots (a ∷ b ∷ c ∷ d ∷ e ∷ []))
     × AllHold membersAsRow
-request-examples a b c d e f = (order-holds a b c d, feeder-holds a b c d e f, marks-hold a b c d, slow-holds a b c d e, crossed-hold a b c d e, rows-hold)
+    × AllHold (coverLight (a ∷ b ∷ c ∷ d ∷ []))
+request-examples a b c d e f = (order-holds a b c d, feeder-holds a b c d e f, marks-hold a b c d, slow-holds a b c d e, crossed-hold a b c d e, rows-hold, light-holds a b c d)

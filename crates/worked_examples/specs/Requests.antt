@@ -2,7 +2,7 @@
 use Prim.Native.Nat.{ℕ, _-_}
 use mathlib.Core.Bool.{Bool, true, false}
 use mathlib.Core.List.{List, [], _∷_, _++_}
-use lib.ListN.{length, replicate}
+use lib.ListN.{length, replicate, take}
 use Rattle.nodeset.specs.Sets.{has}
 use Rattle.refusal.specs.Causes.{cause}
 use Rattle.ring.specs.declared.Cable.{Cable}
@@ -20,6 +20,10 @@ use Rattle.bench.specs.Calls.{setUpGiven, slotOf}
 use Rattle.bench.specs.Pairs.{slotBytes}
 use Rattle.bench.specs.Runs.{Call, off, restart}
 use Rattle.bench.specs.Plans.{ok, lost}
+use Rattle.message.specs.declared.Written.the-variants.{Bytes}
+use Rattle.message.specs.Message.{Outcome}
+use Rattle.cover_light.specs.declared.Light.the-variants as light
+use Rattle.cover_light.specs.Light.{worked, levelOf, levelsOf}
 use Rattle.row.specs.declared.Row as members
 use Rattle.row.specs.Rows.{asRow, soundRow, asSet}
 use Rattle.worked_examples.specs.Rows.{Row, _gives_, these, Standing, holds, out, other, standings, miss, afterOn, after}
@@ -178,4 +182,34 @@ membersAsRow =
     ∷ (soundRow 5 (crossed .order) (inPlaces 6 (3 ∷ 1 ∷ 5 ∷ 2 ∷ 4 ∷ [])) gives false)
     ∷ (soundRow 5 (crossed .order) (inPlaces 2 (1 ∷ 5 ∷ 2 ∷ [])) gives false)
     ∷ (soundRow 5 (crossed .order) (inPlaces 3 (1 ∷ 5 ∷ 6 ∷ [])) gives false)
+    ∷ []
+
+-- ---- n: cover light
+
+-- n = 4, k = 2, the message of slot 2 is lost: node 2 is listed until slot 4 ends, and then out.
+abbrev pub untilSlot : ℕ → Table → Table
+untilSlot s lent = after 4 2 lent (take s (ok ∷ lost ∷ ok ∷ ok ∷ []))
+
+-- What node i writes into five lent bytes, which hold AA, after slot s.
+abbrev pub levelsBy : ℕ → ℕ → Table → Outcome
+levelsBy i s lent = levelsOf (recordOf (untilSlot s lent) i) (10 ∷ 21 ∷ 30 ∷ 41 ∷ []) (replicate 5 0xAA)
+
+-- Over any table of four records that was lent to set-up.
+unfoldable pub coverLight : Table → List Row
+coverLight lent =
+    -- "its base plus half the base of each neighbour i - 1 and i + 1 that is not listed": while all are listed, the bases; without node 2 half of 21 for lamps 1 and 3.
+    (levelsBy 1 3 lent gives (Bytes 4, 10 ∷ 21 ∷ 30 ∷ 41 ∷ 0xAA ∷ []))
+    ∷ (levelsBy 1 4 lent gives (Bytes 4, 20 ∷ 21 ∷ 40 ∷ 41 ∷ 0xAA ∷ []))
+    -- "A node in any other state gives 254 for each lamp."
+    ∷ (levelsBy 2 4 lent gives (Bytes 4, 254 ∷ 254 ∷ 254 ∷ 254 ∷ 0xAA ∷ []))
+    -- "halves rounded down one by one, and at most 254"
+    ∷ (worked (these (2 ∷ [])) (1 ∷ 10 ∷ 3 ∷ []) 2 gives 11)
+    ∷ (worked (these (2 ∷ [])) (254 ∷ 2 ∷ 253 ∷ []) 2 gives 254)
+    -- "Lamps 1 and n have one neighbour."
+    ∷ (worked (these (3 ∷ [])) (8 ∷ 100 ∷ 60 ∷ []) 1 gives 58)
+    ∷ (worked (these (1 ∷ [])) (8 ∷ 100 ∷ 60 ∷ []) 3 gives 110)
+    -- "Base above 254 or a table not of n entries: 20, after 4 and 3"
+    ∷ (levelOf (recordOf (untilSlot 4 lent) 1) (10 ∷ 21 ∷ 30 ∷ []) 1 gives light.Refused (cause 20))
+    ∷ (levelOf (recordOf (untilSlot 4 lent) 1) (10 ∷ 21 ∷ 30 ∷ 255 ∷ []) 1 gives light.Refused (cause 20))
+    ∷ (levelOf (recordOf (untilSlot 4 lent) 1) (10 ∷ 21 ∷ 30 ∷ []) 5 gives light.Refused (cause 3))
     ∷ []

@@ -3,6 +3,7 @@
 pub mod bench;
 pub mod choices;
 pub mod counts;
+pub mod cover_light;
 pub mod demand;
 pub mod held;
 pub mod ledger;

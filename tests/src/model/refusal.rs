@@ -38,3 +38,5 @@ pub const TABLE_LENGTH: u32 = 17;
 pub const TABLE_NODES: u32 = 18;
 /// request m: "A sum passing 64 bits"
 pub const SUM: u32 = 19;
+/// request n: "Base above 254 or a table not of n entries"
+pub const BASES: u32 = 20;
