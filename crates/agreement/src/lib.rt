@@ -1,1 +1,2 @@
 // Demand 3 (document 01, "The bench"): the lists agree (specs/Demand, proofs/Demanded), and the bench tells no distance between them (specs/Distance, proofs/Throughout). What it is with the plain table and no lag is specs/ByNumber and specs/Plain; that nothing differs from the rule before request f, specs/Repeated. That its premises can be met and are needed is in premises. It has no code.
+#![tactic(auto)]

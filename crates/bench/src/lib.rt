@@ -1,13 +1,14 @@
 // What the calls of the bench are asked and what they answer (document 01, "The bench"). What each call
 // does is specs/Calls, Pairs and Outcomes; with a ledger and counts, Ledger, Reports and Kept; on the table
 // as it is held, Held; sequences of calls are specs/Runs. The code is in `bench_calls`.
+#![tactic(auto)]
 use cable::Choices;
 use refusal::Refusal;
 
 // A call over the table: set-up with the cable's choices, beside which the slot table is lent; off and
 // restart of a node; a slot, whose message is lost or not, which these nodes miss, and with the sender's
 // job byte; a look, which changes nothing and tells of the next slot's message, lost or not.
-#[derive(Drop)]
+#[derive(Clone, Copy)]
 pub enum Command {
     SetUp(Choices),
     Off(u32),
@@ -17,14 +18,14 @@ pub enum Command {
 }
 
 // The set of the lowest-numbered member, if there is one.
-#[derive(Drop)]
+#[derive(Clone, Copy)]
 pub enum Listed {
     Set(u32),
     Nobody,
 }
 
 // What comes of a message: nothing is sent, it is lost, or it is sent, a knock or another.
-#[derive(Drop)]
+#[derive(Clone, Copy)]
 pub enum Fate {
     Silent,
     Lost,
@@ -35,7 +36,7 @@ pub enum Fate {
 // What there is to print of a call: nothing, a slot (its number, sender, fate, and the list and the
 // distance after it), or why it is refused. A look tells the slots done, the next slot's sender and
 // fate, and the list and the distance as they are.
-#[derive(Drop)]
+#[derive(Clone, Copy)]
 pub enum Outcome {
     Quiet,
     Slot(u64, u32, Fate, Listed, u32),
@@ -43,7 +44,7 @@ pub enum Outcome {
 }
 
 // What a call answers: what there is to print of it, and how many pairs tell a slot's changes.
-#[derive(Drop)]
+#[derive(Clone, Copy)]
 pub struct Reply {
     pub outcome: Outcome,
     pub pairs: u32,

@@ -1,6 +1,7 @@
 // The bench by value: 32 rows, the first n of which are lent to the bench as its table (all of them
 // where n is above 32). The rows after the table stay as they are. A caller of `call` holds no
 // reference to a record.
+#![tactic(auto)]
 ghost use Rattle.std.specs.Prelude.{◌≡◌, min, length};
 ghost use Rattle.bench.specs.Kept.{bytes_with};
 ghost use Rattle.bench_by_value.specs.ByValue.{table_of, call_with};
@@ -9,7 +10,7 @@ use bench::{Command, Outcome, Reply};
 use node_record::Held;
 
 // The rows after a call, what there is to print of it, and the number of pairs told.
-#[derive(Drop)]
+#[derive(Clone, Copy)]
 pub struct Ran {
     pub rows: [Held; 32],
     pub outcome: Outcome,

@@ -1,6 +1,7 @@
 // The bench program (document 01, "The bench program"): a plan from standard input, a line for each
 // slot to standard output. What is printed of which bytes is proved in `plan_program`; here pieces of
 // the input are read, handed over in turn, and what is printed of each is written at once.
+#![tactic(auto)]
 use plan_program::{Fed, Part, Plan};
 use plan_text::Written;
 

@@ -1,6 +1,7 @@
 // Inner: what the bench notes as a record changes (document 01, "The bench"), by value: the pairs of a node
 // and a kind, those that left first; who left and who joined; the list, and whether all members hold it.
 // What a record is to do is in bench_orders.
+#![tactic(auto)]
 mod kinds;
 
 ghost use Rattle.std.specs.Prelude.{◌≡◌, ◌<◌, min};
@@ -12,7 +13,7 @@ use node_record::Held;
 use row::Row;
 
 // Pairs of a node and a kind.
-#[derive(Drop)]
+#[derive(Clone, Copy)]
 pub struct Pairs {
     pub count: u32,
     pub bytes: [u8; 64],
@@ -20,7 +21,7 @@ pub struct Pairs {
 
 // The list of the records seen so far, as a set and as a row, which is empty where there is nobody; and
 // whether all members among them hold that row.
-#[derive(Drop)]
+#[derive(Clone, Copy)]
 pub struct Lists {
     pub list: Listed,
     pub row: Row,
@@ -28,7 +29,7 @@ pub struct Lists {
 }
 
 // The nodes that left the member state, and those that came to it.
-#[derive(Drop)]
+#[derive(Clone, Copy)]
 pub struct Moves {
     pub left: u32,
     pub joined: u32,
@@ -36,7 +37,7 @@ pub struct Moves {
 
 // What is noted while an order is carried out: whose state changed, who left and who joined, and the
 // list afterwards.
-#[derive(Drop)]
+#[derive(Clone, Copy)]
 pub struct Notes {
     pub pairs: Pairs,
     pub moves: Moves,

@@ -1,6 +1,7 @@
 // Inner: what the bench decides and has each record do (document 01, "The bench"), by value: a survey of a
 // table taken record by record, the order for a command, a record after it, the members' sets. What is
 // noted of a record is in bench_notes, the walks over the table are in bench_walks.
+#![tactic(auto)]
 mod orders;
 mod records;
 pub mod surveys;
@@ -22,7 +23,7 @@ use surveys::{begun, seen};
 
 // What a look over a table finds: whether each record stands in its place; the cable and slots of
 // the first; the next sender's number and record; the nodes that are out; those whose row has the sender.
-#[derive(Drop)]
+#[derive(Clone, Copy)]
 pub struct Survey {
     pub fine: bool,
     pub cable: Cable,
@@ -35,7 +36,7 @@ pub struct Survey {
 
 // What is lent beside the table: whether the ledger and the counts of failure reports fit; the cable that
 // set-up is asked for, and how many places its slot table was given with.
-#[derive(Drop)]
+#[derive(Clone, Copy)]
 pub struct Beside {
     pub ledger: bool,
     pub reports: bool,
@@ -44,7 +45,7 @@ pub struct Beside {
 }
 
 // The sets of the members, and the greatest distance of two of them.
-#[derive(Drop)]
+#[derive(Clone, Copy)]
 pub struct Members {
     pub count: u32,
     pub sets: [u32; 32],
@@ -53,7 +54,7 @@ pub struct Members {
 
 // A slot that is to run: its number and sender, what comes of the message, what is read of it, which
 // nodes miss it, and what it says and decides for those who hold the sender's row.
-#[derive(Drop)]
+#[derive(Clone, Copy)]
 pub struct Turn {
     pub slot: u64,
     pub sender: u32,
@@ -66,7 +67,7 @@ pub struct Turn {
 
 // What each record is to do. A look, which has it do nothing, holds what is told of the next slot: the
 // slots before it, its sender, what comes of its message.
-#[derive(Drop)]
+#[derive(Clone, Copy)]
 pub enum Order {
     Refuse(Refusal),
     Start,
@@ -77,7 +78,7 @@ pub enum Order {
 }
 
 // An order, the cable that set-up is asked for, and the row of the next sender: an enum holds no array.
-#[derive(Drop)]
+#[derive(Clone, Copy)]
 pub struct Errand {
     pub order: Order,
     pub cable: Cable,

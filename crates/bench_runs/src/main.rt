@@ -27,6 +27,7 @@
 // letter ends the run. Before the first command the table has no row, and a row is of no node; the
 // ledger has no entry, and all figures are 0; no array is lent, and all counts are 0; the slot table has
 // no place.
+#![tactic(auto)]
 mod answers;
 mod arrays;
 mod entries;
@@ -43,7 +44,7 @@ use run_io::{block, input, output};
 // What there is from one command to the next beside the entries and the arrays: the rows, how many are
 // the table, how many entries are the ledger, how many arrays are lent, the slot table and how many places
 // it has, and the number of bytes that wait in the output.
-#[derive(Drop)]
+#[derive(Clone, Copy)]
 struct State {
     rows: [Held; 32],
     size: u32,

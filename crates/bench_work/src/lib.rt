@@ -1,6 +1,7 @@
 // Inner: what a call of the bench tells, enters in the ledger and counts of an order that was carried out, and
 // what it reads of a command and of what is lent beside the table (document 01, "The bench"; document 02, a
 // and h). No function here has the table.
+#![tactic(auto)]
 ghost use Rattle.std.specs.Prelude.{◌≡◌, ◌≤◌, length};
 ghost use Rattle.node_record.specs.Held.{setted};
 ghost use Rattle.bench.specs.Ledger.{ledger_fits};
@@ -83,7 +84,7 @@ fn put_bytes(bytes: [u8; 64], end: usize, pairs: &mut [u8])
 
 // What an order that was carried out leaves to tell: what was noted, and the sets of the members where
 // they differ.
-#[derive(Drop)]
+#[derive(Clone, Copy)]
 pub struct Work {
     pub notes: Notes,
     pub members: Members,

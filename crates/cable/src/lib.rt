@@ -1,6 +1,7 @@
 // The cable: the numbers that set-up chooses for all nodes and the slot table, which of them are in range,
 // and by what the others are refused (document 01, "The ring"; document 02, h, j and k). Who speaks and who
 // sponsors whom is in ring.
+#![tactic(auto)]
 ghost use Rattle.std.specs.Prelude.{◌≡◌, ◌-◌};
 ghost use Rattle.refusal.specs.Causes.{cause};
 ghost use Rattle.cable.specs.Cable.{plain_cable, cable_with, same_cable, ring_size, node_number, lag_fits, sponsor_count, job_count, cable_fits, may_set_up, fault_of};
@@ -10,7 +11,7 @@ use refusal::Refusal;
 // The numbers that set-up chooses for the whole cable: how many nodes are on it, how many others a member
 // sponsors at the most, how many jobs a message reports on, and how many members before a sender it has
 // not judged yet.
-#[derive(Drop)]
+#[derive(Clone, Copy)]
 pub struct Choices {
     pub n: u32,
     pub k: u32,
@@ -19,7 +20,7 @@ pub struct Choices {
 }
 
 // What holds for the whole cable: the numbers chosen, and which node speaks at each place.
-#[derive(Drop)]
+#[derive(Clone, Copy)]
 pub struct Cable {
     pub n: u32,
     pub k: u32,

@@ -2,6 +2,7 @@
 // to the form that the argument names, `three` or `two`, to standard output. What is printed of which
 // bytes is proved in `converter_text`; here pieces of the input are read, handed over in turn, and what
 // is printed of each is written at once.
+#![tactic(auto)]
 use converter_text::{Direction, Fed, Recording};
 use plan_text::Written;
 

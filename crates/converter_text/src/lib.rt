@@ -1,6 +1,7 @@
 // A file of recorded messages as text (document 02, request i): k and a message on each line, brought to
 // the other form. The text comes in pieces, and what is printed of it goes into lent bytes. `feed`
 // converts the lines that end in a piece, `finish` ends the text. Reading and writing are `convert_main`.
+#![tactic(auto)]
 ghost use Rattle.std.specs.Prelude.{◌≡◌, true, ◌++◌, ◌∷◌, [], ◌+◌, ◌*◌, ◌≤◌, ◌<◌, length};
 ghost use Rattle.plan_line.specs.Words.{is_number, value_of};
 ghost use Rattle.plan_text.specs.Text.{PutAt, PutFew};
@@ -12,7 +13,7 @@ use plan_text::Written;
 use refusal::Refusal;
 
 // The form that messages are brought to.
-#[derive(Drop)]
+#[derive(Clone, Copy)]
 pub enum Direction {
     Three,
     Two,
@@ -20,7 +21,7 @@ pub enum Direction {
 
 // A recording as far as it has come: the form asked for, the number of lines that have ended, and of the
 // next line its first 121 bytes at the most. No longer line is readable.
-#[derive(Drop)]
+#[derive(Clone, Copy)]
 pub struct Recording {
     pub direction: Direction,
     pub lines: u64,
@@ -29,21 +30,21 @@ pub struct Recording {
 }
 
 // What came of a piece. Where it is refused, the recording is the one that was passed.
-#[derive(Drop)]
+#[derive(Clone, Copy)]
 pub struct Fed {
     pub recording: Recording,
     pub written: Written,
 }
 
 // What came of a byte: the recording, and the place after what was printed.
-#[derive(Drop)]
+#[derive(Clone, Copy)]
 struct Taken {
     recording: Recording,
     at: usize,
 }
 
 // The message of a line, where it has one: the first `count` bytes.
-#[derive(Drop)]
+#[derive(Clone, Copy)]
 struct Message {
     readable: bool,
     count: usize,

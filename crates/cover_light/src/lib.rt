@@ -1,6 +1,7 @@
 // Cover light (document 02, request n): how bright each lamp is, by what a node knows. Lamps have the
 // nodes' numbers. It stands above the node library and takes a record apart by `node::as_set` alone; the
 // base levels are lent as bytes, that of lamp 1 first.
+#![tactic(auto)]
 ghost use Rattle.std.specs.Prelude.{◌≡◌, true, ◌++◌, map, ◌≤◌, length, drop};
 ghost use Rattle.slot_table.specs.Order.{numbers_from};
 ghost use Rattle.node_record.specs.Soundness.{sound};
@@ -13,7 +14,7 @@ use node_record::{Held, Node};
 use refusal::Refusal;
 
 // The level of a lamp, or why there is none.
-#[derive(Drop)]
+#[derive(Clone, Copy)]
 pub enum Light {
     Level(u8),
     Refused(Refusal),

@@ -1,6 +1,7 @@
 // Reads and writes the messages of document 01 ("The message"). A message is its sections in order; each is a count byte and then
 // the bits that are counted, lowest first. A message has three of them (request h); recorded ones have the first two.
 // What a node puts into a message is in node_sending.
+#![tactic(auto)]
 ghost use Rattle.std.specs.Prelude.{◌≡◌, ◌++◌, ◌+◌, ◌-◌, ◌^◌, ◌≤◌, ◌<◌, ◌&&◌, ltb, length, take, drop};
 ghost use Rattle.message.specs.Message.{acknowledgement_section, bits_in, in_range, jobs_within, length_of, length_one, length_two, message_of, part_one, read_of, said_by, section_in, section_of, two_sections, unread, write_of};
 ghost use Rattle.message.specs.TwoSections.{read_two_of, write_two_of};
@@ -8,7 +9,7 @@ ghost use Rattle.message.specs.TwoSections.{read_two_of, write_two_of};
 use refusal::Refusal;
 
 // What a message says of the members, or why the bytes are no message.
-#[derive(Drop)]
+#[derive(Clone, Copy)]
 pub enum Reading {
     Heard {
         acknowledgements: u32,
@@ -18,21 +19,21 @@ pub enum Reading {
 }
 
 // What is read from bytes: that, and the job byte, 0 where the bytes are no message.
-#[derive(Drop)]
+#[derive(Clone, Copy)]
 pub struct Received {
     pub reading: Reading,
     pub jobs: u8,
 }
 
 // What came of writing: the number of bytes, or why none was written.
-#[derive(Drop)]
+#[derive(Clone, Copy)]
 pub enum Written {
     Bytes(usize),
     Refused(Refusal),
 }
 
 // A section as it was found: whether its count is right, whether its spare bits are 0, and its bits.
-#[derive(Drop)]
+#[derive(Clone, Copy)]
 struct Section {
     counted: bool,
     clear: bool,

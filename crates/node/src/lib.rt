@@ -1,6 +1,7 @@
 // The calls on a node record (document 01): set-up, one slot, sending, off and restart. A record is
 // held with its set as a row (document 02, request l). It goes in by value and comes back beside the
 // answer; every record is taken, and one that is not sound is refused.
+#![tactic(auto)]
 ghost use Rattle.std.specs.Prelude.{◌≡◌, true};
 ghost use Rattle.cable.specs.Cable.{ring_size};
 ghost use Rattle.node_steps.specs.Steps.{is_heard};
@@ -17,7 +18,7 @@ use ring::Speaker;
 use row::Row;
 
 // What came of a call on a record.
-#[derive(Drop)]
+#[derive(Clone, Copy)]
 pub enum Answer {
     Done,
     Refused(Refusal),
@@ -35,21 +36,21 @@ fn is_done(answer: Answer) -> bool
 
 // The record after a call; on a refusal it is the record that came, or none of a node where set-up
 // is refused.
-#[derive(Drop)]
+#[derive(Clone, Copy)]
 pub struct Stepped {
     pub node: Held,
     pub answer: Answer,
 }
 
 // What came of a call on a record and on the counts of failure reports beside it (document 02, h).
-#[derive(Drop)]
+#[derive(Clone, Copy)]
 pub struct Counted {
     pub stepped: Stepped,
     pub counts: [[u64; 8]; 32],
 }
 
 // What came of a conversion to the record of the rules.
-#[derive(Drop)]
+#[derive(Clone, Copy)]
 pub struct Converted {
     pub node: Node,
     pub answer: Answer,

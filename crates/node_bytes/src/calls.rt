@@ -10,7 +10,7 @@ use run_io::block;
 use run_io::block::Block;
 
 // 0 or the refusal's number, and how many bytes were sent.
-#[derive(Drop)]
+#[derive(Clone, Copy)]
 pub struct Outcome {
     pub number: u32,
     pub sent: usize,

@@ -1,6 +1,7 @@
 // The node record (document 01, "The node record"): what it holds, and when it is sound. The rules
 // speak of a record with a set (`Node`); what is held has the set as a row (`Held`, document 02, request
 // l), and stands for such a record. An inner layer: it takes every record as it is.
+#![tactic(auto)]
 ghost use Rattle.std.specs.Prelude.{◌≡◌};
 ghost use Rattle.node_record.specs.States.{is_member, is_listening, is_following, is_knocking, is_out};
 ghost use Rattle.node_record.specs.Soundness.{numbers_sound, knock_sound, heard_sound, yes_sound, window_in_range, window_empty, window_sound, sound};
@@ -11,7 +12,7 @@ use cable::Cable;
 use row::Row;
 
 // Why a node is out.
-#[derive(Drop)]
+#[derive(Clone, Copy)]
 pub enum Cause {
     Unconfirmed,
     NothingHeard,
@@ -19,7 +20,7 @@ pub enum Cause {
     SwitchedOff,
 }
 
-#[derive(Drop)]
+#[derive(Clone, Copy)]
 pub enum State {
     Member,
     Listening,
@@ -30,7 +31,7 @@ pub enum State {
 
 // The listening data: slots done in this window, nodes heard in it, the shortest run of ones in
 // it, whether a return bit of 1 was heard in it, and the nodes of the last clean window.
-#[derive(Drop)]
+#[derive(Clone, Copy)]
 pub struct Window {
     pub done: u32,
     pub heard: u32,
@@ -40,7 +41,7 @@ pub struct Window {
 }
 
 // The record of the rules.
-#[derive(Drop)]
+#[derive(Clone, Copy)]
 pub struct Node {
     pub cable: Cable,
     pub own: u32,
@@ -55,7 +56,7 @@ pub struct Node {
 }
 
 // The record as it is held: its set as a row.
-#[derive(Drop)]
+#[derive(Clone, Copy)]
 pub struct Held {
     pub cable: Cable,
     pub own: u32,

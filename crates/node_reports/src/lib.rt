@@ -2,6 +2,7 @@
 // the number of reports heard: 32 rows, that of node 1 first, of 8 counts, that of job 1 first. They
 // stand beside its record, by value; those of a table of nodes are lent. An inner layer: whose report
 // counts is decided in node.
+#![tactic(auto)]
 ghost use Rattle.std.specs.Prelude.{◌≡◌, ◌+◌, max, cond, length};
 ghost use Rattle.nodeset.specs.Sets.{has};
 ghost use Rattle.node_reports.specs.Reports.{no_reports_at, row_within, counts_within, one_more, row_with, counts_with, heard_by};

@@ -20,6 +20,7 @@
 // the record of the rules; T by such a byte, the number of bytes written, and the whole buffer; K by all
 // counts, 32 rows of 8, eight bytes each. A U or S that is refused leaves record and counts, and A always
 // does. Any other byte ends the run. Before the first command all counts are 0.
+#![tactic(auto)]
 use node_bytes::calls::Outcome;
 use node_bytes::{bytes, calls, counts};
 use run_io::block::Block;
@@ -27,7 +28,7 @@ use run_io::input::Unread;
 use run_io::{input, output};
 
 // A command: its letter, and its size if it has one.
-#[derive(Drop)]
+#[derive(Clone, Copy)]
 struct Command {
     letter: u8,
     size: u8,

@@ -1,5 +1,6 @@
 // One slot for a member, following or knocking node: a small function by value for each step. An
 // inner layer: it takes every record as it is; the calls of `node` and of the bench test records first.
+#![tactic(auto)]
 ghost use Rattle.std.specs.Prelude.{◌≡◌};
 ghost use Rattle.row.specs.Inner.{same_row};
 ghost use Rattle.node_record.specs.Held.{setted};
@@ -14,7 +15,7 @@ use row::Row;
 
 // What a message says: a yes for its sender and for the members that it acknowledges, a no for the
 // other members that its sender sponsors.
-#[derive(Drop)]
+#[derive(Clone, Copy)]
 pub struct Said {
     pub yes: u32,
     pub no: u32,
@@ -22,7 +23,7 @@ pub struct Said {
 
 // What a slot means to all who hold one row: that row; what the message says; and the member that the
 // sender decides, 0 for nobody. It is worked out once for all of them.
-#[derive(Drop)]
+#[derive(Clone, Copy)]
 pub struct Digest {
     pub row: Row,
     pub said: Said,
@@ -31,7 +32,7 @@ pub struct Digest {
 
 // What the slot's message does to a record: whether it is heard, the marks after it, whether a yes was
 // heard since the own slot, and whether a return bit of 1 is heard.
-#[derive(Drop)]
+#[derive(Clone, Copy)]
 struct Effect {
     heard: bool,
     marks: u32,
@@ -40,7 +41,7 @@ struct Effect {
 }
 
 // What comes of step 3: the row after it, and whether this node is the one that leaves.
-#[derive(Drop)]
+#[derive(Clone, Copy)]
 struct Departure {
     row: Row,
     left: bool,

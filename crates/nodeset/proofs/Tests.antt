@@ -1,7 +1,6 @@
 -- Reasoning by what a test answers. Assumes nothing.
 use mathlib.Core.Path.{◌≡◌, refl, sym, ap, ◌∙◌}
-use mathlib.Core.Bool.{Bool, true, false, cond, not, ◌&&◌, ◌||◌, and-eq-true_iff}
-use borrow.Author.Tests.{not-true, not-false}
+use mathlib.Core.Bool.{Bool, true, false, cond, ◌&&◌, ◌||◌, and-eq-true_iff}
 
 pub by_cases {ℓ} : {A : Type ℓ} (b : Bool) → (b ≡ true → A) → (b ≡ false → A) → A
 by_cases true f g = f refl
@@ -26,11 +25,11 @@ pub or_else : (a b : Bool) → (a || b) ≡ true → a ≡ false → b ≡ true
 or_else a b e h = sym (ap (λ (c : Bool). c || b) h) ∙ e
 
 -- what `if !test(..) { return .. }` tells, where r is the test's answer and b what its contract says of it
-pub failed : {r b : Bool} → r ≡ b → not r ≡ true → b ≡ false
-failed {r} e h = sym e ∙ not-true r h
+pub failed : {r b : Bool} → r ≡ b → r ≡ false → b ≡ false
+failed e h = sym e ∙ h
 
-pub passed : {r b : Bool} → r ≡ b → not r ≡ false → b ≡ true
-passed {r} e h = sym e ∙ not-false r h
+pub passed : {r b : Bool} → r ≡ b → r ≡ true → b ≡ true
+passed e h = sym e ∙ h
 
 -- what `if test(..) { .. }` tells
 pub told : {r b v : Bool} → r ≡ b → r ≡ v → b ≡ v

@@ -1,6 +1,7 @@
 // Sets of node numbers 1 to 32 in a u32: node 1 is the lowest bit. Every u32 is a set. A number
 // that is not 1 to 32 names no node: no set has it, and with and without leave the set as it is. Which
 // nodes a cable has is not asked here: the functions that count or test take n.
+#![tactic(auto)]
 ghost use Rattle.std.specs.Prelude.{◌≡◌};
 ghost use Rattle.nodeset.specs.Sets.{has, with, with_if, without, union, minus, full, within, subset, size, distance, run};
 

@@ -9,6 +9,7 @@
 // (four), fate (0 silent, 1 lost, 2 knock, any other sent), whether there is a list (1 for yes), the set
 // and the distance (four each). A refusal has its number for the sender, and is loaded as that by 12; what
 // an outcome does not have is 0. The functions are safe and end; no contract says more.
+#![tactic(auto)]
 use bench::{Fate, Listed, Outcome};
 use node_bytes::{bytes, rows};
 use node_record::Held;

@@ -1,5 +1,6 @@
 // The lines of a plan (document 01, "The bench program"): what a line says, or by which cause it is
 // refused. A line comes without its line feed. An inner layer: it takes every n as it is.
+#![tactic(auto)]
 ghost use Rattle.std.specs.Prelude.{◌≡◌, true, false, ◌&&◌, ◌+◌, min, drop, leb};
 ghost use Rattle.plan_line.specs.Words.{all_digits, begins, gap, is_number, leading_zero, least_after, same, value_of};
 ghost use Rattle.plan_line.specs.Plan.{in_ring, missed_with, missed_line, missing_of, named_of, numbers_of, off_line, on_line, opening_of, line_of, ring_of, word_of};
@@ -8,14 +9,14 @@ use cable::Choices;
 use refusal::Refusal;
 
 // What line one says.
-#[derive(Drop)]
+#[derive(Clone, Copy)]
 pub enum Opening {
     Ring(u32, u32),
     Refused(Refusal),
 }
 
 // What a later line says; Miss holds the set of the nodes named.
-#[derive(Drop)]
+#[derive(Clone, Copy)]
 pub enum Line {
     Ok,
     Lost,
@@ -26,14 +27,14 @@ pub enum Line {
 }
 
 // The node that stands after a plan word.
-#[derive(Drop)]
+#[derive(Clone, Copy)]
 enum Named {
     Node(u32),
     Refused(Refusal),
 }
 
 // What came of the words after `miss ` so far: whether each names a node, and the set of the nodes.
-#[derive(Drop)]
+#[derive(Clone, Copy)]
 struct Missed {
     inside: bool,
     set: u32,

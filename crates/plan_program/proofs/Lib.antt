@@ -3,7 +3,6 @@ pub mod Chunks
 pub mod Sound
 pub mod Lent
 pub mod Turns
-pub mod Lending
 pub mod Tables
 pub mod OnSets
 pub mod Pieces

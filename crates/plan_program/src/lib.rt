@@ -1,6 +1,7 @@
 // The bench program but for reading and writing (document 01, "The bench program"): a plan text comes
 // in pieces, and what is printed of it goes into lent bytes. `feed` runs the lines that end in a piece,
 // `finish` ends the text, `print_plan` takes it all at once.
+#![tactic(auto)]
 ghost use Rattle.std.specs.Prelude.{◌≡◌, true, false, ◌++◌, [], ◌+◌, ◌≤◌, ◌*◌, leb, length, take};
 ghost use Rattle.bench.specs.Table.{table_sound};
 ghost use Rattle.bench_by_value.specs.ByValue.{table_of};
@@ -17,7 +18,7 @@ use refusal::Refusal;
 
 // A plan as far as its lines have been run: how many, the bench (the first n rows are its table),
 // whether a line was refused, and what came of the last one.
-#[derive(Drop)]
+#[derive(Clone, Copy)]
 pub struct Plan {
     pub lines: u64,
     pub n: u32,
@@ -27,7 +28,7 @@ pub struct Plan {
 }
 
 // What has come of the next line: its first 121 bytes at the most. No longer line is readable.
-#[derive(Drop)]
+#[derive(Clone, Copy)]
 pub struct Part {
     pub length: usize,
     pub text: [u8; 121],
@@ -36,7 +37,7 @@ pub struct Part {
 // Where the lines of a piece stand: the plan but for its rows, and how many bytes are printed; the next
 // line, whether it ends in the piece, what it has the bench do, the number of nodes after it, and the
 // place after its end.
-#[derive(Drop)]
+#[derive(Clone, Copy)]
 struct Going {
     lines: u64,
     n: u32,
@@ -51,7 +52,7 @@ struct Going {
 }
 
 // What came of a piece that was run: `count` bytes are printed.
-#[derive(Drop)]
+#[derive(Clone, Copy)]
 struct Ahead {
     plan: Plan,
     part: Part,
@@ -59,7 +60,7 @@ struct Ahead {
 }
 
 // What came of a piece. Where it is refused, plan and part are those that were passed.
-#[derive(Drop)]
+#[derive(Clone, Copy)]
 pub struct Fed {
     pub plan: Plan,
     pub part: Part,

@@ -1,6 +1,7 @@
 // The report over many plans but for reading and writing (document 02, request m): a text of plans comes
 // in pieces, and what is printed of it goes into lent bytes. `feed` runs the lines that end in a piece,
 // `finish` ends the text; `add` adds the figures of a plan to the totals.
+#![tactic(auto)]
 ghost use Rattle.std.specs.Prelude.{◌≡◌, true, ◌+◌, ◌*◌, ◌≤◌, ◌++◌, leb, length};
 ghost use Rattle.bench_by_value.specs.ByValue.{table_of};
 ghost use Rattle.nodeset.specs.Sums.{num};
@@ -24,7 +25,7 @@ use refusal::Refusal;
 
 // The figures of a plan, or of all plans: the slots; over these, the nodes in the member state after the
 // slot and the listed nodes after it; the slots with a distance above 0.
-#[derive(Drop)]
+#[derive(Clone, Copy)]
 pub struct Figures {
     pub slots: u64,
     pub members: u64,
@@ -33,7 +34,7 @@ pub struct Figures {
 }
 
 // The totals after a plan's figures were added to them, or as they were.
-#[derive(Drop)]
+#[derive(Clone, Copy)]
 pub struct Added {
     pub totals: Figures,
     pub answer: Answer,
@@ -41,7 +42,7 @@ pub struct Added {
 
 // A report as far as its lines have been run: how many plans have ended, the plan that runs, its figures,
 // by which number it was refused (0: by none), and the totals.
-#[derive(Drop)]
+#[derive(Clone, Copy)]
 pub struct Tally {
     pub plans: u64,
     pub plan: Plan,
@@ -51,28 +52,28 @@ pub struct Tally {
 }
 
 // A report, and what has come of its next line.
-#[derive(Drop)]
+#[derive(Clone, Copy)]
 pub struct Report {
     pub tally: Tally,
     pub part: Part,
 }
 
 // What came of a piece. Where it is refused, the report is the one that was passed.
-#[derive(Drop)]
+#[derive(Clone, Copy)]
 pub struct Fed {
     pub report: Report,
     pub written: Written,
 }
 
 // What came of a plan that ended: its figures count, or it is refused at a line.
-#[derive(Drop)]
+#[derive(Clone, Copy)]
 enum Verdict {
     Counted,
     Refused(u64, u32),
 }
 
 // What came of a byte: the report, and the place after what was printed.
-#[derive(Drop)]
+#[derive(Clone, Copy)]
 struct Taken {
     report: Report,
     at: usize,

@@ -1,6 +1,7 @@
 // Inner: what a plan line does to a plan's bench (document 01, "The bench program"). The bench is 32
 // rows, of which the first n are its table; a line is carried out on the table alone, which is lent. It
 // is tested where a piece of the plan begins (`plan_program`), and not again for each line.
+#![tactic(auto)]
 ghost use Rattle.std.specs.Prelude.{◌≡◌, ◌≤◌, length};
 ghost use Rattle.bench_orders.specs.Orders.{carried_from};
 ghost use Rattle.plan_line.specs.Plan.{line_of, opening_of};
@@ -16,7 +17,7 @@ use plan_line::{Line, Opening};
 use refusal::Refusal;
 
 // What a line has the bench do.
-#[derive(Drop)]
+#[derive(Clone, Copy)]
 pub enum Act {
     Call(Command),
     Refuse(Refusal),
@@ -24,7 +25,7 @@ pub enum Act {
 
 // The bench that line one sets up, the number of its nodes, and what there is to print: what
 // specs/Run says of line one.
-#[derive(Drop)]
+#[derive(Clone, Copy)]
 pub struct Opened {
     pub n: u32,
     pub rows: [Held; 32],

@@ -13,6 +13,7 @@
 // is answered by a byte, 0 or the refusal's number; by the count of bytes (four); by the whole buffer; by
 // the plan and by the part.
 // Any other letter ends the run.
+#![tactic(auto)]
 use plan_program::{Part, Plan};
 use plan_text::Written;
 use run_io::block::Block;
@@ -20,7 +21,7 @@ use run_io::input::{Head, Unread};
 use run_io::{block, input, output};
 
 // What there is from one command to the next; `held` is the number of bytes that wait in the output.
-#[derive(Drop)]
+#[derive(Clone, Copy)]
 struct State {
     plan: Plan,
     part: Part,
@@ -75,7 +76,7 @@ fn load(state: State, head: Head, block: &Block) -> State {
 }
 
 // A call's answer, and the plan and the part after it.
-#[derive(Drop)]
+#[derive(Clone, Copy)]
 struct Ran {
     plan: Plan,
     part: Part,

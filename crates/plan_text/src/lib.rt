@@ -1,6 +1,7 @@
 // The lines that the bench program prints (document 01, "The bench program"), written into lent bytes
 // at a place. An inner layer: the calls of `plan_program` print whole lines. What holds of
 // every text that is taken byte by byte is specs/Bytewise.
+#![tactic(auto)]
 ghost use Rattle.std.specs.Prelude.{◌≡◌, ◌+◌, ◌≤◌, ◌<◌, leb, length};
 ghost use Rattle.plan_text.specs.Text.{digits, fate_text, glyph, next_line, number_then, pasted, places, refusal_text, shown_text, slot_text, written_of, PutAt, PutFew};
 
@@ -8,7 +9,7 @@ use bench::{Fate, Listed};
 use refusal::Refusal;
 
 // What came of writing: the number of bytes, or why none was written.
-#[derive(Drop)]
+#[derive(Clone, Copy)]
 pub enum Written {
     Bytes(usize),
     Refused(Refusal),

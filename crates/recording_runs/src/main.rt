@@ -14,13 +14,14 @@
 // refusal's number; by the count of bytes (four); by the whole buffer; by the recording's direction (a
 // byte), lines and length (eight bytes each) and 121 bytes.
 // Any other letter ends the run. Before the first command the recording is that of `N 0`.
+#![tactic(auto)]
 use converter_text::{Direction, Fed, Recording};
 use run_io::block::Block;
 use run_io::input::{Head, Unread};
 use run_io::{block, input, output};
 
 // What there is from one command to the next; `held` is the number of bytes that wait in the output.
-#[derive(Drop)]
+#[derive(Clone, Copy)]
 struct Held {
     recording: Recording,
     held: usize,

@@ -1,9 +1,10 @@
 // The refusals of document 01 ("Causes and their numbers"), one case for each row of the table, and
 // those that document 02 adds. Which call refuses by which of them is not here.
+#![tactic(auto)]
 ghost use Rattle.std.specs.Prelude.{◌≡◌};
 ghost use Rattle.refusal.specs.Causes.{number_of};
 
-#[derive(Drop)]
+#[derive(Clone, Copy)]
 pub enum Refusal {
     RingSize,
     SponsorCount,

@@ -1,6 +1,7 @@
 // The report over many plans (document 02, request m): plans from standard input, a line for each and
 // one for the totals to standard output. What is printed of which bytes is proved in `plan_report`; here
 // pieces of the input are read, handed over in turn, and what is printed of each is written at once.
+#![tactic(auto)]
 use plan_report::{Fed, Report};
 use plan_text::Written;
 

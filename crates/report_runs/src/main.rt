@@ -16,6 +16,7 @@
 // plans, fault, figures and totals of the report, its plan and its part. A is answered by such a byte and
 // the totals.
 // Any other letter ends the run. Before the first command the report is that of `N 0`.
+#![tactic(auto)]
 ghost use Rattle.std.specs.Prelude.{◌≤◌};
 
 use node::Answer;
@@ -25,7 +26,7 @@ use run_io::input::{Head, Unread};
 use run_io::{block, input, output};
 
 // What there is from one command to the next; `held` is the number of bytes that wait in the output.
-#[derive(Drop)]
+#[derive(Clone, Copy)]
 struct State {
     report: Report,
     held: usize,

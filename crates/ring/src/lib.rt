@@ -1,6 +1,7 @@
 // The ring (document 01, "The ring"): whose slot it is, and which members stand before a node and how
 // far back. A set is any u32; its members are the nodes 1 to n in it. The slot's rules ask the row of members
 // instead (crate row), which finds the same.
+#![tactic(auto)]
 ghost use Rattle.std.specs.Prelude.{◌≡◌, ◌+◌, ◌-◌};
 ghost use Rattle.nodeset.specs.Sums.{num};
 ghost use Rattle.ring.specs.Ring.{ks, previous, member_before, sponsors, sponsored, decided};
@@ -11,28 +12,28 @@ use cable::Cable;
 use refusal::Refusal;
 
 // Whose slot it is.
-#[derive(Drop)]
+#[derive(Clone, Copy)]
 pub enum Speaker {
     Node(u32),
     Refused(Refusal),
 }
 
 // What a walk back along the ring finds: a member, and how many slots back it speaks.
-#[derive(Drop)]
+#[derive(Clone, Copy)]
 pub enum Found {
     Member(u32, u32),
     Nobody,
 }
 
 // What a call that looks for a member answers.
-#[derive(Drop)]
+#[derive(Clone, Copy)]
 pub enum Lookup {
     Found(Found),
     Refused(Refusal),
 }
 
 // What comes of tests before a walk.
-#[derive(Drop)]
+#[derive(Clone, Copy)]
 enum Tests {
     Passed,
     Refused(Refusal),
@@ -53,7 +54,7 @@ pub fn ks(cable: Cable, c: u32) -> u32
 
 // A place on the walk back: the node that it reached and its place, and the slots that it may still go
 // back from there, which tell how far back it is. Node 0: it met no further member.
-#[derive(Drop)]
+#[derive(Clone, Copy)]
 struct Place {
     node: u32,
     place: u32,

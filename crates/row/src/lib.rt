@@ -2,12 +2,13 @@
 // count; unused places 0. The slot table holds the nodes in slot order, spare places 0. An inner
 // layer: every row and table is taken as it is, and none is refused. Sets and rows are converted in
 // row_sets; who is sponsored is in row_sponsors.
+#![tactic(auto)]
 ghost use Rattle.std.specs.Prelude.{◌≡◌, []};
 ghost use Rattle.slot_table.specs.Order.{same_order};
 ghost use Rattle.row.specs.Rows.{row_for};
 ghost use Rattle.row.specs.Inner.{elem, has_row, without_row, with_row, rank_in, put_in, same_row, row_at, added, past};
 
-#[derive(Drop)]
+#[derive(Clone, Copy)]
 pub struct Row {
     pub length: u32,
     pub nodes: [u8; 32],

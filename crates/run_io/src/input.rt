@@ -2,14 +2,14 @@
 use crate::block::Block;
 
 // The unread bytes of the buffer are those from `at` up to `end`.
-#[derive(Drop)]
+#[derive(Clone, Copy)]
 pub struct Unread {
     pub at: usize,
     pub end: usize,
 }
 
 // The next byte, and what is then unread.
-#[derive(Drop)]
+#[derive(Clone, Copy)]
 pub struct Taken {
     pub byte: u8,
     pub left: Unread,
@@ -66,7 +66,7 @@ pub fn fill(buffer: &mut [u8; 4096], left: Unread, block: &mut Block, length: u8
 }
 
 // The letter that a command begins with, the byte after it, and what is then unread.
-#[derive(Drop)]
+#[derive(Clone, Copy)]
 pub struct Head {
     pub letter: u8,
     pub byte: u8,

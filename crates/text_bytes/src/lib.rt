@@ -1,5 +1,6 @@
 // Texts that come in pieces, as bytes of commands and answers, for the programs that run calls on them for
 // a test. The functions are safe and end; no contract of a result says more.
+#![tactic(auto)]
 ghost use Rattle.std.specs.Prelude.{◌≤◌};
 
 use plan_text::Written;

@@ -1,0 +1,17 @@
+-- `bench_orders::far_from` meets its contract. The invariant: after j turns it is the greatest distance from the first j sets. Assumes nothing.
+use borrow.Author.Rules.{rules}
+use Prim.Native.Nat.{ℕ, ◌+◌, ◌-◌, ◌≤◌, max}
+use mathlib.Core.Path.{◌≡◌, refl, sym, ap, ◌∙◌}
+use mathlib.Core.List.{List}
+use native.Mathlib.Omega.{arith}
+use native.Mathlib.Numerals.{add-one}
+use lib.ListN.{get_or}
+use Rattle.nodeset.specs.Sets.{distance}
+use Rattle.bench_orders.specs.Survey.{far_from}
+use Rattle.bench_orders.proofs.far_from.Given as goal
+
+abbrev pub invariant-loop-j : goal.invariant-loop-j
+invariant-loop-j l = (l.j ≤ l.count) × ((l.count ≤ 32) × (l.far ≡ far_from l.n l.set l.sets l.j))
+
+abbrev pub decreases-loop-j : goal.decreases-loop-j
+decreases-loop-j l = l.count - l.j

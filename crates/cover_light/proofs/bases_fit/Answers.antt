@@ -1,0 +1,37 @@
+use Prim.Native.Nat.{◌-◌, ◌≤◌}
+use mathlib.Core.Path.{◌≡◌}
+use mathlib.Core.Bool.{true}
+use native.Mathlib.Omega.{arith}
+use borrow.Author.Rules.{rules}
+use borrow.Author.Tests.{le-leb, lt-leb}
+use lib.Dec.{leb}
+use lib.ListN.{length, get_or}
+use Rattle.node_reports.specs.Reports.{every_below}
+use Rattle.node_reports.proofs.Below.{every-none, every-on}
+use Rattle.cover_light.specs.Light.{brightest}
+use Rattle.cover_light.proofs.Lamps.{unfit-length, unfit-base, fit-by}
+use Rattle.cover_light.proofs.bases_fit.Goals as goal
+
+pub returns-then-bases-n : goal.returns-then-bases-n
+returns-then-bases-n c = let a = c.args in unfit-length a.n a.bases.now (search rules)
+
+pub loop-i-init : goal.loop-i-init
+loop-i-init c = (omega arith, every-none _)
+
+pub bounds-bases-i : goal.bounds-bases-i
+bounds-bases-i c = omega arith
+
+pub returns-then-bases-i-gt254 : goal.returns-then-bases-i-gt254
+returns-then-bases-i-gt254 c = let a = c.args in unfit-base a.n a.bases.now c.loop-i.i (omega arith) (lt-leb _ _ c.if-bases-i-gt254.true)
+
+pub overflow_add-i : goal.overflow_add-i
+overflow_add-i c = omega arith
+
+pub loop-i-smaller : goal.loop-i-smaller
+loop-i-smaller c = omega arith
+
+pub loop-i-preserved : goal.loop-i-preserved
+loop-i-preserved c = let l = c.loop-i in (omega arith, every-on _ l.i l.invariant.1 (le-leb _ _ c.if-bases-i-gt254.false))
+
+pub returns : goal.returns
+returns c = let a = c.args in let l = c.loop-i in fit-by a.n a.bases.now l.i (omega arith) l.invariant.1 (omega arith) (omega arith)

@@ -1,0 +1,20 @@
+-- `cover_light::bases_fit` meets its contract. The invariant: the bases passed are at most 254. Assumes nothing.
+use Prim.Native.Nat.{◌-◌, ◌≤◌}
+use mathlib.Core.Path.{◌≡◌}
+use mathlib.Core.Bool.{true}
+use native.Mathlib.Omega.{arith}
+use borrow.Author.Rules.{rules}
+use borrow.Author.Tests.{le-leb, lt-leb}
+use lib.Dec.{leb}
+use lib.ListN.{length, get_or}
+use Rattle.node_reports.specs.Reports.{every_below}
+use Rattle.node_reports.proofs.Below.{every-none, every-on}
+use Rattle.cover_light.specs.Light.{brightest}
+use Rattle.cover_light.proofs.Lamps.{unfit-length, unfit-base, fit-by}
+use Rattle.cover_light.proofs.bases_fit.Given as goal
+
+abbrev pub invariant-loop-i : goal.invariant-loop-i
+invariant-loop-i l = (l.i ≤ length l.bases) × (every_below (λ x. leb (get_or l.bases x 0) brightest) l.i ≡ true)
+
+abbrev pub decreases-loop-i : goal.decreases-loop-i
+decreases-loop-i l = length l.bases - l.i

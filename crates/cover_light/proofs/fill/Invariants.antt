@@ -1,0 +1,16 @@
+-- `cover_light::fill` meets its contract. The invariant: the first i levels are written, and the bytes after them are as they were. Assumes nothing.
+use Prim.Native.Nat.{ℕ, ◌-◌, ◌≤◌}
+use mathlib.Core.Path.{◌≡◌, refl, ap, ◌∙◌}
+use mathlib.Core.List.{List, ◌++◌, map}
+use native.Mathlib.Omega.{arith}
+use lib.ListN.{length, take, drop, set, length-set}
+use Rattle.slot_table.specs.Order.{numbers_from}
+use Rattle.cover_light.specs.Light.{given_by}
+use Rattle.cover_light.proofs.Lamps.{one-laid, all_laid}
+use Rattle.cover_light.proofs.fill.Given as goal
+
+abbrev pub invariant-loop-i : goal.invariant-loop-i
+invariant-loop-i l = (l.i ≤ l.n) × ((length l.out ≡ length l.initial.out) × (l.out ≡ take l.i (map (given_by l.member l.list l.bases) (numbers_from l.n 1)) ++ drop l.i l.initial.out))
+
+abbrev pub decreases-loop-i : goal.decreases-loop-i
+decreases-loop-i l = l.n - l.i

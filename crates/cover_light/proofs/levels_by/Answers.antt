@@ -1,0 +1,38 @@
+-- `cover_light::levels_by` meets its contract. Assumes nothing.
+use Prim.Native.Nat.{ℕ}
+use mathlib.Core.Path.{ap, ◌∙◌}
+use mathlib.Core.Bool.{Bool}
+use mathlib.Core.List.{List, ◌++◌, map}
+use lib.ListN.{drop}
+use Rattle.slot_table.specs.Order.{numbers_from}
+use Rattle.nodeset.proofs.Tests.{failed, passed}
+use Rattle.message.specs.Message.{wrote}
+use Rattle.cover_light.specs.Light.{given_by, lamp_level}
+use Rattle.cover_light.proofs.Records.{few-lamps}
+use Rattle.cover_light.proofs.Lamps.{levels-unfit, levels-short, levels-all}
+use borrow.Author.Rules.{rules}
+use Rattle.cover_light.proofs.levels_by.Goals as goal
+
+pub returns-then-not-bases_fit : goal.returns-then-not-bases_fit
+returns-then-not-bases_fit c =
+    let b = c in
+    levels-unfit b.args.v b.args.bases.now b.args.out.now b.requires (failed c.bases_fit.ensures c.if-not-bases_fit.true)
+
+pub returns-then-out-n : goal.returns-then-out-n
+returns-then-out-n c =
+    let b = c in
+    levels-short b.args.v b.args.bases.now b.args.out.now b.requires (passed c.bases_fit.ensures c.if-not-bases_fit.false) (search rules)
+
+pub fill-requires : goal.fill-requires
+fill-requires c = let b = c in (few-lamps b.args.v b.requires, search rules)
+
+pub returns : goal.returns
+unfolding lamp_level
+returns c =
+    let b = c in
+    let a = b.args in
+    let n = a.v.cable.n in
+    ap (λ (o : List ℕ). (wrote n, o))
+    (c.fill.ensures
+    ∙ ap (λ (m : Bool). map (given_by m a.v.set a.bases.now) (numbers_from n 1) ++ drop n a.out.now) c.is_member.ensures)
+    ∙ levels-all a.v a.bases.now a.out.now b.requires (passed c.bases_fit.ensures c.if-not-bases_fit.false) (search rules)

@@ -1,0 +1,11 @@
+-- `cover_light_c::light_number` meets its contract. Assumes nothing.
+use mathlib.Core.Path.{sym, ap, ◌∙◌}
+use Rattle.cover_light_c.specs.Calls.{light_number}
+use borrow.Author.Rules.{rules}
+use Rattle.cover_light_c.proofs.light_number.Goals as goal
+
+pub returns-in-Level : goal.returns-in-Level
+returns-in-Level c = ap light_number (sym c.light.given.1)
+
+pub returns-in-Refused : goal.returns-in-Refused
+returns-in-Refused c = c.number.ensures ∙ ap light_number (sym c.light2.given.1)

@@ -1,0 +1,48 @@
+use Prim.Native.Nat.{ℕ, suc, ◌+◌, ◌-◌, ◌*◌, ◌^◌, ◌≤◌, ◌<◌}
+use mathlib.Core.Path.{◌≡◌, sym, ap, ◌∙◌}
+use native.Mathlib.Omega.{arith}
+use borrow.Author.Rules.{rules}
+use lib.ListN.{length, drop, get_or}
+use lib.Seq.{drop-length}
+use Rattle.message.specs.Message.{little}
+use Rattle.message.proofs.Bytes.{three-lt, little-drop}
+use Rattle.message.proofs.bits_in.Goals as goal
+
+-- at most three bytes have been read before a turn
+small : (c : goal.After-shared_slice_known-1 invariant-loop decreases-loop) → c.loop-i.bits < 2 ^ 24
+small c =
+    let l = c.args.part.now in
+    let i = c.loop-i.i in
+    let e = c.loop-i.invariant.2 in
+    let h : little (drop i l) < 2 ^ 24 = three-lt i l (λ j below. (c.shared-slice-known.given j).fits) (omega arith) in
+    omega arith
+
+pub loop-i-init : goal.loop-i-init
+unfolding little
+loop-i-init c = (search rules, search rules, sym (ap little (drop-length c.args.part.now)))
+
+pub overflow_mul-bits : goal.overflow_mul-bits
+overflow_mul-bits c = omega (arith, small c)
+
+pub overflow_cast-bits : goal.overflow_cast-bits
+overflow_cast-bits c = omega (arith, c.shared-slice-known.given (c.loop-i.i - 1))
+
+pub overflow_add-bits : goal.overflow_add-bits
+overflow_add-bits c = omega (arith, small c, c.shared-slice-known.given (c.loop-i.i - 1))
+
+pub loop-i-smaller : goal.loop-i-smaller
+loop-i-smaller c = omega arith
+
+pub loop-i-preserved : goal.loop-i-preserved
+loop-i-preserved c =
+    let l = c.args.part.now in
+    let i = c.loop-i.i in
+    let next : suc (i - 1) ≡ i = omega arith in
+    let e = c.loop-i.invariant.2 in
+    let more : little (drop (i - 1) l) ≡ get_or l (i - 1) 0 + little (drop i l) * 256 = little-drop (i - 1) l (omega arith) ∙ ap (λ (j : ℕ). get_or l (i - 1) 0 + little (drop j l) * 256) next in
+    (omega arith, omega arith, omega arith)
+
+pub returns : goal.returns
+returns c =
+    let last : c.loop-i.i ≡ 1 = omega arith in
+    c.loop-i.invariant.2 ∙ ap (λ (i : ℕ). little (drop i c.args.part.now)) last

@@ -1,0 +1,56 @@
+use Prim.Native.Nat.{ℕ, suc, ◌+◌, ◌-◌, ◌/◌, ◌%◌, ◌≤◌, ◌<◌}
+use mathlib.Core.Path.{◌≡◌, refl, sym, ap, ◌∙◌}
+use mathlib.Core.List.{List, ◌∷◌, ◌++◌, append_assoc, append-nil}
+use native.Mathlib.Omega.{arith}
+use native.Mathlib.Numerals.{add-one}
+use borrow.Author.Rules.{rules}
+use lib.ListN.{length, take, set, length-set}
+use lib.Seq.{take-suc-set, take-length}
+use Rattle.message.specs.Message.{bytes_of, section_of}
+use Rattle.message.proofs.put_section.Goals as goal
+
+-- the count is stored
+first : (l : List ℕ) (count bits : ℕ) → 1 ≤ length l → take 1 (set l 0 count) ++ bytes_of (length (set l 0 count) - 1) bits ≡ section_of count (length (set l 0 count) - 1) bits
+first (x ∷ l) count bits some = refl
+
+-- a turn stores the lowest byte of what is left
+next : (l : List ℕ) (i rest : ℕ) → i < length l → take (i + 1) (set l i (rest % 256)) ++ bytes_of (length (set l i (rest % 256)) - (i + 1)) (rest / 256) ≡ take i l ++ bytes_of (length l - i) rest
+unfolding bytes_of
+next l i rest below =
+    let left : length l - i ≡ suc (length l - (i + 1)) = omega arith in
+    rw (left, length-set, add-one i, take-suc-set l i (rest % 256) below, append_assoc)
+
+-- at the end nothing is left
+last : (l : List ℕ) (i rest : ℕ) → i ≡ length l → take i l ++ bytes_of (length l - i) rest ≡ l
+unfolding bytes_of
+last l i rest end =
+    let none : length l - i ≡ 0 = omega arith in
+    rw (none, end, take-length, append-nil)
+
+pub loop-i-init : goal.loop-i-init
+loop-i-init c =
+    (search rules, simp length-set (search rules), refl, first c.args.part.now c.args.count c.args.bits (search rules))
+
+pub overflow_add-i : goal.overflow_add-i
+overflow_add-i c = omega (arith, simp length-set at c.loop-i.invariant.2)
+
+pub loop-i-smaller : goal.loop-i-smaller
+loop-i-smaller c = simp length-set (omega arith)
+
+pub loop-i-preserved : goal.loop-i-preserved
+loop-i-preserved c =
+    let l = c.loop-i.part in
+    let i = c.loop-i.i in
+    let rest = c.loop-i.rest in
+    (omega arith, simp length-set (omega arith), length-set l i (rest % 256) ∙ c.loop-i.invariant.2, next l i rest (omega arith) ∙ c.loop-i.invariant.3)
+
+pub shape_of-part : goal.shape_of-part
+shape_of-part c = c.loop-i.invariant.2 ∙ simp length-set
+
+pub returns : goal.returns
+returns c =
+    let a = c.args in
+    let l = c.loop-i.part in
+    sym (last l c.loop-i.i c.loop-i.rest (omega arith))
+    ∙ c.loop-i.invariant.3
+    ∙ ap (λ (n : ℕ). section_of a.count (n - 1) a.bits) (length-set a.part.now 0 a.count)

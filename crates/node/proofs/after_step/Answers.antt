@@ -1,0 +1,45 @@
+-- `node::after_step` meets its contract: its tests are in the table's order; on a ring the sender is never refused; the slot goes by the digest of the
+-- record's own row. Assumes nothing.
+use borrow.Author.Rules.{rules}
+use Prim.Native.Nat.{◌+◌}
+use mathlib.Core.Path.{sym, ap, ◌∙◌}
+use borrow.Author.Tests.{le-leb, lt-leb}
+use Rattle.nodeset.proofs.Tests.{failed, passed, chosen, otherwise}
+use Rattle.ring_laws.proofs.Speakers.{is-sender, no-refusal}
+use Rattle.node_record.specs.declared.Held.{Held}
+use Rattle.node_record.specs.Held.{setted}
+use Rattle.node_record.proofs.Facts.{clauses}
+use Rattle.node.specs.declared.Answer.TheVariants.{Done}
+use Rattle.node.specs.Calls.{step_of}
+use Rattle.node.specs.Held.{held_as}
+use Rattle.node.proofs.Holding.{slot-held}
+use Rattle.node.proofs.after_step.Goals as goal
+
+pub returns-then-not-is_sound : goal.returns-then-not-is_sound
+unfolding step_of
+returns-then-not-is_sound c = sym (ap (held_as c.args.v) (otherwise _ _ (failed c.is_sound.ensures c.if-not-is_sound.true)))
+
+pub returns-then-v-ge-LIMIT : goal.returns-then-v-ge-LIMIT
+unfolding step_of
+returns-then-v-ge-LIMIT c =
+    sym (ap (held_as c.args.v) (
+    chosen _ _ (passed c.is_sound.ensures c.if-not-is_sound.false) ∙ chosen _ _ (le-leb _ _ c.if-v-ge-LIMIT.true)))
+
+pub returns-in_default : goal.returns-in_default
+unfolding step_of
+returns-in_default c =
+    let p = c in
+    let v = p.args.v in
+    let good = passed p.is_sound.ensures p.if-not-is_sound.false in
+    absurd (no-refusal v.cable (v.slots + 1) _ c.sender-speaker.result (clauses (setted v) good).choices.ring c.sender-speaker.ensures c.enum_told.given.1)
+
+pub returns : goal.returns
+unfolding step_of
+returns c =
+    let q = c in
+    let a = q.args in
+    let v = a.v in
+    let good = passed q.is_sound.ensures q.if-not-is_sound.false in
+    let s = is-sender v.cable (v.slots + 1) _ q.sender-speaker.result (clauses (setted v) good).choices.ring q.sender-speaker.ensures c.speaker.given.1 in
+    ap (λ (x : Held). record { node = x; answer = Done }) (slot-held v good _ a.heard _ _ c.after_slot-w.ensures c.digest_of-digest.ensures s)
+    ∙ sym (ap (held_as v) (chosen _ _ good ∙ otherwise _ _ (lt-leb _ _ q.if-v-ge-LIMIT.false)))

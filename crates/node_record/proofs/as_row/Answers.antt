@@ -1,0 +1,6 @@
+-- `node_record::as_row` meets its contract. Assumes nothing.
+use borrow.Author.Rules.{rules}
+use Rattle.node_record.proofs.as_row.Goals as goal
+
+pub returns : goal.returns
+returns c = cc c.as_row-row.ensures

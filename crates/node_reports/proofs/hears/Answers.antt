@@ -1,0 +1,10 @@
+-- `node_reports::hears` meets its contract: from index 32 on no node is in a set of 32 bits. Assumes nothing.
+use Prim.Native.Nat.{◌+◌}
+use native.Mathlib.Omega.{arith}
+use mathlib.Core.Path.{sym}
+use Rattle.nodeset.proofs.Bits.{has-beyond}
+use borrow.Author.Rules.{rules}
+use Rattle.node_reports.proofs.hears.Goals as goal
+
+pub returns-then-i-ge32 : goal.returns-then-i-ge32
+returns-then-i-ge32 c = sym (has-beyond 32 _ (c.args.i + 1) c.ranges.hearers.fits (omega arith))

@@ -1,0 +1,13 @@
+-- `node_steps::marked` meets its contract: it makes the record of its definition. Assumes nothing.
+use borrow.Author.Rules.{rules}
+use mathlib.Core.Path.{ap, ◌∙◌}
+use mathlib.Core.Bool.{Bool, ◌&&◌, ◌||◌}
+use Rattle.node_changes.specs.Held.{with_marks}
+use Rattle.node_steps.proofs.marked.Goals as goal
+
+pub returns : goal.returns
+returns c =
+    let k = c in
+    let a = k.args in
+    c.with_marks.ensures
+    ∙ ap (λ (b : Bool). with_marks a.effect.marks a.effect.yes (a.v.return_heard || (b && a.effect.returned)) a.v) k.is_knocking.ensures

@@ -1,0 +1,83 @@
+use Prim.Native.Nat.{ℕ, ◌+◌, ◌-◌, ◌^◌, ◌<◌, ◌≤◌}
+use mathlib.Core.Path.{◌≡◌, refl, ap, ap₂, ◌∙◌, subst⁻¹}
+use mathlib.Core.Bool.{Bool, true, false, cond}
+use native.Mathlib.Omega.{arith}
+use native.Mathlib.Numerals.{add-one}
+use borrow.Author.Rules.{rules}
+use Rattle.nodeset.specs.Sets.{has, with}
+use Rattle.cable.specs.declared.Cable.{Cable}
+use Rattle.row.specs.declared.Row.{Row}
+use Rattle.row.specs.Inner.{has_row, rank_in, back_in}
+use Rattle.row.specs.Sponsoring.{sponsors_row, sponsored_row}
+use Rattle.node_steps.specs.Steps.{says_so}
+use Rattle.node_steps.specs.Held.{answered}
+use Rattle.node_steps.proofs.said_of.Goals as goal
+
+record Going (s bits : ℕ) (cable : Cable) (row : Row) (most rank : ℕ) (here : Bool) (j yes' no' : ℕ) : Type 0 where
+  below : j ≤ most
+  count : most ≡ sponsors_row cable row
+  rank_is : rank ≡ rank_in cable.order row s
+  here-is : here ≡ has_row row s
+  so_far : yes' ≡ answered true (with 0 s) j s bits cable row
+  others : no' ≡ answered false 0 j s bits cable row
+
+one-more : (answer : Bool) (start s bits : ℕ) (cable : Cable) (row : Row) (j nodes x : ℕ) (bit : Bool)
+    → bit ≡ has bits (j + 1) → nodes ≡ answered answer start j s bits cable row → x ≡ sponsored_row cable row s (j + 1)
+    → cond (says_so answer bit) (with nodes x) nodes ≡ answered answer start (j + 1) s bits cable row
+unfolding answered
+one-more answer start s bits cable row j nodes x bit b e f =
+    rw (b, e, f) (subst⁻¹ (λ (i : ℕ). cond (says_so answer (has bits i)) (with (answered answer start j s bits cable row) (sponsored_row cable row s i)) (answered answer start j s bits cable row) ≡ answered answer start i s bits cable row) (add-one j) refl)
+
+pub loop-j-init : goal.loop-j-init
+unfolding answered
+loop-j-init c =
+    record {
+      below = omega arith;
+      count = c.sponsors-most.ensures;
+      rank_is = c.rank-rank.ensures;
+      here-is = c.has-here.ensures;
+      so_far = c.with-yes.ensures;
+      others = refl;
+    }
+
+pub overflow_add-j : goal.overflow_add-j
+overflow_add-j c = omega arith
+
+pub overflow_add-j-in-loop-j : goal.overflow_add-j-in-loop-j
+overflow_add-j-in-loop-j c =
+    let a = c.args in
+    let few : a.row.length < 2 ^ 32 = search rules in
+    omega (arith, few, c.loop-j.invariant.count)
+
+pub loop-j-smaller : goal.loop-j-smaller
+loop-j-smaller c = omega arith
+
+pub loop-j-preserved : goal.loop-j-preserved
+loop-j-preserved c =
+    let h = c in
+    let b = h in
+    let l = b.loop-j in
+    let a = b.args in
+    let it : b.back-node.result ≡ sponsored_row a.cable a.row a.s (l.j + 1)
+    = b.back-node.ensures ∙ ap₂ (λ (p : ℕ) (here : Bool). back_in a.row p here (l.j + 1 + a.cable.lag)) l.invariant.rank_is l.invariant.here-is in
+    record {
+      below = omega arith;
+      count = l.invariant.count;
+      rank_is = l.invariant.rank_is;
+      here-is = l.invariant.here-is;
+      so_far =
+          c.with_if-yes.ensures
+          ∙ one-more true (with 0 a.s) a.s a.bits a.cable a.row l.j l.«yes» b.back-node.result h.has-bit.result h.has-bit.ensures l.invariant.so_far it;
+      others =
+          c.with_if-no.ensures
+          ∙ one-more false 0 a.s a.bits a.cable a.row l.j l.«no» b.back-node.result h.has-bit.result h.has-bit.ensures l.invariant.others it;
+    }
+
+pub returns : goal.returns
+returns c =
+    let l = c.loop-j in
+    let a = c.args in
+    let last : l.j ≡ sponsors_row a.cable a.row = omega (arith, l.invariant.below, l.invariant.count) in
+    ap₂ (λ (y m : ℕ). record { yes = y; no = m })
+    (l.invariant.so_far ∙ ap (λ (m : ℕ). answered true (with 0 a.s) m a.s a.bits a.cable a.row) last)
+    (l.invariant.others ∙ ap (λ (m : ℕ). answered false 0 m a.s a.bits a.cable a.row) last)

@@ -1,0 +1,72 @@
+-- `node_steps::tracking_slot` meets its contract: its tests are those of the definition, in their order. Assumes nothing.
+use Prim.Native.Nat.{ℕ}
+use mathlib.Core.Path.{◌≡◌, refl, sym, ap, ap₂, ◌∙◌}
+use mathlib.Core.Bool.{Bool, cond}
+use borrow.Author.Rules.{rules}
+use Rattle.row.specs.Inner.{has_row}
+use Rattle.nodeset.proofs.Tests.{chosen, otherwise}
+use Rattle.message.specs.declared.Reading.{Reading}
+use Rattle.node_record.specs.declared.Held.{Held}
+use Rattle.node_record.specs.declared.Cause.TheVariants.{Unconfirmed}
+use Rattle.node_changes.specs.Held.{leave, with_row}
+use Rattle.node_steps.specs.declared.Digest.{Digest}
+use Rattle.node_steps.specs.declared.Effect.{Effect}
+use Rattle.node_steps.specs.declared.Departure.{Departure}
+use Rattle.node_steps.specs.Digests.{decided_where}
+use Rattle.node_steps.specs.Held.{decided_by, effect_of, taken_by, departures, settle, departing_by, tracking_with, tracking_by}
+use Rattle.node_steps.proofs.tracking_slot.Goals as goal
+
+-- the slot by what the code has found: i is whether the sender is in the set, e what the message does, m the decided member
+with-found : (d : Digest) (s : ℕ) (heard : Reading) (v : Held) (i : Bool) (e : Effect) (m : ℕ) → i ≡ has_row v.row s → e ≡ effect_of d s heard v → m ≡ decided_by d s v
+    → tracking_with i e m s v ≡ tracking_by d s heard v
+unfolding tracking_by
+with-found d s heard v i e m p q r =
+    ap (λ (b : Bool). tracking_with b e m s v) p ∙ ap₂ (λ (x : Effect) (y : ℕ). tracking_with (has_row v.row s) x y s v) q r
+
+-- what comes of step 3 of the record w
+abbrev ended : Bool → ℕ → Held → Departure → Held
+ended i s w d = cond d.left (leave Unconfirmed w) (settle i s (with_row d.row w))
+
+-- step 3 of the record w after the first two, with the member x that is decided first
+departs : (i : Bool) (e : Effect) (m s x : ℕ) (v w : Held) (d : Departure) → w ≡ taken_by i s e v → x ≡ decided_where i m → d ≡ departures w.cable.n x s w.row w
+    → ended i s w d ≡ departing_by i (decided_where i m) s (taken_by i s e v)
+departs i e m s x v w d f g h = ap (ended i s w) h ∙ ap₂ (λ (y : ℕ) (u : Held). departing_by i y s u) g f
+
+pub returns-then-inside-effect : goal.returns-then-inside-effect
+returns-then-inside-effect c =
+    let f = c in
+    let a = f.args in
+    c.leave.ensures
+    ∙ sym (chosen _ _ c.if-inside-effect.true)
+    ∙ with-found a.digest a.s a.heard a.v f.has-inside.result f.effect_of-effect.result (decided_by a.digest a.s a.v) f.has-inside.ensures f.effect_of-effect.ensures refl
+
+pub returns-then-departure : goal.returns-then-departure
+returns-then-departure c =
+    let p = c in
+    let x = p in
+    let d = x in
+    let t = d in
+    let f = t in
+    let a = f.args in
+    let i = f.has-inside.result in
+    c.leave-then-departure.ensures
+    ∙ sym (chosen _ _ c.if-departure.true)
+    ∙ departs i f.effect_of-effect.result d.decided_by.result a.s x.decided_where-m.result a.v t.taken-w.result p.departures-departure.result t.taken-w.ensures x.decided_where-m.ensures p.departures-departure.ensures
+    ∙ sym (otherwise _ _ t.if-inside-effect.false)
+    ∙ with-found a.digest a.s a.heard a.v i f.effect_of-effect.result d.decided_by.result f.has-inside.ensures f.effect_of-effect.ensures d.decided_by.ensures
+
+pub returns : goal.returns
+returns c =
+    let p = c in
+    let x = p in
+    let d = x in
+    let t = d in
+    let f = t in
+    let a = f.args in
+    let i = f.has-inside.result in
+    c.settle.ensures
+    ∙ ap (settle i a.s) c.with_row.ensures
+    ∙ sym (otherwise _ _ c.if-departure.false)
+    ∙ departs i f.effect_of-effect.result d.decided_by.result a.s x.decided_where-m.result a.v t.taken-w.result p.departures-departure.result t.taken-w.ensures x.decided_where-m.ensures p.departures-departure.ensures
+    ∙ sym (otherwise _ _ t.if-inside-effect.false)
+    ∙ with-found a.digest a.s a.heard a.v i f.effect_of-effect.result d.decided_by.result f.has-inside.ensures f.effect_of-effect.ensures d.decided_by.ensures

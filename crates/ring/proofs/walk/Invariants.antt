@@ -1,0 +1,20 @@
+-- `ring::walk` meets its contract. The invariant: from where the walk stands it reaches the place that it reaches from its start. Assumes nothing.
+use Prim.Native.Nat.{ℕ, suc, ◌-◌}
+use mathlib.Core.Path.{◌≡◌, refl, sym, ap, ◌∙◌}
+use mathlib.Core.Bool.{Bool, true, false, ◌&&◌}
+use native.Mathlib.Omega.{arith}
+use lib.Dec.{eqb}
+use borrow.Author.Rules.{rules}
+use Rattle.nodeset.specs.Sums.{num}
+use Rattle.nodeset.specs.Sets.{has}
+use Rattle.slot_table.specs.Order.{node_at}
+use Rattle.cable.specs.declared.Cable.{Cable}
+use Rattle.ring.specs.Ring.{previous}
+use Rattle.ring.specs.Places.{reach}
+use Rattle.ring.proofs.walk.Given as goal
+
+abbrev pub invariant-loop-left : goal.invariant-loop-left
+invariant-loop-left l = reach l.left l.cable l.set l.place l.more ≡ reach l.left-2 l.cable l.set l.p l.j
+
+abbrev pub decreases-loop-left : goal.decreases-loop-left
+decreases-loop-left l = l.left

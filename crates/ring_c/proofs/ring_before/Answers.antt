@@ -1,0 +1,12 @@
+-- `ring_c::ring_before` meets its contract: it is the number of what the ring answers. Assumes nothing.
+use mathlib.Core.Path.{ap, ◌∙◌}
+use Rattle.cable.specs.declared.Cable.{Cable}
+use Rattle.ring.specs.Answers.{before_of}
+use Rattle.ring_c.specs.Numbers.{lookup_number}
+use borrow.Author.Rules.{rules}
+use Rattle.ring_c.proofs.ring_before.Goals as goal
+
+pub returns : goal.returns
+returns c =
+    let a = c.args in
+    c.lookup_number.ensures ∙ (ap lookup_number c.before-2.ensures ∙ ap (λ (cable : Cable). lookup_number (before_of cable a.set a.x a.j)) c.cable-cable.ensures)

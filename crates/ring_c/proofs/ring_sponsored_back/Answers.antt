@@ -1,0 +1,12 @@
+-- `ring_c::ring_sponsored_back` meets its contract: it is the distance in what the ring answers. Assumes nothing.
+use mathlib.Core.Path.{ap, ◌∙◌}
+use Rattle.cable.specs.declared.Cable.{Cable}
+use Rattle.ring.specs.Answers.{sponsored_of}
+use Rattle.ring_c.specs.Numbers.{lookup_back}
+use borrow.Author.Rules.{rules}
+use Rattle.ring_c.proofs.ring_sponsored_back.Goals as goal
+
+pub returns : goal.returns
+returns c =
+    let a = c.args in
+    c.lookup_back.ensures ∙ (ap lookup_back c.sponsored.ensures ∙ ap (λ (cable : Cable). lookup_back (sponsored_of cable a.set a.x a.j)) c.cable-cable.ensures)

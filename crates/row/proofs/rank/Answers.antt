@@ -1,0 +1,70 @@
+use borrow.Author.Rules.{rules}
+use borrow.Author.Tests.{eq-eqb, ne_eqb}
+use Prim.Native.Nat.{ℕ, suc, ◌+◌, ◌-◌, ◌≤◌, ◌<◌}
+use mathlib.Core.Path.{◌≡◌, refl, sym, ap, ◌∙◌}
+use mathlib.Core.Logic.{◌≢◌}
+use mathlib.Core.List.{List}
+use native.Mathlib.Omega.{arith}
+use native.Mathlib.Numerals.{add-one}
+use lib.ListN as list
+use Rattle.slot_table.specs.Order.{node_at, place_from, place}
+use Rattle.row.specs.Inner.{passed, rank_in}
+use Rattle.row.proofs.Walked.{passed-next, passed-le}
+use Rattle.row.proofs.rank.Goals as goal
+
+here : (order : List ℕ) (x i : ℕ) → i < 32 → list.get_or order i 0 ≡ x → place_from (32 - i) order x (suc i) ≡ suc i
+unfolding place_from node_at
+here order x i h e = let z : 32 - i ≡ suc (31 - i) = omega arith in ap (λ (m : ℕ). place_from m order x (suc i)) z ∙ rw (eq-eqb (list.get_or order i 0) x e) refl
+
+on : (order : List ℕ) (x i : ℕ) → i < 32 → list.get_or order i 0 ≢ x → place_from (32 - i) order x (suc i) ≡ place_from (32 - (i + 1)) order x (suc (i + 1))
+unfolding place_from node_at
+on order x i h e =
+    let z : 32 - i ≡ suc (31 - i) = omega arith in
+    let y : 31 - i ≡ 32 - (i + 1) = omega arith in
+    ap (λ (m : ℕ). place_from m order x (suc i)) z
+    ∙ rw (ne_eqb (list.get_or order i 0) x e) (ap (λ (m : ℕ). place_from m order x (suc (suc i))) y)
+    ∙ ap (λ (k : ℕ). place_from (32 - (i + 1)) order x (suc k)) (sym (add-one i))
+
+pub loop-i-init : goal.loop-i-init
+unfolding passed place
+loop-i-init c = (omega arith, (refl, refl))
+
+pub returns-then-wide-x : goal.returns-then-wide-x
+unfolding rank_in
+returns-then-wide-x c =
+    let a = c.args in
+    let l = c.loop-i in
+    let found : place a.order a.x - 1 ≡ l.i = omega (arith, l.invariant.1.1, here a.order a.x l.i (omega arith) (sym c.wide.ensures ∙ c.if-wide-x.true)) in
+    l.invariant.1.0 ∙ ap (λ (k : ℕ). passed k a.order a.row.nodes) (sym found)
+
+pub bounds-nodes-p : goal.bounds-nodes-p
+bounds-nodes-p c =
+    let a = c.args in
+    let l = c.loop-i in
+    omega (arith, l.invariant.1.0, passed-le l.i a.order a.row.nodes)
+
+pub overflow_add-i : goal.overflow_add-i
+overflow_add-i c = omega arith
+
+pub loop-i-smaller : goal.loop-i-smaller
+loop-i-smaller c = omega arith
+
+pub loop-i-preserved : goal.loop-i-preserved
+loop-i-preserved c =
+    let a = c.args in
+    let l = c.loop-i in (
+      omega arith,
+      (
+        c.past-p.ensures ∙ passed-next l.i a.order a.row.nodes l.p (omega arith) l.invariant.1.0,
+        l.invariant.1.1 ∙ on a.order a.x l.i (omega arith) (λ e. c.if-wide-x.false (c.wide.ensures ∙ e)),
+      ),
+    )
+
+pub returns : goal.returns
+unfolding rank_in passed place_from
+returns c =
+    let a = c.args in
+    let l = c.loop-i in
+    let last : 32 - l.i ≡ 0 = omega arith in
+    let none : place a.order a.x - 1 ≡ 0 = ap (λ (k : ℕ). k - 1) (l.invariant.1.1 ∙ ap (λ (m : ℕ). place_from m a.order a.x (suc l.i)) last) in
+    sym (ap (λ (k : ℕ). passed k a.order a.row.nodes) none)

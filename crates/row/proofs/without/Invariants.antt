@@ -1,0 +1,18 @@
+-- `row::without` meets its contract. The invariant: the row so far holds those of the first i places that stay. Assumes nothing.
+use borrow.Author.Rules.{rules}
+use Prim.Native.Nat.{ℕ, ◌-◌, ◌≤◌}
+use mathlib.Core.Path.{◌≡◌, refl, ap, ◌∙◌}
+use mathlib.Core.Bool.{not, ◌&&◌}
+use native.Mathlib.Omega.{arith}
+use lib.ListN as list
+use lib.Dec.{eqb}
+use Rattle.row.specs.Rows.{keep, row_for}
+use Rattle.row.specs.Inner.{stays, without_row, row_at}
+use Rattle.row.proofs.Walked.{sifted-next, sifted, sifted-short}
+use Rattle.row.proofs.without.Given as goal
+
+abbrev pub invariant-loop-i : goal.invariant-loop-i
+invariant-loop-i l = (l.i ≤ 32) × ((list.length l.nodes ≡ 32) × (row_at l.at l.rest ≡ row_for (keep (stays l.x) (list.take l.i l.nodes))))
+
+abbrev pub decreases-loop-i : goal.decreases-loop-i
+decreases-loop-i l = 32 - l.i

@@ -1,0 +1,18 @@
+-- `slot_table::plain` meets its contract. The invariant: the first i places are numbered, the others 0. Assumes nothing.
+use Prim.Native.Nat.{ℕ, zero, suc, ◌+◌, ◌-◌, ◌≤◌, ◌<◌, min}
+use mathlib.Core.Path.{◌≡◌, refl, sym, ap, ◌∙◌}
+use mathlib.Core.List.{List, [], ◌∷◌, ◌++◌}
+use native.Mathlib.Omega.{arith}
+use native.Mathlib.Numerals.{add-one}
+use borrow.Author.Rules.{rules}
+use lib.ListN.{replicate, set}
+use lib.Seq.{set_at, append_snoc}
+use Rattle.slot_table.specs.Order.{numbers_from, plain}
+use Rattle.slot_table.proofs.Numbers.{count_of}
+use Rattle.slot_table.proofs.plain.Given as goal
+
+abbrev pub invariant-loop-i : goal.invariant-loop-i
+invariant-loop-i l = (l.i ≤ l.count) × ((l.count ≡ min l.n 32) × (l.order ≡ numbers_from l.i 1 ++ replicate (32 - l.i) 0))
+
+abbrev pub decreases-loop-i : goal.decreases-loop-i
+decreases-loop-i l = l.count - l.i
