@@ -7,10 +7,7 @@ and must-fail edits; names that begin with a capital (types, facts, modules) and
 import glob
 import re
 
-TOKEN = re.compile(r"[A-Za-zα-ωΑ-Ω_][A-Za-z0-9_α-ωΑ-Ω₀-₉'′-]*")
-
-# Hexadecimal bytes in texts, which are no names.
-KEPT = {"xAA", "xFF"}
+TOKEN = re.compile(r"(?<![0-9])[A-Za-zα-ωΑ-Ω_][A-Za-z0-9_α-ωΑ-Ω₀-₉'′-]*")
 
 # Words that would fall together with a field of a record of src/.
 OTHER = {"returnHeard": "heard_return"}
@@ -32,8 +29,6 @@ def segment(text):
 
 
 def spelled(name):
-    if name in KEPT:
-        return name
     if name in OTHER:
         return OTHER[name]
     return "-".join(segment(part) for part in name.split("-"))

@@ -21,7 +21,7 @@
 //   S room lost missed jobs     one slot
 //   Q room lost                 looks at the table
 //
-// `room` is the length of the lent buffer, each byte of it 0x_a5. A call is answered by a byte, 0 or the
+// `room` is the length of the lent buffer, each byte of it 0xA5. A call is answered by a byte, 0 or the
 // refusal's number; by 26 bytes of what it tells (`answers`); by the whole buffer; by all 32 rows; and
 // by all 33 entries, three figures each. K is answered by the array's 2048 bytes, row by row. Any other
 // letter ends the run. Before the first command the table has no row, and a row is of no node; the
@@ -174,7 +174,7 @@ fn run_call(
     room: u8,
     command: Command,
 ) -> State {
-    let mut buffer = [0x_a5u8; 255];
+    let mut buffer = [0xA5u8; 255];
     let ran = call_with(entries, arrays, &mut buffer, room as usize, state, command);
     let held = answers::put_told(output, state.held, ran);
     let held = output::put_block(output, held, &buffer, room);

@@ -28,6 +28,7 @@ length-bytes_of (suc n) a = ap suc (length-bytes_of n (a / 256))
 
 pub bytes_of-bytes : (n a : ℕ) → AreBytes (bytes_of n a)
 unfolding bytes_of
+bytes_of-bytes zero a i below = elim below [ ]
 bytes_of-bytes (suc n) a zero below = omega arith
 bytes_of-bytes (suc n) a (suc i) below = bytes_of-bytes n (a / 256) i (omega arith)
 

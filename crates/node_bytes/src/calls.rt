@@ -66,7 +66,7 @@ fn send_into(node: Held, jobs: u8, out: &mut [u8], room: usize) -> Written {
 // of the buffer's.
 fn send(record: &Block, out: &mut Block, room: u8) -> Outcome {
     let jobs = out[0];
-    out[0] = 0x_a5;
+    out[0] = 0xA5;
     let written = send_into(bytes::held_of(record), jobs, out, room as usize);
     match written {
         Written::Bytes(n) => Outcome { number: 0, sent: n },

@@ -6,7 +6,7 @@
 //   U places n k m lag own slots   set-up, with a slot table of so many places (a byte each), 235 at the
 //                                  most
 //   S size bytes                   one slot, with these bytes heard
-//   T size jobs                    sending, with this job byte, into a buffer of so many bytes, each 0x_a5
+//   T size jobs                    sending, with this job byte, into a buffer of so many bytes, each 0xA5
 //   F                              off
 //   R                              restart
 //   L record                       the record becomes this one; no answer
@@ -162,7 +162,7 @@ fn run_all(input: &mut [u8; 4096], output: &mut [u8; 4096]) -> usize {
     let mut held = 0;
     let mut turns = u64::MAX;
     while turns > 0 {
-        let mut block = [0x_a5u8; 255];
+        let mut block = [0xA5u8; 255];
         let command = read(input, left, &mut block);
         if !is_command(command.letter) {
             return held;

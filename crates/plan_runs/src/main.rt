@@ -9,7 +9,7 @@
 //   E 0 room                 ends the text
 //   A length room text       prints a whole text of so many bytes, 250 at the most
 //
-// `room` (four bytes) is the length of the lent buffer, 20,480 at the most, each byte of it 0x_a5. A call
+// `room` (four bytes) is the length of the lent buffer, 20,480 at the most, each byte of it 0xA5. A call
 // is answered by a byte, 0 or the refusal's number; by the count of bytes (four); by the whole buffer; by
 // the plan and by the part.
 // Any other letter ends the run.
@@ -151,7 +151,7 @@ fn run_room(
 
 // Carries a call out and answers.
 fn call(output: &mut [u8; 4096], state: State, head: Head, block: &Block) -> State {
-    let mut out = [0x_a5u8; 20480];
+    let mut out = [0xA5u8; 20480];
     let room = block::word(block, 0) as usize;
     let plan = state.plan;
     let part = state.part;

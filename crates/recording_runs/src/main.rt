@@ -10,7 +10,7 @@
 //   E 0 room                         ends the text
 //
 // A direction is 0 for three and 1 for two; any other byte stands for 1. `room` (four bytes) is the length
-// of the lent buffer, 20,480 at the most, each byte of it 0x_a5. A call is answered by a byte, 0 or the
+// of the lent buffer, 20,480 at the most, each byte of it 0xA5. A call is answered by a byte, 0 or the
 // refusal's number; by the count of bytes (four); by the whole buffer; by the recording's direction (a
 // byte), lines and length (eight bytes each) and 121 bytes.
 // Any other letter ends the run. Before the first command the recording is that of `N 0`.
@@ -120,7 +120,7 @@ fn run_room(recording: Recording, head: Head, block: &Block, out: &mut [u8], roo
 
 // Carries a call out and answers.
 fn call(output: &mut [u8; 4096], state: Held, head: Head, block: &Block) -> Held {
-    let mut out = [0x_a5u8; 20480];
+    let mut out = [0xA5u8; 20480];
     let room = block::word(block, 0) as usize;
     let recording = state.recording;
     let fed = run_room(recording, head, block, &mut out, room);

@@ -11,7 +11,7 @@
 //   E 0 room                         ends the text
 //   A 0 totals figures               adds figures to totals; the report stays
 //
-// `room` (four bytes) is the length of the lent buffer, 27,648 at the most, each byte of it 0x_a5. F and E
+// `room` (four bytes) is the length of the lent buffer, 27,648 at the most, each byte of it 0xA5. F and E
 // are answered by a byte, 0 or the refusal's number; by the count of bytes (four); by the whole buffer; by
 // plans, fault, figures and totals of the report, its plan and its part. A is answered by such a byte and
 // the totals.
@@ -182,7 +182,7 @@ fn run_room(report: Report, head: Head, block: &Block, out: &mut [u8], room: usi
 
 // Carries a call on the report out and answers.
 fn call(output: &mut [u8; 4096], state: State, head: Head, block: &Block) -> State {
-    let mut out = [0x_a5u8; 27648];
+    let mut out = [0xA5u8; 27648];
     let room = block::word(block, 0) as usize;
     let report = state.report;
     let fed = run_room(report, head, block, &mut out, room);
