@@ -354,14 +354,14 @@ done-told o t out (sound, room) =
     let in-order : Noted no_pairs r qs = subst (Noted no_pairs r) (pairs-are cable slots o t s.rows) (ordered-noted (noted_of o t) ps all_noted (omega (arith, h, most))) in
     let number : length ps ≡ length qs = sym (groups-all ps) ∙ ap length (pairs-are cable slots o t s.rows) in
     let count-is : (noted_of o t).count ≡ length qs = omega (arith, all_noted.count, no-pairs-count, number) in
-    let here : r.count ≡ (noted_of o t).count = omega (arith, in_order.count, no-pairs-count, count-is) in
+    let here : r.count ≡ (noted_of o t).count = omega (arith, in-order.count, no-pairs-count, count-is) in
     let at_most : (noted_of o t).count ≤ 32 = omega (arith, h, most, count-is, number) in
     let test : (leb (noted_of o t).count 32 && leb 64 (length out)) ≡ true = all (le-leb (noted_of o t).count 32 at_most) (le-leb 64 (length out) room) in
     let end_is : cond (leb (noted_of o t).count 32 && leb 64 (length out)) ((noted_of o t).count * 2) 0 ≡ r.count * 2 = chosen ((noted_of o t).count * 2) 0 test ∙ ap (λ (c : ℕ). c * 2) (sym here) in
     let twice : r.count * 2 ≡ length (pair_bytes qs) = omega (arith, here, count-is, bytes-length qs) in (
       count-is,
-      ap (λ (j : ℕ). puts r.bytes j out) end_is ∙ all-put r.bytes out (r.count * 2) (omega (arith, at_most, here, in_order.size)) (omega (arith, at_most, here, room))
-          ∙ ap₂ ◌++◌ (in_order.bytes ∙ ap (λ (j : ℕ). take (j * 2) no_pairs.bytes ++ pair_bytes qs) no-pairs-count) (ap (λ (j : ℕ). drop j out) twice),
+      ap (λ (j : ℕ). puts r.bytes j out) end_is ∙ all-put r.bytes out (r.count * 2) (omega (arith, at_most, here, in-order.size)) (omega (arith, at_most, here, room))
+          ∙ ap₂ ◌++◌ (in-order.bytes ∙ ap (λ (j : ℕ). take (j * 2) no_pairs.bytes ++ pair_bytes qs) no-pairs-count) (ap (λ (j : ℕ). drop j out) twice),
     )
 
 -- ---- a slot: its pairs are those of its changes
