@@ -1,0 +1,18 @@
+-- `plan_text::put_word` meets its contract. The loop's invariant: the first `i` bytes of the word have been put. The measure is what is left of it.
+-- Assumes nothing.
+use Prim.Native.Nat.{ℕ, ◌≤◌, ◌+◌, ◌-◌}
+use mathlib.Core.Path.{◌≡◌, refl, ap, ◌∙◌}
+use mathlib.Core.List.{List}
+use native.Mathlib.Omega.{arith}
+use borrow.Author.Rules.{rules}
+use lib.ListN.{length, take, get_or, set, length-set}
+use lib.Seq.{take-length}
+use Rattle.plan_text.specs.Text.{pasted}
+use Rattle.plan_text.proofs.Paste.{pasted-none, word-turn}
+use Rattle.plan_text.proofs.put_word.Given as goal
+
+abbrev pub invariant-loop-i : goal.invariant-loop-i
+invariant-loop-i l = (l.i ≤ length l.word) × (length l.out ≡ length l.initial.out) × (l.out ≡ pasted l.initial.out l.at (take l.i l.word))
+
+abbrev pub decreases-loop-i : goal.decreases-loop-i
+decreases-loop-i l = length l.word - l.i
