@@ -393,6 +393,7 @@ demand1 = record {
   to-two = to-two;
   set-up = λ choices slots own. sets-up (cable_with choices slots) (length slots) own;
   slot = λ bytes v held. counted (read_of v.cable.k v.cable.m bytes) v held;
+  step = counted;
   send = sends;
   off = switches-off;
   restart = restarts;

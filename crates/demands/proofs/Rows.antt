@@ -19,9 +19,9 @@ use Rattle.node_record.proofs.Facts.{clauses}
 use Rattle.node_record.proofs.Holding.{node-back, held_back}
 use Rattle.node.specs.declared.Answer.{Answer}
 use Rattle.node.specs.declared.Answer.TheVariants as answer
-use Rattle.node.specs.Calls.{Stepped, is_done, slot_of, off_of, restart_of}
+use Rattle.node.specs.Calls.{Stepped, is_done, slot_of, counted_of, off_of, restart_of}
 use Rattle.node.specs.Held.{held_as}
-use Rattle.node.proofs.Standing.{start-stands, slot-stands, off-stands, restart-stands}
+use Rattle.node.proofs.Standing.{start-stands, slot-stands, counted-stands, off-stands, restart-stands}
 use Rattle.bench.specs.declared.Command.{Command}
 use Rattle.bench.specs.declared.Command.TheVariants as command
 use Rattle.bench.specs.Table.{Table}
@@ -94,9 +94,11 @@ as_rows = record {
   bad-row = bad-row-refused;
   set-up = start-stands;
   slot = slot-stands;
+  step = counted-stands;
   off = off-stands;
   restart = restart-stands;
   slot-refused = λ bytes v counts. refused-record v (slot_of bytes (setted v) counts).stepped;
+  step-refused = λ received v counts. refused-record v (counted_of received (setted v) counts).stepped;
   off-refused = λ v. refused-record v (off_of (setted v));
   restart-refused = λ v. refused-record v (restart_of (setted v));
   call = call-stands;

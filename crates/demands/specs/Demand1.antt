@@ -14,6 +14,7 @@ use Rattle.ring.specs.Answers.{sender_of, before_of, sponsored_of, decided_of}
 use Rattle.node_reports.specs.Reports.{Counts}
 use Rattle.message.specs.declared.Reading.{Reading}
 use Rattle.message.specs.declared.Reading.TheVariants as reading
+use Rattle.message.specs.declared.Received.{Received}
 use Rattle.message.specs.declared.Written.{Written}
 use Rattle.message.specs.declared.Written.TheVariants as written
 use Rattle.message.specs.Message.{read_of, write_of}
@@ -24,7 +25,7 @@ use Rattle.node.specs.declared.Answer.{Answer}
 use Rattle.node.specs.declared.Answer.TheVariants as answer
 use Rattle.node_record.specs.declared.Held.{Held}
 use Rattle.node.specs.Held.{setted_of}
-use Rattle.node.specs.Calls.{Stepped, Counted, start_of, slot_of, send_of, off_of, restart_of}
+use Rattle.node.specs.Calls.{Stepped, Counted, start_of, slot_of, counted_of, send_of, off_of, restart_of}
 use Rattle.cover_light.specs.declared.Light.{Light}
 use Rattle.cover_light.specs.declared.Light.TheVariants as light
 use Rattle.cover_light.specs.Light.{level_of, levels_of}
@@ -170,6 +171,7 @@ pub record Demand1 : Type 0 where
   -- the node record; set-up is given none, and sending returns none
   pub set-up : (choices : Choices) (slots : List ℕ) (own : ℕ) → EndsBy (1 ∷ 16 ∷ 2 ∷ 14 ∷ 17 ∷ 18 ∷ 3 ∷ []) (of_answer (start_of choices slots own).stepped.answer)
   pub slot : (bytes : List ℕ) (v : Node) (counts : Counts) → CountsBy (4 ∷ 5 ∷ []) v counts (slot_of bytes v counts)
+  pub step : (received : Received) (v : Node) (counts : Counts) → CountsBy (4 ∷ 5 ∷ []) v counts (counted_of received v counts)
   pub send : (v : Node) (jobs : ℕ) (out : List ℕ) → WritesBy (4 ∷ 5 ∷ 8 ∷ 10 ∷ 9 ∷ []) out (send_of v jobs out)
   pub off : (v : Node) → StepsBy (4 ∷ []) v (off_of v)
   pub restart : (v : Node) → StepsBy (4 ∷ 11 ∷ []) v (restart_of v)

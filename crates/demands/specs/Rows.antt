@@ -4,13 +4,14 @@ use Rattle.std.specs.Prelude.{ℕ, ◌≡◌, true, false, List, [], ◌∷◌}
 use Rattle.cable.specs.declared.Choices.{Choices}
 use Rattle.cable.specs.Cable.{cable_with}
 use Rattle.row.specs.Rows.{sound_row}
+use Rattle.message.specs.declared.Received.{Received}
 use Rattle.node_reports.specs.Reports.{Counts}
 use Rattle.node_record.specs.declared.Node.{Node}
 use Rattle.node_record.specs.declared.Held.{Held}
 use Rattle.node_record.specs.Soundness.{sound}
 use Rattle.node_record.specs.Held.{rowed, setted}
-use Rattle.node.specs.Calls.{is_done, start_of, slot_of, off_of, restart_of}
-use Rattle.node.specs.Held.{start_held, slot_held, off_held, restart_held}
+use Rattle.node.specs.Calls.{is_done, start_of, slot_of, counted_of, off_of, restart_of}
+use Rattle.node.specs.Held.{start_held, slot_held, counted_held, off_held, restart_held}
 use Rattle.bench.specs.declared.Command.{Command}
 use Rattle.bench.specs.declared.Command.TheVariants as command
 use Rattle.bench.specs.Calls.{set_up_of}
@@ -36,10 +37,12 @@ pub record AsRows : Type 0 where
   -- "each step on the row equals the step on the set": what a call leaves stands for what the rules leave of the record that was held, whatever record it is
   pub set-up : (choices : Choices) (slots : List ℕ) (own : ℕ) → setted (start_held choices slots own).stepped.node ≡ (start_of choices slots own).stepped.node
   pub slot : (bytes : List ℕ) (v : Held) (counts : Counts) → setted (slot_held bytes v counts).stepped.node ≡ (slot_of bytes (setted v) counts).stepped.node
+  pub step : (received : Received) (v : Held) (counts : Counts) → setted (counted_held received v counts).stepped.node ≡ (counted_of received (setted v) counts).stepped.node
   pub off : (v : Held) → setted (off_held v).node ≡ (off_of (setted v)).node
   pub restart : (v : Held) → setted (restart_held v).node ≡ (restart_of (setted v)).node
   -- and a refused one leaves the record as it was held (the answers are those of the rules, so demand 1 gives their numbers)
   pub slot-refused : (bytes : List ℕ) (v : Held) (counts : Counts) → let r = (slot_held bytes v counts).stepped in Keeps (of_answer r.answer) v r.node
+  pub step-refused : (received : Received) (v : Held) (counts : Counts) → let r = (counted_held received v counts).stepped in Keeps (of_answer r.answer) v r.node
   pub off-refused : (v : Held) → let r = off_held v in Keeps (of_answer r.answer) v r.node
   pub restart-refused : (v : Held) → let r = restart_held v in Keeps (of_answer r.answer) v r.node
   -- the same of the bench's calls: its ledger, counts, answer and bytes are those of the rules by definition

@@ -236,8 +236,8 @@ fn reporter(heard: Reading, v: Held) -> u32
 }
 
 // One slot, in which the reader found this in the bytes heard; any refused reading is nothing heard.
-// Inner: the job byte is taken as it was read. Refuses by 4 and 5.
-fn step(received: Received, v: Held, counts: [[u64; 8]; 32]) -> Counted
+// It takes every reading, also one that no bytes give. Refuses by 4 and 5.
+pub fn step(received: Received, v: Held, counts: [[u64; 8]; 32]) -> Counted
     ensures { result ≡ counted_held received v counts }
 {
     if !node_reports::counts_within(counts, v.slots) {

@@ -16,13 +16,13 @@ use Rattle.plan_text.specs.Text.{input_of, next_line, PutAt, pasted, refusal_tex
 use Rattle.plan_text.specs.declared.Written.{Written}
 use Rattle.plan_text.specs.declared.Written.TheVariants.{Bytes}
 use Rattle.plan_text.proofs.Paste.{both, empty-take}
-use Rattle.plan_text.specs.Bytewise.{begun_with, RoomFor}
+use Rattle.plan_text.specs.Bytewise.{begun_with}
 use Rattle.plan_text.proofs.Bytewise.{begun-none}
 use Rattle.plan_program.specs.declared.Plan.{Plan}
 use Rattle.plan_program.specs.declared.Part.{Part}
 use Rattle.plan_program.specs.declared.Ahead.{Ahead}
 use Rattle.plan_program.specs.Program.{after_line, end_text, line_text, lines_in, may_end, no_plan, printed, quiet, run_of, text_then, whole_text, Run}
-use Rattle.plan_program.specs.Calls.{bytes_in, fed_as, fed_by, fed_of, finished_of, has_room, laid, part_of, plan_sound, printed_in, run_piece, texts_fed, unfed, PiecesPrint}
+use Rattle.plan_program.specs.Calls.{bytes_in, fed_as, fed_by, fed_of, finished_of, has_room, laid, part_of, plan_sound, printed_in, run_piece, texts_fed, unfed, PiecesPrint, Roomy}
 use Rattle.plan_program.specs.Inner.{Goes}
 use Rattle.plan_program.proofs.Chunks.{chunks}
 use Rattle.plan_program.proofs.Lines.{enough, part_bytes}
@@ -139,7 +139,7 @@ finished : (p : Plan) (x last : List ℕ) → 80 ≤ length last → finished_of
 unfolding written_of
 finished p x last room = simp (le-leb 80 (length last) room) (ap (λ (l : List ℕ). (Bytes (length (end_text p x)), l)) (laid-is (end_text p x) last))
 
-fed-texts : (pieces : List Piece) (p : Plan) (part : Part) (last : List ℕ) → plan_sound p ≡ true → RoomFor 80 80 pieces last
+fed-texts : (pieces : List Piece) (p : Plan) (part : Part) (last : List ℕ) → plan_sound p ≡ true → Roomy pieces last
     → texts_fed p part pieces last ≡ whole_text (run_pieces p (bytes_in part) pieces)
 unfolding texts_fed run_pieces
 fed-texts [] p part last sound room =
@@ -150,7 +150,7 @@ fed-texts (c ∷ more) p part last sound room =
     let r = run_piece p x c.input in
     let begun = take 121 r.rest in
     let next = run_pieces r.plan begun more in
-    rw (fed-some p part c.input c.out sound (le-leb (80 * length c.input) (length c.out) room.0), take_at r.text (drop (length r.text) c.out) (length r.text) refl)
+    rw (fed-some p part c.input c.out sound room.0, take_at r.text (drop (length r.text) c.out) (length r.text) refl)
     (ap (λ (l : List ℕ). r.text ++ l)
     (fed-texts more r.plan (part_of begun) last (sound-run p (begun_with x (lines_in c.input)) sound) room.1
     ∙ ap (λ (y : List ℕ). whole_text (run_pieces r.plan y more)) (part_bytes (replicate 121 0) begun))
@@ -187,7 +187,7 @@ over-pieces (c ∷ more) p x e =
     same-silent (ap (λ (l : List ℕ). text_then l (run_pieces f.plan (take 121 f.rest) more)) first.text) (over-pieces more f.plan (take 121 f.rest) first.over)
 
 -- Where the plan is over nothing is printed, whatever else comes: a program may stop reading.
-pub over-prints-nothing : (p : Plan) (part : Part) (pieces : List Piece) (last : List ℕ) → p.over ≡ true → RoomFor 80 80 pieces last → texts_fed p part pieces last ≡ []
+pub over-prints-nothing : (p : Plan) (part : Part) (pieces : List Piece) (last : List ℕ) → p.over ≡ true → Roomy pieces last → texts_fed p part pieces last ≡ []
 unfolding plan_sound
 over-prints-nothing p part pieces last e room =
     let f = run_pieces p (bytes_in part) pieces in

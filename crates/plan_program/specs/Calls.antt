@@ -1,11 +1,11 @@
 -- What `feed`, `finish` and `print_plan` answer, what they leave in the lent bytes, and the law that ties them.
-use Rattle.std.specs.Prelude.{ℕ, ◌+◌, ◌*◌, ◌≡◌, Bool, true, cond, List, [], ◌∷◌, ◌++◌, eqb, leb, length, take, drop, replicate}
+use Rattle.std.specs.Prelude.{ℕ, ◌+◌, ◌*◌, ◌≡◌, ◌≤◌, Bool, true, cond, List, [], ◌∷◌, ◌++◌, eqb, leb, length, take, drop, replicate}
 use Rattle.refusal.specs.declared.Refusal.{Refusal}
 use Rattle.refusal.specs.Causes.{cause}
 use Rattle.bench.specs.Table.{table_sound}
 use Rattle.bench_by_value.specs.ByValue.{table_of}
 use Rattle.plan_text.specs.Text.{input_of, written_in, written_of, Piece}
-use Rattle.plan_text.specs.Bytewise.{begun_with, RoomFor}
+use Rattle.plan_text.specs.Bytewise.{begun_with}
 use Rattle.plan_text.specs.declared.Written.{Written}
 use Rattle.plan_text.specs.declared.Written.TheVariants.{Bytes, Refused}
 use Rattle.plan_program.specs.declared.Plan.{Plan}
@@ -93,5 +93,10 @@ texts_fed p part (c ∷ more) last =
     let f = fed_of p part c.input c.out in
     written_in f.written f.out ++ texts_fed f.plan f.part more last
 
+-- There is room for what is printed of each piece, and of the end.
+abbrev pub Roomy : List Piece → List ℕ → Type 0
+Roomy [] last = 80 ≤ length last
+Roomy (c ∷ more) last = (has_room c.input c.out ≡ true) × Roomy more last
+
 abbrev pub PiecesPrint : Type 0
-PiecesPrint = (pieces : List Piece) (last : List ℕ) → RoomFor 80 80 pieces last → texts_fed no_plan (part_of []) pieces last ≡ printed (input_of pieces)
+PiecesPrint = (pieces : List Piece) (last : List ℕ) → Roomy pieces last → texts_fed no_plan (part_of []) pieces last ≡ printed (input_of pieces)

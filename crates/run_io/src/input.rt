@@ -1,5 +1,13 @@
-// Standard input, byte by byte, through a buffer. Past the end of the input bytes are read as 0.
+// Input, byte by byte, through a buffer. Past the end of the input bytes are read as 0.
 use crate::block::Block;
+use std::io::Read;
+
+// Where the bytes come from, and the buffer that they come through.
+#[derive(Drop)]
+pub struct Source<R> {
+    pub from: R,
+    pub buffer: [u8; 4096],
+}
 
 // The unread bytes of the buffer are those from `at` up to `end`.
 #[derive(Clone, Copy)]
@@ -16,10 +24,12 @@ pub struct Taken {
 }
 
 // Refills the buffer. After a failed read nothing is unread, as at the end of the input.
-fn refilled(buffer: &mut [u8; 4096]) -> Unread {
-    let got = libc::read(0, buffer);
-    let end = io::count(got, buffer);
-    Unread { at: 0, end: end }
+fn refilled<R: Read>(input: &mut Source<R>) -> Unread {
+    let got = input.from.read(&mut input.buffer);
+    Unread {
+        at: 0,
+        end: got.unwrap_or(0),
+    }
 }
 
 fn first_of(buffer: &[u8; 4096], left: Unread) -> Taken {
@@ -41,26 +51,28 @@ fn first_of(buffer: &[u8; 4096], left: Unread) -> Taken {
     }
 }
 
-pub fn next(buffer: &mut [u8; 4096], left: Unread) -> Taken {
+pub fn next<R: Read>(input: &mut Source<R>, left: Unread) -> Taken {
     let at = left.at;
     let end = left.end;
     if at < end {
-        return first_of(buffer, left);
+        return first_of(&input.buffer, left);
     }
-    let more = refilled(buffer);
-    first_of(buffer, more)
+    let more = refilled(input);
+    first_of(&input.buffer, more)
 }
 
 // The next `length` bytes go into the start of `block`.
-pub fn fill(buffer: &mut [u8; 4096], left: Unread, block: &mut Block, length: u8) -> Unread {
+pub fn fill<R: Read>(
+    input: &mut Source<R>,
+    left: Unread,
+    block: &mut Block,
+    length: u8,
+) -> Unread {
     let mut left = left;
-    let mut i: u8 = 0;
-    while i < length {
-        let taken = next(buffer, left);
+    for i in 0..length {
+        let taken = next(input, left);
         block[i as usize] = taken.byte;
-        let rest = taken.left;
-        left = rest;
-        i += 1;
+        left = taken.left;
     }
     left
 }
@@ -74,10 +86,10 @@ pub struct Head {
 }
 
 // At the end of the input the letter is read as 0.
-pub fn read_head(buffer: &mut [u8; 4096], left: Unread) -> Head {
-    let first = next(buffer, left);
+pub fn read_head<R: Read>(input: &mut Source<R>, left: Unread) -> Head {
+    let first = next(input, left);
     let left = first.left;
-    let second = next(buffer, left);
+    let second = next(input, left);
     let left = second.left;
     Head {
         letter: first.byte,
@@ -87,9 +99,14 @@ pub fn read_head(buffer: &mut [u8; 4096], left: Unread) -> Head {
 }
 
 // The `length` bytes after a command's head go into the start of `block`.
-pub fn fill_after(buffer: &mut [u8; 4096], head: Head, block: &mut Block, length: u8) -> Head {
+pub fn fill_after<R: Read>(
+    input: &mut Source<R>,
+    head: Head,
+    block: &mut Block,
+    length: u8,
+) -> Head {
     let left = head.left;
-    let left = fill(buffer, left, block, length);
+    let left = fill(input, left, block, length);
     Head {
         letter: head.letter,
         byte: head.byte,

@@ -9,12 +9,9 @@ use Rattle.message.proofs.Bytes.{three-lt, little-drop}
 use Rattle.message.proofs.bits_in.Goals as goal
 
 -- at most three bytes have been read before a turn
-small : (c : goal.After-shared_slice_known-1 invariant-loop decreases-loop) → c.loop-i.bits < 2 ^ 24
-small c =
-    let l = c.args.part.now in
-    let i = c.loop-i.i in
-    let e = c.loop-i.invariant.2 in
-    let h : little (drop i l) < 2 ^ 24 = three-lt i l (λ j below. (c.shared-slice-known.given j).fits) (omega arith) in
+small : (i bits : ℕ) (l : List ℕ) → ((j : ℕ) → get_or l j 0 < 256) → length l ≤ i + 3 → bits ≡ little (drop i l) → bits < 2 ^ 24
+small i bits l bytes few e =
+    let h : little (drop i l) < 2 ^ 24 = three-lt i l (λ j below. bytes j) few in
     omega arith
 
 pub loop-i-init : goal.loop-i-init
@@ -22,16 +19,10 @@ unfolding little
 loop-i-init c = (search rules, search rules, sym (ap little (drop-length c.args.part.now)))
 
 pub overflow_mul-bits : goal.overflow_mul-bits
-overflow_mul-bits c = omega (arith, small c)
-
-pub overflow_cast-bits : goal.overflow_cast-bits
-overflow_cast-bits c = omega (arith, c.shared-slice-known.given (c.loop-i.i - 1))
+overflow_mul-bits c = omega (arith, small c.loop-i.i c.loop-i.bits c.args.part.now (λ j. (c.type_inv.part j).fits) (omega arith) c.loop-i.invariant.2)
 
 pub overflow_add-bits : goal.overflow_add-bits
-overflow_add-bits c = omega (arith, small c, c.shared-slice-known.given (c.loop-i.i - 1))
-
-pub loop-i-smaller : goal.loop-i-smaller
-loop-i-smaller c = omega arith
+overflow_add-bits c = omega (arith, small c.loop-i.i c.loop-i.bits c.args.part.now (λ j. (c.type_inv.part j).fits) (omega arith) c.loop-i.invariant.2, (c.type_inv.part (c.loop-i.i - 1)).fits)
 
 pub loop-i-preserved : goal.loop-i-preserved
 loop-i-preserved c =

@@ -18,5 +18,5 @@ put_section-requires c =
 pub returns : goal.returns
 returns c =
     let a = c.args in
-    first-put a.k a.acknowledgements c.length_one-end.result a.out.now c.put_section.new.1.1.0
+    first-put a.k a.acknowledgements c.length_one-end.result a.out.now c.put_section.new.part
     c.length_one-end.ensures (omega arith) c.put_section.ensures

@@ -6,4 +6,4 @@ use Rattle.message.proofs.put_byte_section.Goals as goal
 pub returns : goal.returns
 returns c =
     let a = c.args in
-    byte_put a.count a.bits a.start a.out.now c.put_section.new.1.1.0 (search rules) c.put_section.ensures
+    byte_put a.count a.bits a.start a.out.now c.put_section.new.part (search rules) c.put_section.ensures

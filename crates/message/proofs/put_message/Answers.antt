@@ -12,7 +12,7 @@ pub returns : goal.returns
 returns c =
     let a = c.args in
     let start = c.length_one-end.ensures in
-    let two = c.put_two.new.1.1.1.0 in
-    all-put a.k a.m a.acknowledgements a.return-bit a.jobs a.out.now two c.put_byte_section.new.1.1.1.0
+    let two = c.put_two.new.out in
+    all-put a.k a.m a.acknowledgements a.return_bit a.jobs a.out.now two c.put_byte_section.new.out
     c.put_two.ensures
     (c.put_byte_section.ensures ∙ ap (λ (n : ℕ). take (n + 2) two ++ (job_section a.m a.jobs ++ drop (n + 2 + 2) two)) start)

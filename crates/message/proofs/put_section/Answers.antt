@@ -11,6 +11,7 @@ use Rattle.message.proofs.put_section.Goals as goal
 
 -- the count is stored
 first : (l : List ℕ) (count bits : ℕ) → 1 ≤ length l → take 1 (set l 0 count) ++ bytes_of (length (set l 0 count) - 1) bits ≡ section_of count (length (set l 0 count) - 1) bits
+first [] count bits some = absurd (omega arith)
 first (x ∷ l) count bits some = refl
 
 -- a turn stores the lowest byte of what is left
@@ -29,13 +30,7 @@ last l i rest end =
 
 pub loop-i-init : goal.loop-i-init
 loop-i-init c =
-    (search rules, simp length-set (search rules), refl, first c.args.part.now c.args.count c.args.bits (search rules))
-
-pub overflow_add-i : goal.overflow_add-i
-overflow_add-i c = omega (arith, simp length-set at c.loop-i.invariant.2)
-
-pub loop-i-smaller : goal.loop-i-smaller
-loop-i-smaller c = simp length-set (omega arith)
+    (omega arith, simp length-set c.requires.1, refl, first c.args.part.now c.args.count c.args.bits c.requires.1)
 
 pub loop-i-preserved : goal.loop-i-preserved
 loop-i-preserved c =
@@ -43,9 +38,6 @@ loop-i-preserved c =
     let i = c.loop-i.i in
     let rest = c.loop-i.rest in
     (omega arith, simp length-set (omega arith), length-set l i (rest % 256) ∙ c.loop-i.invariant.2, next l i rest (omega arith) ∙ c.loop-i.invariant.3)
-
-pub shape_of-part : goal.shape_of-part
-shape_of-part c = c.loop-i.invariant.2 ∙ simp length-set
 
 pub returns : goal.returns
 returns c =

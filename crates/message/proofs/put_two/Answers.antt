@@ -14,9 +14,9 @@ returns c =
     let a = c.args in
     let start = c.length_one-start.ensures in
     let n₀ = c.length_one-start.result in
-    let one = c.put_acknowledgements.new.1.1.0 in
-    two-put a.k a.acknowledgements a.return-bit a.out.now one c.put_byte_section.new.1.1.1.0
+    let one = c.put_acknowledgements.new.out in
+    two-put a.k a.acknowledgements a.return_bit a.out.now one c.put_byte_section.new.out
     c.put_acknowledgements.ensures
     (c.put_byte_section.ensures
-    ∙ ap (λ (x : ℕ). take n₀ one ++ (section_of 1 1 x ++ drop (n₀ + 2) one)) (byte-is a.return-bit)
-    ∙ ap (λ (n : ℕ). take n one ++ (return_section a.return-bit ++ drop (n + 2) one)) start)
+    ∙ ap (λ (x : ℕ). take n₀ one ++ (section_of 1 1 x ++ drop (n₀ + 2) one)) (byte-is a.return_bit)
+    ∙ ap (λ (n : ℕ). take n one ++ (return_section a.return_bit ++ drop (n + 2) one)) start)

@@ -5,44 +5,33 @@ use mathlib.Core.Path.{◌≡◌, sym, ap, ◌∙◌}
 use mathlib.Core.Bool.{true}
 use native.Mathlib.Omega.{arith}
 use lib.ListN.{length, take, drop}
-use borrow.Author.Tests.{not-true, not-false, eq-eqb, ne_eqb}
+use borrow.Author.Tests.{eq-eqb, ne_eqb}
 use Rattle.message.specs.Message.{in_range, length_two, section_in}
 use Rattle.message.specs.TwoSections.{read_two_of}
 use Rattle.message.proofs.Tests.{in-range}
 use Rattle.message.proofs.read_two.Goals as goal
 
--- k is in range after the first test
-ranged : (c : goal.Else-not-in_range) → in_range c.args.k ≡ true
-ranged c = sym c.in_range.ensures ∙ not-false c.in_range.result c.if-not-in_range.false
-
--- the length is right after the second
-sized : (c : goal.Else-bytes-start) → length c.args.bytes.now ≡ length_two c.args.k
-sized c = omega (arith, c.if-bytes-start.false, c.length_one-start.ensures)
-
 pub returns-then-not-in_range : goal.returns-then-not-in_range
 unfolding read_two_of
 returns-then-not-in_range c =
-    let wrong = sym c.in_range.ensures ∙ not-true c.in_range.result c.if-not-in_range.true in
+    let wrong = sym c.in_range.ensures ∙ c.if-not-in_range.true in
     simp wrong c.unread.ensures
-
-pub length_one-start-requires : goal.length_one-start-requires
-length_one-start-requires c = (in-range _ (ranged c)).1
 
 pub returns-then-bytes-start : goal.returns-then-bytes-start
 unfolding read_two_of
 returns-then-bytes-start c =
     let a = c.args in
     let wrong : length a.bytes.now ≡ length_two a.k → ⊥ = λ e. c.if-bytes-start.true (omega (arith, e, c.length_one-start.ensures)) in
-    simp (ranged c, ne_eqb (length a.bytes.now) (length_two a.k) wrong) c.unread-then-bytes-start.ensures
-
-pub acknowledgements_in-one-requires : goal.acknowledgements_in-one-requires
-acknowledgements_in-one-requires c = ((in-range _ (ranged c)).1, omega (arith, sized c))
+    let ranged = sym c.in_range.ensures ∙ c.if-not-in_range.false in
+    simp (ranged, ne_eqb (length a.bytes.now) (length_two a.k) wrong) c.unread-then-bytes-start.ensures
 
 pub returns : goal.returns
 unfolding read_two_of
 returns c =
     let a = c.args in
     let start = c.length_one-start.ensures in
-    let right = eq-eqb (length a.bytes.now) (length_two a.k) (sized c) in
+    let ranged = sym c.in_range.ensures ∙ c.if-not-in_range.false in
+    let sized : length a.bytes.now ≡ length_two a.k = omega (arith, c.if-bytes-start.false, start) in
+    let right = eq-eqb (length a.bytes.now) (length_two a.k) sized in
     let two = c.byte_section_in-two.ensures ∙ ap (λ (n : ℕ). section_in 1 (take 2 (drop n a.bytes.now))) start in
-    simp (ranged c, right) (cc (c.said_by.ensures, two, c.acknowledgements_in-one.ensures))
+    simp (ranged, right) (cc (c.said_by.ensures, two, c.acknowledgements_in-one.ensures))

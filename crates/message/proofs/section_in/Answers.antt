@@ -5,8 +5,5 @@ use native.Mathlib.Omega.{arith}
 use Rattle.message.proofs.Tests.{shifted-out}
 use Rattle.message.proofs.section_in.Goals as goal
 
-pub overflow_cast-result : goal.overflow_cast-result
-overflow_cast-result c = omega (arith, c.shared-slice-known2.given 0)
-
 pub returns : goal.returns
 returns c = simp (shifted-out, c.bits_in-bits.ensures)

@@ -9,4 +9,4 @@ pub returns : goal.returns
 returns c =
     let v = c.args.v in
     ap₂ ◌&&◌ c.is_sound.ensures
-    (ap₂ ◌&&◌ c.is_Within.ensures (c.is_subset.ensures ∙ ap (subset v.present) c.nodes_in.ensures))
+    (ap₂ ◌&&◌ c.is_within.ensures (c.is_subset.ensures ∙ ap (subset v.present) c.nodes_in.ensures))

@@ -12,7 +12,7 @@ returns c =
     let a = c.args in
     let w = a.w in
     ap (λ (b : Bool). ltb w.done a.cable.n && b)
-    (ap₂ ◌&&◌ c.is_Within.ensures
+    (ap₂ ◌&&◌ c.is_within.ensures
     (ap (λ (b : Bool). leb w.shortest a.cable.k && (implies (eqb w.heard 0) (eqb w.shortest a.cable.k) && b))
     (ap₂ ◌&&◌ c.is_within-2.ensures
     (ap₂ ◌&&◌ (ap (λ (m : ℕ). eqb w.last 0 || leb 2 m) c.size.ensures)

@@ -13,11 +13,28 @@ use Rattle.ring.specs.Ring.{turn, sender}
 use Rattle.cable.proofs.Ranges.{ring-size}
 use Rattle.ring.proofs.sender.Goals as goal
 
-good : (c : goal.Else-not-is_ring_size) → ring_size c.args.cable.n ≡ true
-good c = passed c.is_ring_size.ensures c.if-not-is_ring_size.false
-
-range : (c : goal.Else-not-is_ring_size) → (3 ≤ c.args.cable.n) × (c.args.cable.n ≤ 32)
-range c = ring-size c.args.cable.n (good c)
-
 pub returns-then-not-is_ring_size : goal.returns-then-not-is_ring_size
 returns-then-not-is_ring_size c = simp (failed c.is_ring_size.ensures c.if-not-is_ring_size.true)
+
+pub nonzero_rem-place : goal.nonzero_rem-place
+nonzero_rem-place c =
+    let good : ring_size c.args.cable.n ≡ true = passed c.is_ring_size.ensures c.if-not-is_ring_size.false in
+    omega (arith, ring-size c.args.cable.n good)
+
+pub overflow_cast-place-2 : goal.overflow_cast-place-2
+overflow_cast-place-2 c =
+    let good : ring_size c.args.cable.n ≡ true = passed c.is_ring_size.ensures c.if-not-is_ring_size.false in
+    omega (arith, ring-size c.args.cable.n good)
+
+pub overflow_add-place : goal.overflow_add-place
+overflow_add-place c =
+    let good : ring_size c.args.cable.n ≡ true = passed c.is_ring_size.ensures c.if-not-is_ring_size.false in
+    omega (arith, ring-size c.args.cable.n good)
+
+pub returns : goal.returns
+unfolding sender turn
+returns c =
+    let a = c.args in
+    let z : a.done ≡ a.done + 1 - 1 = omega arith in
+    let good : ring_size a.cable.n ≡ true = passed c.is_ring_size.ensures c.if-not-is_ring_size.false in
+    ap (λ (x : ℕ). Node x) (c.node_at-x.ensures ∙ ap (λ (s : ℕ). node_at a.cable.order (s % a.cable.n + 1)) z) ∙ sym (chosen _ _ good)
