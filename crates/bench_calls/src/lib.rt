@@ -38,8 +38,8 @@ pub fn call(
     slots: &[u8],
     command: Command,
 ) -> Reply
-    ensures { (record { table = table.exit.now; ledger = ledger.new; counts = counts.new; reply = result } ≡ kept_held command slots.now (length pairs.old) ledger.old counts.old table.entry.now)
-        × (pairs.new ≡ bytes_with command slots.now ledger.old counts.old (setted_all table.entry.now) pairs.old) }
+    ensures { (record { table = table.new; ledger = ledger.new; counts = counts.new; reply = result } ≡ kept_held command slots.now (length pairs.old) ledger.old counts.old table.old)
+        × (pairs.new ≡ bytes_with command slots.now ledger.old counts.old (setted_all table.old) pairs.old) }
 {
     let size = table.len();
     let cable = bench_work::cable_in(slots, command);

@@ -2,6 +2,7 @@
 // and a kind, those that left first; who left and who joined; the list, and whether all members hold it.
 // What a record is to do is in bench_orders.
 #![tactic(auto)]
+
 mod kinds;
 
 ghost use Rattle.std.specs.Prelude.{◌≡◌, ◌<◌, min};

@@ -5,7 +5,9 @@
 use bench::{Fate, Listed, Outcome};
 use bench_by_value::Ran;
 use run_io::block::Block;
+use run_io::output::Sink;
 use run_io::{block, output};
+use std::io::Write;
 
 fn fate_number(fate: Fate) -> u8 {
     match fate {
@@ -42,7 +44,7 @@ fn set_told(answer: &mut Block, outcome: Outcome) {
     }
 }
 
-pub fn put_told(output: &mut [u8; 4096], held: usize, ran: Ran) -> usize {
+pub fn put_told<W: Write>(output: &mut Sink<W>, held: usize, ran: Ran) -> usize {
     let mut answer = [0u8; 255];
     let outcome = ran.outcome;
     set_told(&mut answer, outcome);

@@ -1,6 +1,8 @@
 // The arrays of counts of failure reports, one a node: one count loaded, and one array put out.
 use node_bytes::counts;
 use run_io::block::Block;
+use run_io::output::Sink;
+use std::io::Write;
 
 // The count of array i that the command names becomes the one that it has; an array, row or job that
 // there is not leaves all counts.
@@ -11,8 +13,8 @@ pub fn load(arrays: &mut [[[u64; 8]; 32]; 33], i: usize, block: &Block) {
 }
 
 // Array i, and the first where there is no such array.
-pub fn put_array(
-    output: &mut [u8; 4096],
+pub fn put_array<W: Write>(
+    output: &mut Sink<W>,
     held: usize,
     arrays: &[[[u64; 8]; 32]; 33],
     i: usize,

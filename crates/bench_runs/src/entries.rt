@@ -1,6 +1,8 @@
 // The entries of the ledger: read from a command, and put out as three figures of eight bytes each.
 use run_io::block::Block;
+use run_io::output::Sink;
 use run_io::{block, output};
+use std::io::Write;
 
 // Entry i, if there is one, becomes the three figures of the command.
 pub fn load(entries: &mut [[u64; 3]], i: usize, block: &Block) {
@@ -13,7 +15,7 @@ pub fn load(entries: &mut [[u64; 3]], i: usize, block: &Block) {
     }
 }
 
-fn put_entry(output: &mut [u8; 4096], held: usize, entry: [u64; 3]) -> usize {
+fn put_entry<W: Write>(output: &mut Sink<W>, held: usize, entry: [u64; 3]) -> usize {
     let mut answer = [0u8; 255];
     block::set_long_word(&mut answer, 0, entry[0]);
     block::set_long_word(&mut answer, 8, entry[1]);
@@ -21,12 +23,10 @@ fn put_entry(output: &mut [u8; 4096], held: usize, entry: [u64; 3]) -> usize {
     output::put_block(output, held, &answer, 24)
 }
 
-pub fn put_entries(output: &mut [u8; 4096], held: usize, entries: &[[u64; 3]]) -> usize {
+pub fn put_entries<W: Write>(output: &mut Sink<W>, held: usize, entries: &[[u64; 3]]) -> usize {
     let mut held = held;
-    let mut i = 0;
-    while i < entries.len() {
-        held = put_entry(output, held, entries[i]);
-        i += 1;
+    for entry in entries {
+        held = put_entry(output, held, *entry);
     }
     held
 }

@@ -38,8 +38,11 @@ use cable::Choices;
 use node_bytes::{bytes, rows};
 use node_record::Held;
 use run_io::block::Block;
-use run_io::input::{Head, Unread};
+use run_io::input::{Head, Source, Unread};
+use run_io::output::Sink;
 use run_io::{block, input, output};
+use std::io;
+use std::io::{Read, Write};
 
 // What there is from one command to the next beside the entries and the arrays: the rows, how many are
 // the table, how many entries are the ledger, how many arrays are lent, the slot table and how many places
@@ -79,7 +82,7 @@ fn body(letter: u8, byte: u8) -> u8 {
 }
 
 // A whole command; its further bytes go into the start of `block`.
-fn read(input: &mut [u8; 4096], left: Unread, block: &mut Block) -> Head {
+fn read<R: Read>(input: &mut Source<R>, left: Unread, block: &mut Block) -> Head {
     let head = input::read_head(input, left);
     input::fill_after(input, head, block, body(head.letter, head.byte))
 }
@@ -166,8 +169,8 @@ fn call_with(
 }
 
 // Carries a call out and answers.
-fn run_call(
-    output: &mut [u8; 4096],
+fn run_call<W: Write>(
+    output: &mut Sink<W>,
     entries: &mut [[u64; 3]; 33],
     arrays: &mut [[[u64; 8]; 32]; 33],
     state: State,
@@ -188,8 +191,8 @@ fn run_call(
 }
 
 // The commands on the arrays alone.
-fn run_counts(
-    output: &mut [u8; 4096],
+fn run_counts<W: Write>(
+    output: &mut Sink<W>,
     arrays: &mut [[[u64; 8]; 32]; 33],
     state: State,
     head: Head,
@@ -241,8 +244,8 @@ fn prepared(entries: &mut [[u64; 3]; 33], state: State, head: Head, block: &Bloc
     next
 }
 
-fn run(
-    output: &mut [u8; 4096],
+fn run<W: Write>(
+    output: &mut Sink<W>,
     entries: &mut [[u64; 3]; 33],
     arrays: &mut [[[u64; 8]; 32]; 33],
     state: State,
@@ -264,8 +267,8 @@ fn run(
     }
 }
 
-// A proved loop has to end, so it counts its turns down, from a number that no run uses up.
-fn run_all(input: &mut [u8; 4096], output: &mut [u8; 4096]) -> usize {
+// A proved loop has to end, so it counts its turns, up to a number that no run reaches.
+fn run_all<R: Read, W: Write>(input: &mut Source<R>, output: &mut Sink<W>) -> usize {
     let mut left = Unread { at: 0, end: 0 };
     let mut entries = [[0u64; 3]; 33];
     let mut arrays = [node_reports::NO_REPORTS; 33];
@@ -278,8 +281,7 @@ fn run_all(input: &mut [u8; 4096], output: &mut [u8; 4096]) -> usize {
         places: 0,
         held: 0,
     };
-    let mut turns = u64::MAX;
-    while turns > 0 {
+    for _ in 0..u64::MAX {
         let mut block = [0u8; 255];
         let head = read(input, left, &mut block);
         if !is_command(head.letter) {
@@ -288,14 +290,19 @@ fn run_all(input: &mut [u8; 4096], output: &mut [u8; 4096]) -> usize {
         state = run(output, &mut entries, &mut arrays, state, head, &block);
         let rest = head.left;
         left = rest;
-        turns -= 1;
     }
     state.held
 }
 
-fn main() {
-    let mut input = [0u8; 4096];
-    let mut output = [0u8; 4096];
+fn main(rt: HostRuntime) {
+    let mut input = Source {
+        from: rt.reader(),
+        buffer: [0; 4096],
+    };
+    let mut output = Sink {
+        to: io::writer(&rt),
+        buffer: [0; 4096],
+    };
     let held = run_all(&mut input, &mut output);
-    output::flush(&output, held);
+    output::flush(&mut output, held);
 }

@@ -2,6 +2,7 @@
 // record do what is ordered, one gathers the members' sets; a glimpse reads three records. They have no
 // branches; what is decided and done to a record is in bench_orders, what is noted of it in bench_notes.
 #![tactic(auto)]
+
 ghost use Rattle.std.specs.Prelude.{◌≡◌, ◌≤◌, min, length, take};
 ghost use Rattle.bench_orders.specs.Survey.{glimpse_of, survey_of, members_of};
 ghost use Rattle.bench_orders.specs.Orders.{carried_from, notes_of};

@@ -5,72 +5,94 @@
 #![tactic(auto)]
 use converter_text::{Direction, Fed, Recording};
 use plan_text::Written;
+use std::io;
+use std::io::Read;
+use std::rt::Env;
 
 // Writes what was printed, and tells whether that could be done.
-fn write(output: &[u8], written: Written) -> bool {
+fn write(rt: &impl Print, output: &[u8], written: Written) -> bool {
     let Written::Bytes(count) = written else {
         return false;
     };
     if output.len() < count {
         return false;
     }
-    io::write_all(1, &output[0..count])
+    rt.write_all(&output[0..count]).is_ok()
 }
 
 // Converts the piece that was read: the first bytes of `input`.
-fn convert_piece(recording: Recording, input: &[u8], got: isize, output: &mut [u8]) -> Fed {
-    let end = io::count(got, input);
+fn convert_piece(recording: Recording, input: &[u8], got: usize, output: &mut [u8]) -> Fed {
+    let end = got.min(input.len());
     converter_text::feed(recording, &input[..end], output)
 }
 
 // Ends the recording where the input ended. A failed read is no end of it: nothing is printed of it.
-fn end_recording(recording: Recording, got: isize, output: &mut [u8]) {
-    if got < 0 {
-        io::write_all(2, b"the input cannot be read\n");
+fn end_recording(
+    rt: &(impl Print + Eprint),
+    recording: Recording,
+    got: io::Result<usize>,
+    output: &mut [u8],
+) {
+    if got.is_err() {
+        let _ = rt.eprint("the input cannot be read\n");
         return;
     }
     let written = converter_text::finish(recording, output);
-    write(output, written);
+    write(rt, output, written);
 }
 
 // Reads pieces until the input ends. The output holds 80 bytes for each byte of a piece, all that can
 // be printed of it. Nobody reads u64::MAX pieces.
-fn convert(start: Recording, input: &mut [u8; 4096], output: &mut [u8; 327680]) {
+fn convert(
+    rt: &(impl Input + Print + Eprint),
+    start: Recording,
+    input: &mut [u8; 4096],
+    output: &mut [u8; 327680],
+) {
     let mut recording = start;
-    let mut reads: u64 = 0;
-    while reads < u64::MAX {
-        reads += 1;
-        let got = libc::read(0, input);
-        if got <= 0 {
-            end_recording(recording, got, output);
+    let mut reader = rt.reader();
+    for _ in 0..u64::MAX {
+        let got = reader.read(input);
+        let length = got.unwrap_or(0);
+        if length == 0 {
+            end_recording(rt, recording, got, output);
             return;
         }
-        let fed = convert_piece(recording, input, got, output);
+        let fed = convert_piece(recording, input, length, output);
         let next = fed.recording;
         let written = fed.written;
-        if !write(output, written) {
+        if !write(rt, output, written) {
             return;
         }
         recording = next;
     }
 }
 
-fn convert_to(direction: Direction) {
+fn convert_to(rt: &(impl Input + Print + Eprint), direction: Direction) {
     let mut input: [u8; 4096] = [0; 4096];
     let mut output: [u8; 327680] = [0; 327680];
-    convert(converter_text::start(direction), &mut input, &mut output);
+    convert(rt, converter_text::start(direction), &mut input, &mut output);
 }
 
-fn main() {
+// The form that the first argument names; none where there is no such argument.
+fn named(rt: &impl Env) -> Option<Direction> {
     let mut name: [u8; 8] = [0; 8];
-    let length = os::arg(1, &mut name);
-    if check::same(&name[..length], b"three") {
-        convert_to(Direction::Three);
-        return;
+    let length = rt.arg(1, &mut name).unwrap_or(0);
+    let given = name.get(..length)?;
+    if given == b"three" {
+        return Some(Direction::Three);
     }
-    if check::same(&name[..length], b"two") {
-        convert_to(Direction::Two);
-        return;
+    if given == b"two" {
+        return Some(Direction::Two);
     }
-    io::write_all(2, b"the argument is three or two\n");
+    None
+}
+
+fn main(rt: HostRuntime) {
+    match named(&rt) {
+        Some(direction) => convert_to(&rt, direction),
+        None => {
+            let _ = rt.eprint("the argument is three or two\n");
+        }
+    }
 }

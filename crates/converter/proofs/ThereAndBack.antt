@@ -1,6 +1,6 @@
 -- Request i: both directions from the laws of a form (`Form`) and of a conversion between two (`Turns`), so that each direction is an instance of one proof.
 -- Assumes nothing.
-use Prim.Native.Nat.{ℕ, ◌+◌, ◌≤◌, ◌^◌}
+use Prim.Native.Nat.{ℕ, ◌≤◌, ◌^◌}
 use mathlib.Core.Path.{◌≡◌, refl, sym, ap, ◌∙◌}
 use mathlib.Core.List.{List, ◌++◌}
 use mathlib.Core.Bool.{Bool, true, false, ◌&&◌}
@@ -13,7 +13,6 @@ use Rattle.cable.specs.Cable.{job_count}
 use Rattle.message.specs.declared.Reading.{Reading}
 use Rattle.message.specs.declared.Reading.TheVariants as reading
 use Rattle.message.specs.declared.Received.{Received}
-use Rattle.message.specs.declared.Written.TheVariants as written
 use Rattle.message.specs.Message.{AreBytes, Outcome, heard, if_written, in_range, jobs_within, length_of, length_two, message_of, read_of, two_sections, write_of, wrote}
 use Rattle.message.specs.TwoSections.{read_two_of, write_two_of}
 use Rattle.message.proofs.Parts.{length-two}

@@ -2,6 +2,7 @@
 // back. A conversion reads one form and writes the other; what the forms are stands in `message`.
 // One message at a time; whole files of them, as text, are `converter_text`.
 #![tactic(auto)]
+
 ghost use Rattle.std.specs.Prelude.{◌≡◌};
 ghost use Rattle.converter.specs.Converter.{job_count_in, read_any_of, to_three_of, to_two_of};
 

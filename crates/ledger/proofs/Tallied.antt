@@ -28,10 +28,9 @@ use Rattle.node.specs.declared.Answer.{Answer}
 use Rattle.node.specs.declared.Answer.TheVariants.{Done, Refused}
 use Rattle.node.specs.Calls as node
 use Rattle.bench.specs.Table.{Table, record_of, node_count, slots_of, table_sound}
-use Rattle.bench.specs.Calls.{Called, done, set_up_of, slot_of, off_of, restart_of}
+use Rattle.bench.specs.Calls.{Called, set_up_of, slot_of, off_of, restart_of}
 use Rattle.bench.specs.Ledger.{Ledger, Figures, figures, counts_fit, all_fit, ledger_fits, is_leaving, is_joining, figures_after, entries_from, ledger_after}
 use Rattle.bench.specs.declared.Command.TheVariants as command
-use Rattle.bench.specs.declared.Outcome.TheVariants as outcome
 use Rattle.bench.specs.Reports.{reports_fit, jobs_on}
 use Rattle.bench.specs.Outcomes.{slot_given}
 use Rattle.bench.specs.Kept.{slot_with, off_with, date_of, ledger_with, kept_of}

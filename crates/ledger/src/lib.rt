@@ -3,6 +3,7 @@
 // An inner layer: it tests nothing but the ledger; the bench's call asks it. That ledger and counts are the
 // tallies of what happened is specs/Tallies and specs/Reported.
 #![tactic(auto)]
+
 ghost use Rattle.std.specs.Prelude.{◌≡◌, ◌+◌, leb};
 ghost use Rattle.bench.specs.Ledger.{all_fit, ledger_fits, counts_fit};
 ghost use Rattle.ledger.specs.Entered.{entered, entry_after, one_more};

@@ -2,6 +2,7 @@
 // the bits that are counted, lowest first. A message has three of them (request h); recorded ones have the first two.
 // What a node puts into a message is in node_sending.
 #![tactic(auto)]
+
 ghost use Rattle.std.specs.Prelude.{◌≡◌, ◌++◌, ◌+◌, ◌-◌, ◌^◌, ◌≤◌, ◌<◌, ◌&&◌, ltb, length, take, drop};
 ghost use Rattle.message.specs.Message.{acknowledgement_section, bits_in, in_range, jobs_within, length_of, length_one, length_two, message_of, part_one, read_of, said_by, section_in, section_of, two_sections, unread, write_of};
 ghost use Rattle.message.specs.TwoSections.{read_two_of, write_two_of};

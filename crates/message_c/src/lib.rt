@@ -1,6 +1,7 @@
 // The reader, the writer and the converter for callers in Rust and C, which take and give numbers and
 // slices alone. Each answers what the function of its name does.
 #![tactic(auto)]
+
 ghost use Rattle.std.specs.Prelude.{◌≡◌};
 ghost use Rattle.message.specs.Message.{read_of, write_of};
 ghost use Rattle.message.specs.TwoSections.{read_two_of, write_two_of};

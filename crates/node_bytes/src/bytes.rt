@@ -104,10 +104,8 @@ fn set_window(bytes: &mut Block, window: Window) {
 // 32 places, from this byte on; none where there are not so many bytes.
 fn set_places(bytes: &mut Block, at: usize, places: [u8; 32]) {
     if at <= 223 {
-        let mut i = 0;
-        while i < 32 {
+        for i in 0..32 {
             bytes[i + at] = places[i];
-            i += 1;
         }
     }
 }

@@ -1,6 +1,8 @@
 // The counts of failure reports: one loaded from a command, and all put out, eight bytes each.
 use run_io::block::Block;
+use run_io::output::Sink;
 use run_io::{block, output};
+use std::io::Write;
 
 // A row or job that there is not leaves all counts.
 fn set_count(counts: &mut [[u64; 8]; 32], row: u8, job: u8, count: u64) {
@@ -14,7 +16,7 @@ pub fn load(counts: &mut [[u64; 8]; 32], block: &Block) {
     set_count(counts, block[0], block[1], block::long_word(block, 2));
 }
 
-fn put_row(output: &mut [u8; 4096], held: usize, row: [u64; 8]) -> usize {
+fn put_row<W: Write>(output: &mut Sink<W>, held: usize, row: [u64; 8]) -> usize {
     let mut answer = [0u8; 255];
     block::set_long_word(&mut answer, 0, row[0]);
     block::set_long_word(&mut answer, 8, row[1]);
@@ -27,12 +29,10 @@ fn put_row(output: &mut [u8; 4096], held: usize, row: [u64; 8]) -> usize {
     output::put_block(output, held, &answer, 64)
 }
 
-pub fn put_counts(output: &mut [u8; 4096], held: usize, counts: &[[u64; 8]; 32]) -> usize {
+pub fn put_counts<W: Write>(output: &mut Sink<W>, held: usize, counts: &[[u64; 8]; 32]) -> usize {
     let mut held = held;
-    let mut i = 0;
-    while i < 32 {
-        held = put_row(output, held, counts[i]);
-        i += 1;
+    for row in counts {
+        held = put_row(output, held, *row);
     }
     held
 }

@@ -2,6 +2,8 @@
 use crate::bytes;
 use node_record::Held;
 use run_io::output;
+use run_io::output::Sink;
+use std::io::Write;
 
 // A row that there is not stays as it is.
 pub fn loaded(rows: [Held; 32], row: usize, record: Held) -> [Held; 32] {
@@ -12,18 +14,16 @@ pub fn loaded(rows: [Held; 32], row: usize, record: Held) -> [Held; 32] {
     rows
 }
 
-fn put_row(output: &mut [u8; 4096], held: usize, row: Held) -> usize {
+fn put_row<W: Write>(output: &mut Sink<W>, held: usize, row: Held) -> usize {
     let mut record = [0u8; 255];
     bytes::set_held(&mut record, row);
     output::put_block(output, held, &record, bytes::RECORD)
 }
 
-pub fn put_rows(output: &mut [u8; 4096], held: usize, rows: [Held; 32]) -> usize {
+pub fn put_rows<W: Write>(output: &mut Sink<W>, held: usize, rows: [Held; 32]) -> usize {
     let mut held = held;
-    let mut i = 0;
-    while i < 32 {
-        held = put_row(output, held, rows[i]);
-        i += 1;
+    for row in rows {
+        held = put_row(output, held, row);
     }
     held
 }

@@ -1,6 +1,7 @@
 // Held records made anew: whole ones, and copies with a field changed. An inner layer: it takes
 // every record as it is; the calls of `node` test records first.
 #![tactic(auto)]
+
 ghost use Rattle.std.specs.Prelude.{◌≡◌};
 ghost use Rattle.node_changes.specs.Held.{starting, out_for, listening_after, fresh, following_with, leave, with_row, with_marks, with_returning, with_window};
 

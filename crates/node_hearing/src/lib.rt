@@ -1,6 +1,7 @@
 // One slot for a listening node, by its held record. An inner layer: it takes every record as it is;
 // the calls of `node` test records first.
 #![tactic(auto)]
+
 ghost use Rattle.std.specs.Prelude.{◌≡◌};
 ghost use Rattle.node_hearing.specs.Hearing.{overheard, with_done, clean};
 ghost use Rattle.node_hearing.specs.Held.{window_end, listening_by};

@@ -2,6 +2,7 @@
 // speak of a record with a set (`Node`); what is held has the set as a row (`Held`, document 02, request
 // l), and stands for such a record. An inner layer: it takes every record as it is.
 #![tactic(auto)]
+
 ghost use Rattle.std.specs.Prelude.{◌≡◌};
 ghost use Rattle.node_record.specs.States.{is_member, is_listening, is_following, is_knocking, is_out};
 ghost use Rattle.node_record.specs.Soundness.{numbers_sound, knock_sound, heard_sound, yes_sound, window_in_range, window_empty, window_sound, sound};

@@ -24,8 +24,11 @@
 use node_bytes::calls::Outcome;
 use node_bytes::{bytes, calls, counts};
 use run_io::block::Block;
-use run_io::input::Unread;
+use run_io::input::{Source, Unread};
+use run_io::output::Sink;
 use run_io::{input, output};
+use std::io;
+use std::io::{Read, Write};
 
 // A command: its letter, and its size if it has one.
 #[derive(Clone, Copy)]
@@ -43,7 +46,7 @@ fn is_command(letter: u8) -> bool {
 }
 
 // The letter and the size. At the end of the input the letter is read as 0.
-fn head(input: &mut [u8; 4096], left: Unread) -> Command {
+fn head<R: Read>(input: &mut Source<R>, left: Unread) -> Command {
     let first = input::next(input, left);
     let letter = first.byte;
     let left = first.left;
@@ -84,7 +87,7 @@ fn body(letter: u8, size: u8) -> u8 {
 }
 
 // A whole command; its further bytes go into the start of `block`.
-fn read(input: &mut [u8; 4096], left: Unread, block: &mut Block) -> Command {
+fn read<R: Read>(input: &mut Source<R>, left: Unread, block: &mut Block) -> Command {
     let command = head(input, left);
     let letter = command.letter;
     let size = command.size;
@@ -98,13 +101,13 @@ fn read(input: &mut [u8; 4096], left: Unread, block: &mut Block) -> Command {
 }
 
 // The number, and the first `length` bytes of a record.
-fn answer(output: &mut [u8; 4096], held: usize, number: u32, record: &Block, length: u8) -> usize {
+fn answer<W: Write>(output: &mut Sink<W>, held: usize, number: u32, record: &Block, length: u8) -> usize {
     let held = output::put(output, held, (number % 256) as u8);
     output::put_block(output, held, record, length)
 }
 
-fn answer_to_send(
-    output: &mut [u8; 4096],
+fn answer_to_send<W: Write>(
+    output: &mut Sink<W>,
     held: usize,
     block: &Block,
     size: u8,
@@ -116,8 +119,8 @@ fn answer_to_send(
 }
 
 // Carries a call out and answers.
-fn run_call(
-    output: &mut [u8; 4096],
+fn run_call<W: Write>(
+    output: &mut Sink<W>,
     held: usize,
     record: &mut Block,
     counts: &mut [[u64; 8]; 32],
@@ -135,8 +138,8 @@ fn run_call(
 }
 
 // Carries a command out and answers.
-fn run(
-    output: &mut [u8; 4096],
+fn run<W: Write>(
+    output: &mut Sink<W>,
     held: usize,
     record: &mut Block,
     counts: &mut [[u64; 8]; 32],
@@ -154,14 +157,13 @@ fn run(
     }
 }
 
-// A proved loop has to end, so it counts its turns down, from a number that no run uses up.
-fn run_all(input: &mut [u8; 4096], output: &mut [u8; 4096]) -> usize {
+// A proved loop has to end, so it counts its turns, up to a number that no run reaches.
+fn run_all<R: Read, W: Write>(input: &mut Source<R>, output: &mut Sink<W>) -> usize {
     let mut record = bytes::first();
     let mut counts = node_reports::NO_REPORTS;
     let mut left = Unread { at: 0, end: 0 };
     let mut held = 0;
-    let mut turns = u64::MAX;
-    while turns > 0 {
+    for _ in 0..u64::MAX {
         let mut block = [0xA5u8; 255];
         let command = read(input, left, &mut block);
         if !is_command(command.letter) {
@@ -170,14 +172,19 @@ fn run_all(input: &mut [u8; 4096], output: &mut [u8; 4096]) -> usize {
         held = run(output, held, &mut record, &mut counts, &mut block, command);
         let rest = command.left;
         left = rest;
-        turns -= 1;
     }
     held
 }
 
-fn main() {
-    let mut input = [0u8; 4096];
-    let mut output = [0u8; 4096];
+fn main(rt: HostRuntime) {
+    let mut input = Source {
+        from: rt.reader(),
+        buffer: [0; 4096],
+    };
+    let mut output = Sink {
+        to: io::writer(&rt),
+        buffer: [0; 4096],
+    };
     let held = run_all(&mut input, &mut output);
-    output::flush(&output, held);
+    output::flush(&mut output, held);
 }

@@ -1,6 +1,7 @@
 // What a node sends in its own slot, by its held record. An inner layer: it takes every record as it
 // is; the calls of `node` test records first.
 #![tactic(auto)]
+
 ghost use Rattle.std.specs.Prelude.{◌≡◌};
 ghost use Rattle.row.specs.Sponsoring.{sponsors_row};
 ghost use Rattle.node_record.specs.Held.{setted};

@@ -15,7 +15,6 @@ use Rattle.ring.specs.declared.Found.TheVariants as found
 use Rattle.ring.specs.Ring.{sponsors, decided, member_before, member_in, is_found}
 use Rattle.row.specs.declared.Row.{Row}
 use Rattle.row.specs.Rows.{as_row}
-use Rattle.row.specs.Inner.{with_row}
 use Rattle.row.specs.Sponsoring.{decided_row}
 use Rattle.row_laws.proofs.Laws.{has-row, size-row, with-row, without-row, before-row, same-row}
 use Rattle.row_laws.proofs.Sponsored.{sponsors-row, sponsored-row, decided-row}

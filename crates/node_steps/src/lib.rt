@@ -1,6 +1,7 @@
 // One slot for a member, following or knocking node: a small function by value for each step. An
 // inner layer: it takes every record as it is; the calls of `node` and of the bench test records first.
 #![tactic(auto)]
+
 ghost use Rattle.std.specs.Prelude.{◌≡◌};
 ghost use Rattle.row.specs.Inner.{same_row};
 ghost use Rattle.node_record.specs.Held.{setted};

@@ -17,7 +17,9 @@ use plan_program::{Part, Plan};
 use refusal::Refusal;
 use run_io::block::Block;
 use run_io::input::Head;
+use run_io::output::Sink;
 use run_io::{block, output};
+use std::io::Write;
 
 // How many bytes follow the letter and the byte after it.
 pub fn body(letter: u8) -> u8 {
@@ -149,7 +151,7 @@ pub fn part_loaded(part: Part, head: Head, block: &Block) -> Part {
 }
 
 // Over (a byte), lines, n and outcome of the plan, and its 32 rows.
-pub fn put_plan(output: &mut [u8; 4096], held: usize, plan: Plan) -> usize {
+pub fn put_plan<W: Write>(output: &mut Sink<W>, held: usize, plan: Plan) -> usize {
     let over = if plan.over { 1 } else { 0 };
     let held = output::put(output, held, over);
     let mut answer = [0u8; 255];
@@ -163,7 +165,7 @@ pub fn put_plan(output: &mut [u8; 4096], held: usize, plan: Plan) -> usize {
 }
 
 // The part's length (eight bytes) and its 121 bytes.
-pub fn put_part(output: &mut [u8; 4096], held: usize, part: Part) -> usize {
+pub fn put_part<W: Write>(output: &mut Sink<W>, held: usize, part: Part) -> usize {
     let text = part.text;
     text_bytes::put_text(output, held, part.length, text)
 }

@@ -1,6 +1,7 @@
 // The lines of a plan (document 01, "The bench program"): what a line says, or by which cause it is
 // refused. A line comes without its line feed. An inner layer: it takes every n as it is.
 #![tactic(auto)]
+
 ghost use Rattle.std.specs.Prelude.{◌≡◌, true, false, ◌&&◌, ◌+◌, min, drop, leb};
 ghost use Rattle.plan_line.specs.Words.{all_digits, begins, gap, is_number, leading_zero, least_after, same, value_of};
 ghost use Rattle.plan_line.specs.Plan.{in_ring, missed_with, missed_line, missing_of, named_of, numbers_of, off_line, on_line, opening_of, line_of, ring_of, word_of};

@@ -2,6 +2,7 @@
 // at a place. An inner layer: the calls of `plan_program` print whole lines. What holds of
 // every text that is taken byte by byte is specs/Bytewise.
 #![tactic(auto)]
+
 ghost use Rattle.std.specs.Prelude.{◌≡◌, ◌+◌, ◌≤◌, ◌<◌, leb, length};
 ghost use Rattle.plan_text.specs.Text.{digits, fate_text, glyph, next_line, number_then, pasted, places, refusal_text, shown_text, slot_text, written_of, PutAt, PutFew};
 

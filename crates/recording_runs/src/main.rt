@@ -17,8 +17,11 @@
 #![tactic(auto)]
 use converter_text::{Direction, Fed, Recording};
 use run_io::block::Block;
-use run_io::input::{Head, Unread};
+use run_io::input::{Head, Source, Unread};
+use run_io::output::Sink;
 use run_io::{block, input, output};
+use std::io;
+use std::io::{Read, Write};
 
 // What there is from one command to the next; `held` is the number of bytes that wait in the output.
 #[derive(Clone, Copy)]
@@ -45,7 +48,7 @@ fn body(letter: u8, byte: u8) -> u8 {
 }
 
 // A whole command; its further bytes go into the start of `block`.
-fn read(input: &mut [u8; 4096], left: Unread, block: &mut Block) -> Head {
+fn read<R: Read>(input: &mut Source<R>, left: Unread, block: &mut Block) -> Head {
     let head = input::read_head(input, left);
     input::fill_after(input, head, block, body(head.letter, head.byte))
 }
@@ -73,7 +76,7 @@ fn recording_of(byte: u8, block: &Block) -> Recording {
     }
 }
 
-fn put_recording(output: &mut [u8; 4096], held: usize, recording: Recording) -> usize {
+fn put_recording<W: Write>(output: &mut Sink<W>, held: usize, recording: Recording) -> usize {
     let mut answer = [0u8; 255];
     let direction = recording.direction;
     answer[0] = direction_byte(direction);
@@ -119,7 +122,7 @@ fn run_room(recording: Recording, head: Head, block: &Block, out: &mut [u8], roo
 }
 
 // Carries a call out and answers.
-fn call(output: &mut [u8; 4096], state: Held, head: Head, block: &Block) -> Held {
+fn call<W: Write>(output: &mut Sink<W>, state: Held, head: Head, block: &Block) -> Held {
     let mut out = [0xA5u8; 20480];
     let room = block::word(block, 0) as usize;
     let recording = state.recording;
@@ -135,7 +138,7 @@ fn call(output: &mut [u8; 4096], state: Held, head: Head, block: &Block) -> Held
     }
 }
 
-fn run(output: &mut [u8; 4096], state: Held, head: Head, block: &Block) -> Held {
+fn run<W: Write>(output: &mut Sink<W>, state: Held, head: Head, block: &Block) -> Held {
     let letter = head.letter;
     match letter {
         b'N' => Held {
@@ -150,15 +153,14 @@ fn run(output: &mut [u8; 4096], state: Held, head: Head, block: &Block) -> Held 
     }
 }
 
-// A proved loop has to end, so it counts its turns down, from a number that no run uses up.
-fn run_all(input: &mut [u8; 4096], output: &mut [u8; 4096]) -> usize {
+// A proved loop has to end, so it counts its turns, up to a number that no run reaches.
+fn run_all<R: Read, W: Write>(input: &mut Source<R>, output: &mut Sink<W>) -> usize {
     let mut left = Unread { at: 0, end: 0 };
     let mut state = Held {
         recording: converter_text::start(Direction::Three),
         held: 0,
     };
-    let mut turns = u64::MAX;
-    while turns > 0 {
+    for _ in 0..u64::MAX {
         let mut block = [0u8; 255];
         let head = read(input, left, &mut block);
         if !is_command(head.letter) {
@@ -167,14 +169,19 @@ fn run_all(input: &mut [u8; 4096], output: &mut [u8; 4096]) -> usize {
         state = run(output, state, head, &block);
         let rest = head.left;
         left = rest;
-        turns -= 1;
     }
     state.held
 }
 
-fn main() {
-    let mut input = [0u8; 4096];
-    let mut output = [0u8; 4096];
+fn main(rt: HostRuntime) {
+    let mut input = Source {
+        from: rt.reader(),
+        buffer: [0; 4096],
+    };
+    let mut output = Sink {
+        to: io::writer(&rt),
+        buffer: [0; 4096],
+    };
     let held = run_all(&mut input, &mut output);
-    output::flush(&output, held);
+    output::flush(&mut output, held);
 }

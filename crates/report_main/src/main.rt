@@ -4,58 +4,69 @@
 #![tactic(auto)]
 use plan_report::{Fed, Report};
 use plan_text::Written;
+use std::io;
+use std::io::Read;
 
 // Writes what was printed, and tells whether that could be done.
-fn write(output: &[u8], written: Written) -> bool {
+fn write(rt: &impl Print, output: &[u8], written: Written) -> bool {
     let Written::Bytes(count) = written else {
         return false;
     };
     if output.len() < count {
         return false;
     }
-    io::write_all(1, &output[0..count])
+    rt.write_all(&output[0..count]).is_ok()
 }
 
 // Takes the piece that was read: the first bytes of `input`.
-fn take_piece(report: Report, input: &[u8], got: isize, output: &mut [u8]) -> Fed {
-    let end = io::count(got, input);
+fn take_piece(report: Report, input: &[u8], got: usize, output: &mut [u8]) -> Fed {
+    let end = got.min(input.len());
     plan_report::feed(report, &input[..end], output)
 }
 
 // Ends the report where the input ended. A failed read is no end of it: no total is printed.
-fn end_report(report: Report, got: isize, output: &mut [u8]) {
-    if got < 0 {
-        io::write_all(2, b"the input cannot be read\n");
+fn end_report(
+    rt: &(impl Print + Eprint),
+    report: Report,
+    got: io::Result<usize>,
+    output: &mut [u8],
+) {
+    if got.is_err() {
+        let _ = rt.eprint("the input cannot be read\n");
         return;
     }
     let written = plan_report::finish(report, output);
-    write(output, written);
+    write(rt, output, written);
 }
 
 // Reads pieces until the input ends. The output holds 110 bytes for each byte of a piece, all that can be
 // printed of it. Nobody reads u64::MAX pieces.
-fn run(input: &mut [u8; 4096], output: &mut [u8; 450560]) {
+fn run(
+    rt: &(impl Input + Print + Eprint),
+    input: &mut [u8; 4096],
+    output: &mut [u8; 450560],
+) {
     let mut report = plan_report::start();
-    let mut reads: u64 = 0;
-    while reads < u64::MAX {
-        reads += 1;
-        let got = libc::read(0, input);
-        if got <= 0 {
-            end_report(report, got, output);
+    let mut reader = rt.reader();
+    for _ in 0..u64::MAX {
+        let got = reader.read(input);
+        let length = got.unwrap_or(0);
+        if length == 0 {
+            end_report(rt, report, got, output);
             return;
         }
-        let fed = take_piece(report, input, got, output);
+        let fed = take_piece(report, input, length, output);
         let next = fed.report;
         let written = fed.written;
-        if !write(output, written) {
+        if !write(rt, output, written) {
             return;
         }
         report = next;
     }
 }
 
-fn main() {
+fn main(rt: HostRuntime) {
     let mut input: [u8; 4096] = [0; 4096];
     let mut output: [u8; 450560] = [0; 450560];
-    run(&mut input, &mut output);
+    run(&rt, &mut input, &mut output);
 }

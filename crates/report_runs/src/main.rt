@@ -22,8 +22,11 @@ ghost use Rattle.std.specs.Prelude.{◌≤◌};
 use node::Answer;
 use plan_report::{Fed, Figures, Report, Tally};
 use run_io::block::Block;
-use run_io::input::{Head, Unread};
+use run_io::input::{Head, Source, Unread};
+use run_io::output::Sink;
 use run_io::{block, input, output};
+use std::io;
+use std::io::{Read, Write};
 
 // What there is from one command to the next; `held` is the number of bytes that wait in the output.
 #[derive(Clone, Copy)]
@@ -51,7 +54,7 @@ fn body(letter: u8, byte: u8) -> u8 {
 }
 
 // A whole command; its further bytes go into the start of `block`.
-fn read(input: &mut [u8; 4096], left: Unread, block: &mut Block) -> Head {
+fn read<R: Read>(input: &mut Source<R>, left: Unread, block: &mut Block) -> Head {
     let head = input::read_head(input, left);
     input::fill_after(input, head, block, body(head.letter, head.byte))
 }
@@ -127,7 +130,7 @@ fn loaded(report: Report, head: Head, block: &Block) -> Report {
     }
 }
 
-fn put_report(output: &mut [u8; 4096], held: usize, report: Report) -> usize {
+fn put_report<W: Write>(output: &mut Sink<W>, held: usize, report: Report) -> usize {
     let tally = report.tally;
     let part = report.part;
     let plan = tally.plan;
@@ -181,7 +184,7 @@ fn run_room(report: Report, head: Head, block: &Block, out: &mut [u8], room: usi
 }
 
 // Carries a call on the report out and answers.
-fn call(output: &mut [u8; 4096], state: State, head: Head, block: &Block) -> State {
+fn call<W: Write>(output: &mut Sink<W>, state: State, head: Head, block: &Block) -> State {
     let mut out = [0xA5u8; 27648];
     let room = block::word(block, 0) as usize;
     let report = state.report;
@@ -205,7 +208,7 @@ fn answer_byte(answer: Answer) -> u8 {
 }
 
 // Adds and answers.
-fn add(output: &mut [u8; 4096], held: usize, block: &Block) -> usize {
+fn add<W: Write>(output: &mut Sink<W>, held: usize, block: &Block) -> usize {
     let added = plan_report::add(figures_at(block, 0), figures_at(block, 32));
     let told = added.answer;
     let totals = added.totals;
@@ -215,7 +218,7 @@ fn add(output: &mut [u8; 4096], held: usize, block: &Block) -> usize {
     output::put_block(output, held, &answer, 33)
 }
 
-fn run(output: &mut [u8; 4096], state: State, head: Head, block: &Block) -> State {
+fn run<W: Write>(output: &mut Sink<W>, state: State, head: Head, block: &Block) -> State {
     let report = state.report;
     let letter = head.letter;
     match letter {
@@ -231,15 +234,14 @@ fn run(output: &mut [u8; 4096], state: State, head: Head, block: &Block) -> Stat
     }
 }
 
-// A proved loop has to end, so it counts its turns down, from a number that no run uses up.
-fn run_all(input: &mut [u8; 4096], output: &mut [u8; 4096]) -> usize {
+// A proved loop has to end, so it counts its turns, up to a number that no run reaches.
+fn run_all<R: Read, W: Write>(input: &mut Source<R>, output: &mut Sink<W>) -> usize {
     let mut left = Unread { at: 0, end: 0 };
     let mut state = State {
         report: plan_report::start(),
         held: 0,
     };
-    let mut turns = u64::MAX;
-    while turns > 0 {
+    for _ in 0..u64::MAX {
         let mut block = [0u8; 255];
         let head = read(input, left, &mut block);
         if !is_command(head.letter) {
@@ -248,14 +250,19 @@ fn run_all(input: &mut [u8; 4096], output: &mut [u8; 4096]) -> usize {
         state = run(output, state, head, &block);
         let rest = head.left;
         left = rest;
-        turns -= 1;
     }
     state.held
 }
 
-fn main() {
-    let mut input = [0u8; 4096];
-    let mut output = [0u8; 4096];
+fn main(rt: HostRuntime) {
+    let mut input = Source {
+        from: rt.reader(),
+        buffer: [0; 4096],
+    };
+    let mut output = Sink {
+        to: io::writer(&rt),
+        buffer: [0; 4096],
+    };
     let held = run_all(&mut input, &mut output);
-    output::flush(&output, held);
+    output::flush(&mut output, held);
 }

@@ -1,15 +1,14 @@
 -- The place that a walk back reaches (specs/Places) says what the walk finds. Assumes nothing.
 use Prim.Native.Nat.{ℕ, zero, suc, ◌-◌}
 use mathlib.Core.Path.{◌≡◌, refl, sym, ap, ◌∙◌}
-use mathlib.Core.Logic.{◌≢◌}
-use mathlib.Core.Bool.{true, false, ◌&&◌, true≢false}
+use mathlib.Core.Bool.{true, ◌&&◌, true≢false}
 use native.Mathlib.Omega.{arith}
 use lib.Dec.{eqb}
 use borrow.Author.Tests.{ne_eqb}
 use Rattle.nodeset.specs.Sums.{num}
 use Rattle.nodeset.specs.Sets.{has}
 use Rattle.nodeset.proofs.Tests.{by_cases, both}
-use Rattle.slot_table.specs.Order.{node_at, place}
+use Rattle.slot_table.specs.Order.{node_at}
 use Rattle.cable.specs.declared.Cable.{Cable}
 use Rattle.ring.specs.declared.Found.TheVariants.{Member}
 use Rattle.ring.specs.Ring.{previous, walk}

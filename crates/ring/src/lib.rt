@@ -2,6 +2,7 @@
 // far back. A set is any u32; its members are the nodes 1 to n in it. The slot's rules ask the row of members
 // instead (crate row), which finds the same.
 #![tactic(auto)]
+
 ghost use Rattle.std.specs.Prelude.{◌≡◌, ◌+◌, ◌-◌};
 ghost use Rattle.nodeset.specs.Sums.{num};
 ghost use Rattle.ring.specs.Ring.{ks, previous, member_before, sponsors, sponsored, decided};

@@ -4,6 +4,7 @@
 // number. Every slot table is taken as it is, also one with too few places: at a place that it does not
 // have stands node 0.
 #![tactic(auto)]
+
 ghost use Rattle.std.specs.Prelude.{◌≡◌, ◌+◌};
 ghost use Rattle.nodeset.specs.Sets.{has, with, without, union, full, within, subset, size, distance, run};
 ghost use Rattle.cable.specs.Cable.{cable_with, lagging_cable, ring_size, node_number, sponsor_count};

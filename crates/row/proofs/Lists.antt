@@ -1,5 +1,5 @@
 -- Laws of lists of nodes (specs/Rows, specs/Inner): what stands in them, what is kept of them, parts of them. Assumes nothing.
-use Prim.Native.Nat.{ℕ, zero, suc, ◌+◌, ◌-◌, ◌≤◌, ◌<◌}
+use Prim.Native.Nat.{ℕ, zero, suc, ◌+◌, ◌≤◌, ◌<◌}
 use mathlib.Core.Path.{◌≡◌, refl, sym, ap, ap₂, ◌∙◌}
 use mathlib.Core.Bool.{Bool, true, false, not, ◌&&◌, ◌||◌, true≢false, or-false, or_assoc, and-false}
 use mathlib.Core.List.{List, [], ◌∷◌, ◌++◌, append-nil}

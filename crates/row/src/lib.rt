@@ -3,6 +3,7 @@
 // layer: every row and table is taken as it is, and none is refused. Sets and rows are converted in
 // row_sets; who is sponsored is in row_sponsors.
 #![tactic(auto)]
+
 ghost use Rattle.std.specs.Prelude.{◌≡◌, []};
 ghost use Rattle.slot_table.specs.Order.{same_order};
 ghost use Rattle.row.specs.Rows.{row_for};

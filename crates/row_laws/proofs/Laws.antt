@@ -7,7 +7,7 @@
 --   has-row, node_row, size-row, with-row, same-row    what is done on the row of a set is what is done on the set
 --   before-row    the j-th member before a node is j places back in the row, round its end
 -- For every table: without-row, empty-row, set_is. For every row: same-is, is_same.
-use Prim.Native.Nat.{ℕ, zero, suc, ◌+◌, ◌-◌, ◌^◌, ◌≤◌, ◌<◌, min}
+use Prim.Native.Nat.{ℕ, zero, suc, ◌-◌, ◌^◌, ◌≤◌, ◌<◌, min}
 use mathlib.Core.Path.{◌≡◌, refl, sym, ap, ap₂, ◌∙◌}
 use mathlib.Core.Bool.{Bool, true, false, not, ◌&&◌, ◌||◌, true≢false, and-false}
 use mathlib.Core.List.{List, [], ◌∷◌, ◌++◌}
@@ -19,7 +19,7 @@ use lib.ListN.{length, take, drop, replicate, length-append, length-drop, take-a
 use lib.Seq.{take_all, take_at, drop_at, length-take-le}
 use borrow.Author.Tests.{eq-eqb, eqb-true, le-leb, lt-leb, leb-true, lt-ltb, le-ltb}
 use Rattle.nodeset.specs.Sums.{num}
-use Rattle.nodeset.specs.Sets.{has, with, without, full, size, within}
+use Rattle.nodeset.specs.Sets.{has, with, without, size, within}
 use Rattle.nodeset.proofs.Tests.{by_cases, both, all, chosen, otherwise}
 use Rattle.nodeset.proofs.Bits.{has-none, has-beyond}
 use Rattle.nodeset.proofs.Laws.{set-ext, with-there}

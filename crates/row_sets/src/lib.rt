@@ -1,6 +1,7 @@
 // The row of a set and the set of a row (document 02, request l), and which rows are sound beside a slot
 // table. An inner layer: every row, set and table is taken as it is, and none is refused.
 #![tactic(auto)]
+
 ghost use Rattle.std.specs.Prelude.{◌≡◌, min, drop};
 ghost use Rattle.row.specs.Rows.{as_row, blank, sound_row, nodes_in};
 

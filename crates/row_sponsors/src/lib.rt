@@ -1,6 +1,7 @@
 // Whom a node sponsors and decides, by the row of members (document 02, request l): the j-th member before a
 // node is j places back, round the row's end. An inner layer: every row, number and cable is taken as it is.
 #![tactic(auto)]
+
 ghost use Rattle.std.specs.Prelude.{◌≡◌};
 ghost use Rattle.row.specs.Inner.{back_in, before_row};
 ghost use Rattle.row.specs.Sponsoring.{sponsors_row, decided_row};

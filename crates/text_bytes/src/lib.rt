@@ -5,7 +5,9 @@ ghost use Rattle.std.specs.Prelude.{◌≤◌};
 
 use plan_text::Written;
 use run_io::block::Block;
+use run_io::output::Sink;
 use run_io::{block, output};
+use std::io::Write;
 
 // The end of a piece of so many bytes that stands after the room; no block holds more than 250.
 pub fn piece_end(length: u8) -> u8
@@ -19,10 +21,8 @@ pub fn text_at(block: &Block, at: usize) -> [u8; 121]
     requires { at ≤ 134 }
 {
     let mut text = [0u8; 121];
-    let mut i = 0;
-    while i < 121 {
+    for i in 0..121 {
         text[i] = block[at + i];
-        i += 1;
     }
     text
 }
@@ -39,14 +39,14 @@ fn set_written(answer: &mut Block, written: Written) {
 }
 
 // A byte, 0 or the refusal's number, and the count of bytes (four).
-pub fn put_written(output: &mut [u8; 4096], held: usize, written: Written) -> usize {
+pub fn put_written<W: Write>(output: &mut Sink<W>, held: usize, written: Written) -> usize {
     let mut answer = [0u8; 255];
     set_written(&mut answer, written);
     output::put_block(output, held, &answer, 5)
 }
 
 // How many bytes of a line have come (eight bytes), and the 121 that hold them.
-pub fn put_text(output: &mut [u8; 4096], held: usize, length: usize, text: [u8; 121]) -> usize {
+pub fn put_text<W: Write>(output: &mut Sink<W>, held: usize, length: usize, text: [u8; 121]) -> usize {
     let mut answer = [0u8; 255];
     block::set_long_word(&mut answer, 0, length as u64);
     let held = output::put_block(output, held, &answer, 8);

@@ -1,12 +1,10 @@
-use borrow.Author.Rules.{rules}
-use Prim.Native.Nat.{ℕ, ◌+◌, ◌-◌, ◌*◌, ◌≤◌, ◌<◌, min}
+use Prim.Native.Nat.{ℕ, ◌+◌, ◌*◌, min}
 use mathlib.Core.Path.{◌≡◌, refl, sym, ap, ◌∙◌}
 use mathlib.Core.Bool.{Bool}
 use mathlib.Core.List.{List}
 use native.Mathlib.Omega.{arith}
 use native.Mathlib.Numerals.{add-one}
 use lib.ListN.{get_or}
-use borrow.Author.Tests.{ltb-true, ltb-false}
 use Rattle.bench_notes.specs.declared.Pairs.{Pairs}
 use Rattle.bench_notes.specs.Notes.{with_one, grouped_to}
 use Rattle.bench_notes.proofs.grouped.Goals as goal
@@ -15,40 +13,16 @@ one-more : (left : Bool) (bytes : List ℕ) (i : ℕ) (p q : Pairs) → q ≡ gr
 unfolding grouped_to
 one-more left bytes i p q e = ap (λ (r : Pairs). with_one left r (get_or bytes (i * 2) 0) (get_or bytes (i * 2 + 1) 0)) e ∙ ap (λ (m : ℕ). grouped_to left bytes m p) (sym (add-one i))
 
-below : (c : goal.Then-i-lt32 invariant-loop decreases-loop) → c.loop-i.i < 32
-below c = ltb-true c.loop-i.i 32 c.if-i-lt32.true
-
 pub loop-i-init : goal.loop-i-init
 unfolding grouped_to
 loop-i-init c = (omega arith, omega arith, refl)
-
-pub overflow_cast-at : goal.overflow_cast-at
-overflow_cast-at c = omega (arith, below c)
-
-pub overflow_mul-at : goal.overflow_mul-at
-overflow_mul-at c = omega (arith, below c)
-
-pub bounds-bytes-at : goal.bounds-bytes-at
-bounds-bytes-at c = omega (arith, below c)
-
-pub overflow_add-at : goal.overflow_add-at
-overflow_add-at c = omega (arith, below c)
-
-pub bounds-bytes-at-in-loop-i : goal.bounds-bytes-at-in-loop-i
-bounds-bytes-at-in-loop-i c = omega (arith, below c)
-
-pub overflow_add-i : goal.overflow_add-i
-overflow_add-i c = omega (arith, below c)
-
-pub loop-i-smaller : goal.loop-i-smaller
-loop-i-smaller c = omega (arith, below c)
 
 pub loop-i-preserved : goal.loop-i-preserved
 loop-i-preserved c =
     let l = c.loop-i in
     let a = c.args in (
-      omega (arith, below c),
-      omega (arith, c.loop-i-test.true),
+      omega arith,
+      omega arith,
       c.with_one-q.ensures ∙ one-more a.left a.bytes l.i a.p l.q l.invariant.2,
     )
 
@@ -56,12 +30,12 @@ pub returns-else-i-lt32 : goal.returns-else-i-lt32
 returns-else-i-lt32 c =
     let l = c.loop-i in
     let a = c.args in
-    let all : l.i ≡ min a.count 32 = omega (arith, l.invariant.0, l.invariant.1, ltb-false l.i 32 c.if-i-lt32.false) in
+    let all : l.i ≡ min a.count 32 = omega arith in
     l.invariant.2 ∙ ap (λ (m : ℕ). grouped_to a.left a.bytes m a.p) all
 
 pub returns-after-loop-i : goal.returns-after-loop-i
 returns-after-loop-i c =
     let l = c.loop-i in
     let a = c.args in
-    let all : l.i ≡ min a.count 32 = omega (arith, l.invariant.0, l.invariant.1, c.loop-i-test.false) in
+    let all : l.i ≡ min a.count 32 = omega arith in
     l.invariant.2 ∙ ap (λ (m : ℕ). grouped_to a.left a.bytes m a.p) all

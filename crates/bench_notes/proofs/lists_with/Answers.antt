@@ -1,5 +1,4 @@
 -- `bench_notes::lists_with` meets its contract: its parts are those of the definition. Assumes nothing.
-use borrow.Author.Rules.{rules}
 use mathlib.Core.Path.{ap, ◌∙◌}
 use mathlib.Core.Bool.{Bool, ◌&&◌}
 use Rattle.row.specs.declared.Row.{Row}

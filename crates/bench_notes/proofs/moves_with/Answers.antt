@@ -1,5 +1,4 @@
 -- `bench_notes::moves_with` meets its contract: its parts are those of the definition. Assumes nothing.
-use borrow.Author.Rules.{rules}
 use mathlib.Core.Bool.{Bool}
 use mathlib.Core.Path.{◌≡◌, sym, ap, ap₂, ◌∙◌}
 use Prim.Native.Nat.{ℕ}
@@ -22,6 +21,6 @@ unfolding moves_with
 returns c =
     let a = c.args in
     ap₂ {C = Moves} (λ (x y : ℕ). record { left = x; joined = y })
-    (set_is a.m.left a.own c.with_if.ensures c.is_member.ensures)
-    (set_is a.m.joined a.own c.with_if-2.ensures c.is_member-2.ensures)
+    (set_is a.m.left a.before.own c.with_if.ensures c.is_member.ensures)
+    (set_is a.m.joined a.before.own c.with_if-2.ensures c.is_member-2.ensures)
     ∙ sym (otherwise _ _ (told c.same_state.ensures c.if-same_state.false))

@@ -1,5 +1,4 @@
 -- `bench_notes::no_notes` meets its contract. Assumes nothing.
-use borrow.Author.Rules.{rules}
 use mathlib.Core.Path.{ap, ◌∙◌}
 use mathlib.Core.Bool.{true}
 use Rattle.row.specs.declared.Row.{Row}

@@ -1,8 +1,7 @@
 -- `bench_notes::same_with` meets its contract, case by case. Assumes nothing.
-use borrow.Author.Rules.{rules}
-use mathlib.Core.Path.{◌≡◌, refl, sym, ap, ◌∙◌}
+use mathlib.Core.Path.{◌≡◌, refl, sym}
 use mathlib.Core.Bool.{true, false}
-use Rattle.nodeset.proofs.Tests.{failed, passed, chosen, otherwise}
+use Rattle.nodeset.proofs.Tests.{failed, otherwise}
 use Rattle.row.specs.declared.Row.{Row}
 use Rattle.node_record.specs.declared.Held.{Held}
 use Rattle.node_record.specs.States.{is_member}
@@ -18,14 +17,3 @@ no_member listed.Nobody row v e = refl
 
 pub returns-then-not-is_member : goal.returns-then-not-is_member
 returns-then-not-is_member c = sym (no_member c.args.list c.args.row c.args.v (failed c.is_member.ensures c.if-not-is_member.true))
-
-pub returns-in-Set : goal.returns-in-Set
-returns-in-Set c =
-    let a = c.args in
-    c.same.ensures
-    ∙ sym (ap (λ (l : Listed). same_with l a.row a.v) c.enum_told.given.1 ∙ chosen _ _ (passed c.is_member.ensures c.if-not-is_member.false))
-
-pub returns-in-Nobody : goal.returns-in-Nobody
-returns-in-Nobody c =
-    let a = c.args in
-    sym (ap (λ (l : Listed). same_with l a.row a.v) c.enum-told2.given.1)

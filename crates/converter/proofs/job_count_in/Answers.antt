@@ -1,6 +1,4 @@
 -- `converter::job_count_in` meets its contract. Assumes nothing.
-use borrow.Author.Rules.{rules}
-use Prim.Native.Nat.{◌-◌}
 use native.Mathlib.Omega.{arith}
 use lib.ListN.{length}
 use borrow.Author.Tests.{lt-ltb, le-ltb}
@@ -10,9 +8,6 @@ use Rattle.converter.proofs.job_count_in.Goals as goal
 pub returns-then-length-lt2 : goal.returns-then-length-lt2
 unfolding job_count_in
 returns-then-length-lt2 c = simp (lt-ltb (length c.args.bytes.now) 2 (omega (arith, c.if-length-lt2.true)))
-
-pub overflow_cast-result : goal.overflow_cast-result
-overflow_cast-result c = omega (arith, c.shared-slice-known.given (length c.args.bytes.now - 2))
 
 pub returns : goal.returns
 unfolding job_count_in

@@ -1,5 +1,4 @@
 -- `converter::to_three` meets its contract: each case of what was read is a case of `written_on`. Assumes nothing.
-use borrow.Author.Rules.{rules}
 use mathlib.Core.Path.{sym, ap, ◌∙◌}
 use mathlib.Core.Bool.{Bool}
 use Prim.Native.Nat.{ℕ}
@@ -15,7 +14,7 @@ returns-in-Heard c =
     let a = c.args in
     let out = a.out.now in
     c.write.ensures
-    ∙ ap (λ (r : Reading). written_on r out (λ (x : ℕ) (b : Bool). write_of a.k 0 x b 0 out)) (sym c.reading.given.1)
+    ∙ ap (λ (r : Reading). written_on r out (λ (x : ℕ) (b : Bool). write_of a.k 0 x b 0 out)) (sym c.in-Heard.is)
     ∙ ap (λ (r : Received). written_on r.reading out (λ (x : ℕ) (b : Bool). write_of a.k 0 x b 0 out)) c.read_two-received.ensures
 
 pub returns-in-Refused : goal.returns-in-Refused
@@ -23,5 +22,5 @@ unfolding to_three_of
 returns-in-Refused c =
     let a = c.args in
     let out = a.out.now in
-    ap (λ (r : Reading). written_on r out (λ (x : ℕ) (b : Bool). write_of a.k 0 x b 0 out)) (sym c.reading2.given.1)
+    ap (λ (r : Reading). written_on r out (λ (x : ℕ) (b : Bool). write_of a.k 0 x b 0 out)) (sym c.in-Refused.is)
     ∙ ap (λ (r : Received). written_on r.reading out (λ (x : ℕ) (b : Bool). write_of a.k 0 x b 0 out)) c.read_two-received.ensures

@@ -1,5 +1,4 @@
 -- `converter::to_two` meets its contract: each case of what was read is a case of `written_on`. Assumes nothing.
-use borrow.Author.Rules.{rules}
 use Prim.Native.Nat.{ℕ}
 use mathlib.Core.Path.{sym, ap, ◌∙◌}
 use mathlib.Core.Bool.{Bool}
@@ -24,9 +23,8 @@ returns-then-standing-ne0 c =
     let a = c.args in
     let go = after a.k a.bytes.now a.out.now in
     let some = ne_eqb (job_count_in a.bytes.now) 0 (λ e. c.if-standing-ne0.true (c.job_count_in-standing.ensures ∙ e)) in
-    let r = c.reading.given in
-    sym (ap (λ (t : Bool). if_written t 15 a.out.now (write_two_of a.k r.0.0 r.0.1.0 a.out.now)) some)
-    ∙ ap go (sym r.1)
+    sym (ap (λ (t : Bool). if_written t 15 a.out.now (write_two_of a.k c.in-Heard.acknowledgements c.in-Heard.return_bit a.out.now)) some)
+    ∙ ap go (sym c.in-Heard.is)
     ∙ ap (λ (x : Received). go x.reading) c.read_any-received.ensures
 
 pub returns-else-standing-ne0 : goal.returns-else-standing-ne0
@@ -35,10 +33,9 @@ returns-else-standing-ne0 c =
     let a = c.args in
     let go = after a.k a.bytes.now a.out.now in
     let none = eq-eqb (job_count_in a.bytes.now) 0 (omega (arith, c.if-standing-ne0.false, c.job_count_in-standing.ensures)) in
-    let r = c.reading.given in
     c.write_two.ensures
-    ∙ sym (ap (λ (t : Bool). if_written t 15 a.out.now (write_two_of a.k r.0.0 r.0.1.0 a.out.now)) none)
-    ∙ ap go (sym r.1)
+    ∙ sym (ap (λ (t : Bool). if_written t 15 a.out.now (write_two_of a.k c.in-Heard.acknowledgements c.in-Heard.return_bit a.out.now)) none)
+    ∙ ap go (sym c.in-Heard.is)
     ∙ ap (λ (x : Received). go x.reading) c.read_any-received.ensures
 
 pub returns-in-Refused : goal.returns-in-Refused
@@ -46,4 +43,4 @@ unfolding to_two_of
 returns-in-Refused c =
     let a = c.args in
     let go = after a.k a.bytes.now a.out.now in
-    ap go (sym c.reading2.given.1) ∙ ap (λ (x : Received). go x.reading) c.read_any-received.ensures
+    ap go (sym c.in-Refused.is) ∙ ap (λ (x : Received). go x.reading) c.read_any-received.ensures

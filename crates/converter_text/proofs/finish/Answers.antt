@@ -11,15 +11,12 @@ use Rattle.converter_text.proofs.Lines.{end_none, end-some}
 use borrow.Author.Rules.{rules}
 use Rattle.converter_text.proofs.finish.Goals as goal
 
-whole : (c : goal.After-struct_known-1) → length c.args.recording.text ≡ 121
-whole c = search rules
-
 pub returns-then-recording-ne0 : goal.returns-then-recording-ne0
 returns-then-recording-ne0 c =
     let a = c.args in
     c.refusal_line.ensures
     ∙ ap (λ (n : ℕ). written_of (refusal_text n 12) 0 a.out.now) c.next_line.ensures
-    ∙ ap (λ (t : List ℕ). written_of t 0 a.out.now) (sym (end-some a.recording c.if-recording-ne0.true (whole c)))
+    ∙ ap (λ (t : List ℕ). written_of t 0 a.out.now) (sym (end-some a.recording c.if-recording-ne0.true (search rules)))
 
 pub returns-then-out-lt80 : goal.returns-then-out-lt80
 unfolding written_of

@@ -1,9 +1,9 @@
 -- `converter_text::put_line` meets its contract: each test that fails is one of `readable`. Assumes nothing.
-use Prim.Native.Nat.{ℕ, ◌-◌, ◌≤◌}
+use Prim.Native.Nat.{ℕ, ◌+◌, ◌-◌, ◌≤◌}
 use mathlib.Core.Path.{◌≡◌, sym, ap, ◌∙◌}
-use mathlib.Core.Bool.{true}
+use mathlib.Core.Bool.{Bool, true}
+use mathlib.Core.List.{List}
 use native.Mathlib.Omega.{arith}
-use borrow.Author.Tests.{not-true, not-false}
 use lib.ListN.{length, take, drop, length-drop}
 use lib.Seq.{length-take-le, take_all}
 use Rattle.plan_line.specs.Words.{before, gap, is_number}
@@ -14,29 +14,21 @@ use borrow.Author.Rules.{rules}
 use Rattle.converter_text.proofs.put_line.Goals as goal
 
 -- k ends in the line, before the first space
-inside : (c : goal.After-part_end-end) → c.part_end-end.result ≤ length c.args.text.now
-inside c = (part-in 32 c.args.text.now 0 c.part_end-end.result (omega arith) c.part_end-end.ensures).1
+module _ (text : List ℕ) (end : ℕ) (was : end ≡ 0 + gap 32 (drop 0 text)) where
+  inside : end ≤ length text
+  inside = (part-in 32 text 0 end (omega arith) was).1
 
-ends : (c : goal.After-part_end-end) → c.part_end-end.result ≡ gap 32 c.args.text.now
-ends c = omega (arith, c.part_end-end.ensures)
+  word : take end text ≡ before text
+  word = ap (λ (n : ℕ). take n text) was
 
-word : (c : goal.After-part_end-end) → take c.part_end-end.result c.args.text.now ≡ before c.args.text.now
-word c = ap (λ (n : ℕ). take n c.args.text.now) (ends c)
+  rest : take (length text - end) (drop end text) ≡ behind text
+  rest = take_all (length text - end) (drop end text) (omega (arith, length-drop end text)) ∙ ap (λ (n : ℕ). drop n text) was
 
-rest : (c : goal.After-part_end-end) → take (length c.args.text.now - c.part_end-end.result) (drop c.part_end-end.result c.args.text.now) ≡ behind c.args.text.now
-rest c =
-    let text = c.args.text.now in
-    take_all (length text - c.part_end-end.result) (drop c.part_end-end.result text) (omega (arith, length-drop c.part_end-end.result text))
-    ∙ ap (λ (n : ℕ). drop n text) (ends c)
+  number : {r : Bool} → r ≡ is_number (take end text) → is_number (before text) ≡ r
+  number e = ap is_number (sym word) ∙ sym e
 
-number : (c : goal.After-is_number) → is_number (before c.args.text.now) ≡ c.is_number.result
-number c = ap is_number (sym (word c)) ∙ sym c.is_number.ensures
-
-message : (c : goal.After-message_in-read) → is_message (behind c.args.text.now) ≡ c.message_in-read.result.readable
-message c = ap is_message (sym (rest c)) ∙ sym c.message_in-read.ensures.is
-
-forty : (c : goal.After-message_in-read) → length c.message_in-read.result.bytes ≡ 40
-forty c = search rules
+  message : {r : Bool} → r ≡ is_message (take (length text - end) (drop end text)) → is_message (behind text) ≡ r
+  message e = ap is_message (sym rest) ∙ sym e
 
 pub returns-then-text-gt120 : goal.returns-then-text-gt120
 returns-then-text-gt120 c =
@@ -44,39 +36,46 @@ returns-then-text-gt120 c =
     rw (unreadable a.direction a.line a.text.now (too_long a.text.now c.if-text-gt120.true)) c.put_refusal.ensures
 
 pub slice_bounds-is_number-end : goal.slice_bounds-is_number-end
-slice_bounds-is_number-end c = sym (length-take-le c.part_end-end.result c.args.text.now (inside c))
+slice_bounds-is_number-end c = sym (length-take-le c.part_end-end.result c.args.text.now (inside _ _ c.part_end-end.ensures))
 
 pub returns-then-not-is_number : goal.returns-then-not-is_number
 returns-then-not-is_number c =
     let a = c.args in
-    rw (unreadable a.direction a.line a.text.now (no_number a.text.now (number c ∙ not-true c.is_number.result c.if-not-is_number.true))) c.put_refusal-then-not-is_number.ensures
+    rw (unreadable a.direction a.line a.text.now (no_number a.text.now (number _ _ c.part_end-end.ensures c.is_number.ensures ∙ c.if-not-is_number.true))) c.put_refusal-then-not-is_number.ensures
 
 pub slice_bounds-message_in-count : goal.slice_bounds-message_in-count
-slice_bounds-message_in-count c = inside c
+slice_bounds-message_in-count c = inside _ _ c.part_end-end.ensures
+
+pub slice_bounds-message_in-start : goal.slice_bounds-message_in-start
+slice_bounds-message_in-start c = inside _ _ c.part_end-end.ensures
 
 pub returns-then-not-read : goal.returns-then-not-read
 returns-then-not-read c =
     let a = c.args in
-    rw (unreadable a.direction a.line a.text.now (no-message a.text.now (message c ∙ not-true c.message_in-read.result.readable c.if-not-read.true))) c.put_refusal-then-not-read.ensures
+    rw (unreadable a.direction a.line a.text.now (no-message a.text.now (message _ _ c.part_end-end.ensures c.message_in-read.ensures.is ∙ c.if-not-read.true))) c.put_refusal-then-not-read.ensures
 
 pub slice_bounds-put_turned-end : goal.slice_bounds-put_turned-end
-slice_bounds-put_turned-end c = sym (length-take-le c.part_end-end.result c.args.text.now (inside c))
+slice_bounds-put_turned-end c = sym (length-take-le c.part_end-end.result c.args.text.now (inside _ _ c.part_end-end.ensures))
 
 pub slice_bounds-bytes-end : goal.slice_bounds-bytes-end
-slice_bounds-bytes-end c = omega (arith, forty c, c.message_in-read.ensures.few)
+slice_bounds-bytes-end c =
+    let forty : length c.message_in-read.result.bytes ≡ 40 = search rules in
+    omega (arith, forty, c.message_in-read.ensures.few)
 
 pub slice_bounds-put_turned-end-2 : goal.slice_bounds-put_turned-end-2
-slice_bounds-put_turned-end-2 c = sym (length-take-le c.message_in-read.result.count c.message_in-read.result.bytes (array-share-prefix-bytes c))
+slice_bounds-put_turned-end-2 c =
+    let forty : length c.message_in-read.result.bytes ≡ 40 = search rules in
+    sym (length-take-le c.message_in-read.result.count c.message_in-read.result.bytes (omega (arith, forty, c.message_in-read.ensures.few)))
 
 pub put_turned-requires : goal.put_turned-requires
-put_turned-requires c = (c.requires, sym c.is_number.ensures ∙ not-false c.is_number.result c.if-not-is_number.false)
+put_turned-requires c = (c.requires, sym c.is_number.ensures ∙ c.if-not-is_number.false)
 
 pub returns : goal.returns
 returns c =
     let a = c.args in
-    let read = c in
-    let named = c in
-    let readable : read.message_in-read.result.readable ≡ true = not-false read.message_in-read.result.readable c.if-not-read.false in
-    let bytes : take read.message_in-read.result.count read.message_in-read.result.bytes ≡ bytes_of (behind a.text.now) = read.message_in-read.ensures.bytes readable ∙ ap bytes_of (rest c) in
-    rw (was_read a.direction a.line a.text.now (reads a.text.now (omega (arith, c.if-text-gt120.false)) (number named ∙ not-false named.is_number.result c.if-not-is_number.false) (message read ∙ readable)))
-    (rw (word c, bytes) at c.put_turned.ensures)
+    let text = a.text.now in
+    let read = c.message_in-read in
+    let end = c.part_end-end.ensures in
+    let bytes : take read.result.count read.result.bytes ≡ bytes_of (behind text) = read.ensures.bytes c.if-not-read.false ∙ ap bytes_of (rest _ _ end) in
+    rw (was_read a.direction a.line text (reads text (omega (arith, c.if-text-gt120.false)) (number _ _ end c.is_number.ensures ∙ c.if-not-is_number.false) (message _ _ end read.ensures.is ∙ c.if-not-read.false)))
+    (rw (word _ _ end, bytes) at c.put_turned.ensures)

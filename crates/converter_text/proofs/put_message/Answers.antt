@@ -31,7 +31,7 @@ loop-i-preserved c =
     let byte = get_or a.bytes.now loop.i 0 in
     let put = c.put_byte-end in (
       omega arith,
-      put.auto.0 ∙ loop.invariant.1,
+      put.auto.out ∙ loop.invariant.1,
       omega (arith, put.ensures.end, text-long (byte ∷ []), loop.invariant.2),
       rw (text-next a.bytes.now loop.i c.loop-i-test.true) (both (omega (arith, c.requires)) loop.invariant.3 put.ensures),
     )

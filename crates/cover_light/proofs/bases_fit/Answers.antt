@@ -18,17 +18,8 @@ returns-then-bases-n c = let a = c.args in unfit-length a.n a.bases.now (search 
 pub loop-i-init : goal.loop-i-init
 loop-i-init c = (omega arith, every-none _)
 
-pub bounds-bases-i : goal.bounds-bases-i
-bounds-bases-i c = omega arith
-
 pub returns-then-bases-i-gt254 : goal.returns-then-bases-i-gt254
 returns-then-bases-i-gt254 c = let a = c.args in unfit-base a.n a.bases.now c.loop-i.i (omega arith) (lt-leb _ _ c.if-bases-i-gt254.true)
-
-pub overflow_add-i : goal.overflow_add-i
-overflow_add-i c = omega arith
-
-pub loop-i-smaller : goal.loop-i-smaller
-loop-i-smaller c = omega arith
 
 pub loop-i-preserved : goal.loop-i-preserved
 loop-i-preserved c = let l = c.loop-i in (omega arith, every-on _ l.i l.invariant.1 (le-leb _ _ c.if-bases-i-gt254.false))

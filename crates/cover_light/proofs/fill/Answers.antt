@@ -11,24 +11,6 @@ use Rattle.cover_light.proofs.fill.Goals as goal
 pub loop-i-init : goal.loop-i-init
 loop-i-init c = (omega arith, (refl, refl))
 
-pub overflow_add-i : goal.overflow_add-i
-overflow_add-i c = omega arith
-
-pub given-requires : goal.given-requires
-given-requires c = (omega arith, omega arith)
-
-pub overflow_cast-out : goal.overflow_cast-out
-overflow_cast-out c = omega arith
-
-pub bounds-out-i : goal.bounds-out-i
-bounds-out-i c = omega arith
-
-pub overflow_add-i-in-loop-i : goal.overflow_add-i-in-loop-i
-overflow_add-i-in-loop-i c = omega arith
-
-pub loop-i-smaller : goal.loop-i-smaller
-loop-i-smaller c = omega arith
-
 pub loop-i-preserved : goal.loop-i-preserved
 loop-i-preserved c =
     let a = c.args in
@@ -39,9 +21,6 @@ loop-i-preserved c =
         ap (λ (o : List ℕ). set o l.i c.given.result) l.invariant.1.1 ∙ one-laid (given_by a.member a.list a.bases.now) a.n a.out.now l.i c.given.result (omega arith) (omega arith) c.given.ensures,
       ),
     )
-
-pub shape_of-out : goal.shape_of-out
-shape_of-out c = c.loop-i.invariant.1.0
 
 pub returns : goal.returns
 returns c =

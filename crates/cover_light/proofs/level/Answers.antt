@@ -13,14 +13,14 @@ use Rattle.cover_light.proofs.level.Goals as goal
 pub level_by-requires : goal.level_by-requires
 level_by-requires c =
     let r = c.as_set-converted in
-    let m = made c.args.v r.result r.ensures c.enum_told.given.1 in
+    let m = made c.args.v r.result r.ensures c.in-Done.is in
     ap sound m.0 ∙ m.1
 
 pub returns-in-Done : goal.returns-in-Done
 returns-in-Done c =
     let a = c.args in
     let r = c.as_set-converted in
-    let m = made a.v r.result r.ensures c.enum_told.given.1 in
+    let m = made a.v r.result r.ensures c.in-Done.is in
     c.level_by.ensures ∙ ap (λ (v : Node). level_of v a.bases.now a.lamp) m.0
 
 pub returns-in-Refused : goal.returns-in-Refused
@@ -28,5 +28,5 @@ unfolding level_of
 returns-in-Refused c =
     let a = c.args in
     let r = c.as_set-converted in
-    let m = unmade a.v r.result r.ensures _ c.answer.given.1 in
+    let m = unmade a.v r.result r.ensures _ c.in-Refused.is in
     ap (λ (x : Refusal). Refused x) m.0 ∙ sym (otherwise _ _ m.1)

@@ -15,24 +15,21 @@ use Rattle.cover_light.proofs.levels_by.Goals as goal
 
 pub returns-then-not-bases_fit : goal.returns-then-not-bases_fit
 returns-then-not-bases_fit c =
-    let b = c in
-    levels-unfit b.args.v b.args.bases.now b.args.out.now b.requires (failed c.bases_fit.ensures c.if-not-bases_fit.true)
+    levels-unfit c.args.v c.args.bases.now c.args.out.now c.requires (failed c.bases_fit.ensures c.if-not-bases_fit.true)
 
 pub returns-then-out-n : goal.returns-then-out-n
 returns-then-out-n c =
-    let b = c in
-    levels-short b.args.v b.args.bases.now b.args.out.now b.requires (passed c.bases_fit.ensures c.if-not-bases_fit.false) (search rules)
+    levels-short c.args.v c.args.bases.now c.args.out.now c.requires (passed c.bases_fit.ensures c.if-not-bases_fit.false) (search rules)
 
 pub fill-requires : goal.fill-requires
-fill-requires c = let b = c in (few-lamps b.args.v b.requires, search rules)
+fill-requires c = (few-lamps c.args.v c.requires, search rules)
 
 pub returns : goal.returns
 unfolding lamp_level
 returns c =
-    let b = c in
-    let a = b.args in
+    let a = c.args in
     let n = a.v.cable.n in
     ap (λ (o : List ℕ). (wrote n, o))
     (c.fill.ensures
     ∙ ap (λ (m : Bool). map (given_by m a.v.set a.bases.now) (numbers_from n 1) ++ drop n a.out.now) c.is_member.ensures)
-    ∙ levels-all a.v a.bases.now a.out.now b.requires (passed c.bases_fit.ensures c.if-not-bases_fit.false) (search rules)
+    ∙ levels-all a.v a.bases.now a.out.now c.requires (passed c.bases_fit.ensures c.if-not-bases_fit.false) (search rules)

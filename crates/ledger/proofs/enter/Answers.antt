@@ -1,11 +1,9 @@
-use Prim.Native.Nat.{ℕ, ◌+◌, ◌-◌, ◌≤◌, ◌<◌}
+use Prim.Native.Nat.{ℕ, ◌+◌, ◌<◌}
 use mathlib.Core.Path.{◌≡◌, refl, sym, ap, ◌∙◌}
 use mathlib.Core.Bool.{Bool}
 use mathlib.Core.List.{[]}
 use native.Mathlib.Omega.{arith}
 use native.Mathlib.Numerals.{add-one}
-use borrow.Author.Rules.{rules}
-use borrow.Author.Tests.{ltb-true, ltb-false}
 use lib.ListN.{length, get_or, set, length-set}
 use Rattle.nodeset.specs.Sets.{has}
 use Rattle.bench.specs.Ledger.{Ledger}
@@ -13,36 +11,9 @@ use Rattle.ledger.specs.Entered.{entry_after, entered_from}
 use Rattle.ledger.proofs.Entered.{entry-ahead, one-entered, all-entered}
 use Rattle.ledger.proofs.enter.Goals as goal
 
-below : (c : goal.Then-i-lt32 invariant-loop decreases-loop) → c.loop-i.i < 32
-below c = ltb-true c.loop-i.i 32 c.if-i-lt32.true
-
 pub loop-i-init : goal.loop-i-init
 unfolding entered_from
 loop-i-init c = (omega arith, omega arith, refl, refl)
-
-pub overflow_cast-x : goal.overflow_cast-x
-overflow_cast-x c = omega (arith, below c)
-
-pub overflow_add-x : goal.overflow_add-x
-overflow_add-x c = omega (arith, below c)
-
-pub offset_bounds-ledger-i : goal.offset_bounds-ledger-i
-offset_bounds-ledger-i c = omega (arith, below c)
-
-pub slice_copy_out-entry_after : goal.slice_copy_out-entry_after
-slice_copy_out-entry_after c = omega (arith, c.loop-i-test.true)
-
-pub offset_bounds-ledger-i-in-loop-i : goal.offset_bounds-ledger-i-in-loop-i
-offset_bounds-ledger-i-in-loop-i c = omega (arith, below c)
-
-pub bounds-ledger-i : goal.bounds-ledger-i
-bounds-ledger-i c = omega (arith, c.loop-i-test.true)
-
-pub overflow_add-i : goal.overflow_add-i
-overflow_add-i c = omega (arith, below c)
-
-pub loop-i-smaller : goal.loop-i-smaller
-loop-i-smaller c = omega (arith, below c)
 
 pub loop-i-preserved : goal.loop-i-preserved
 loop-i-preserved c =
@@ -50,7 +21,7 @@ loop-i-preserved c =
     let l = in-loop.loop-i in
     let a = in-loop.args in
     let ledger = a.ledger.now in
-    let more : l.i < length ledger = omega (arith, in-loop.loop-i-test.true, l.invariant.2) in
+    let more : l.i < length ledger = omega arith in
     let entry : get_or l.ledger l.i [] ≡ get_or ledger l.i [] =
     ap (λ (x : Ledger). get_or x l.i []) l.invariant.3 ∙ entry-ahead a.date a.left a.joined l.i 1 ledger in
     let made : c.entry_after.result ≡ entry_after a.date (has a.left (l.i + 1)) (has a.joined (l.i + 1)) (get_or ledger l.i []) =
@@ -58,7 +29,7 @@ loop-i-preserved c =
     ∙ ap (λ (b : Bool). entry_after a.date b c.has-in-loop-i.result (get_or l.ledger l.i [])) c.has.ensures
     ∙ ap (λ (b : Bool). entry_after a.date (has a.left (l.i + 1)) b (get_or l.ledger l.i [])) c.has-in-loop-i.ensures
     ∙ ap (entry_after a.date (has a.left (l.i + 1)) (has a.joined (l.i + 1))) entry in (
-      omega (arith, below in-loop),
+      omega arith,
       omega (arith, more),
       length-set l.ledger l.i c.entry_after.result ∙ l.invariant.2,
       ap (λ (x : Ledger). set x l.i c.entry_after.result) l.invariant.3
@@ -74,7 +45,7 @@ pub returns-else-i-lt32 : goal.returns-else-i-lt32
 returns-else-i-lt32 c =
     let l = c.loop-i in
     let a = c.args in
-    let last : l.i ≡ 32 = omega (arith, l.invariant.0, ltb-false l.i 32 c.if-i-lt32.false) in
+    let last : l.i ≡ 32 = omega arith in
     l.invariant.3 ∙ ap (λ (m : ℕ). entered_from a.date a.left a.joined m 1 a.ledger.now) last
 
 pub shape_of-ledger-after-loop-i : goal.shape_of-ledger-after-loop-i

@@ -1,7 +1,6 @@
 -- `ledger::entry_after` meets its contract. Assumes nothing.
 use Prim.Native.Nat.{ℕ}
 use mathlib.Core.Path.{ap}
-use borrow.Author.Rules.{rules}
 use lib.ListN.{get_or}
 use Rattle.bench.specs.Ledger.{figures}
 use Rattle.ledger.proofs.entry_after.Goals as goal

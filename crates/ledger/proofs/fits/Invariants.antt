@@ -1,14 +1,10 @@
 -- `ledger::fits` meets its contract. The invariant: the entries so far fit. Assumes nothing.
 use Prim.Native.Nat.{◌-◌, ◌≤◌}
-use mathlib.Core.Path.{◌≡◌, ap, ◌∙◌}
+use mathlib.Core.Path.{◌≡◌}
 use mathlib.Core.Bool.{◌&&◌}
-use native.Mathlib.Omega.{arith}
-use borrow.Author.Rules.{rules}
 use lib.Dec.{eqb}
 use lib.ListN.{length, take}
-use lib.Seq.{take_all}
-use Rattle.bench.specs.Ledger.{Ledger, all_fit, ledger_fits}
-use Rattle.ledger.proofs.Entered.{one-fits, and_last}
+use Rattle.bench.specs.Ledger.{all_fit}
 use Rattle.ledger.proofs.fits.Given as goal
 
 abbrev pub invariant-loop-i : goal.invariant-loop-i

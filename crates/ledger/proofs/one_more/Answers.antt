@@ -1,6 +1,5 @@
 -- `ledger::one-more` meets its contract. Assumes nothing.
 use native.Mathlib.Omega.{arith}
-use borrow.Author.Rules.{rules}
 use borrow.Author.Tests.{lt-ltb, le-ltb}
 use Rattle.ledger.proofs.one_more.Goals as goal
 

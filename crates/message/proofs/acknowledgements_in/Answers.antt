@@ -1,6 +1,5 @@
 -- `message::acknowledgements_in` meets its contract: the part lent to `section_in` is section one.
 -- Assumes nothing.
-use borrow.Author.Rules.{rules}
 use native.Mathlib.Omega.{arith}
 use Prim.Native.Nat.{ℕ}
 use mathlib.Core.Path.{sym, ap, ◌∙◌}

@@ -1,13 +1,9 @@
 -- `message::bits_in` meets its contract. The loop's invariant: `bits` is what the bytes from `i` on hold; it is below 2 ^ 24 before a turn, since at
 -- most 3 bytes have been read. The measure is `i`. Assumes nothing.
-use Prim.Native.Nat.{ℕ, suc, ◌+◌, ◌-◌, ◌*◌, ◌^◌, ◌≤◌, ◌<◌}
-use mathlib.Core.Path.{◌≡◌, sym, ap, ◌∙◌}
-use native.Mathlib.Omega.{arith}
-use borrow.Author.Rules.{rules}
-use lib.ListN.{length, drop, get_or}
-use lib.Seq.{drop-length}
+use Prim.Native.Nat.{◌≤◌}
+use mathlib.Core.Path.{◌≡◌}
+use lib.ListN.{length, drop}
 use Rattle.message.specs.Message.{little}
-use Rattle.message.proofs.Bytes.{three-lt, little-drop}
 use Rattle.message.proofs.bits_in.Given as goal
 
 abbrev pub invariant-loop-i : goal.invariant-loop-i

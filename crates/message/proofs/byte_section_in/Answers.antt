@@ -1,5 +1,4 @@
 -- `message::byte_section_in` meets its contract: the part lent to `section_in` is the section. Assumes nothing.
-use borrow.Author.Rules.{rules}
 use Prim.Native.Nat.{ℕ}
 use mathlib.Core.Path.{ap, ◌∙◌}
 use native.Mathlib.Nat.{add-sub_cancel_left}

@@ -1,6 +1,5 @@
 -- `message::put_acknowledgements` meets its contract: the part that was lent comes back as the section.
 -- Assumes nothing.
-use borrow.Author.Rules.{rules}
 use mathlib.Core.Path.{sym}
 use native.Mathlib.Omega.{arith}
 use lib.Seq.{length-take-le}

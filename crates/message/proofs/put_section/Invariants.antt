@@ -1,13 +1,9 @@
 -- `message::put_section` meets its contract. The loop's invariant: the bytes before `i`, and then the bytes of what is left of the bits, are
 -- the section; the slice is as long as it was. The measure is what is left of the length. Assumes nothing.
-use Prim.Native.Nat.{ℕ, suc, ◌+◌, ◌-◌, ◌/◌, ◌%◌, ◌≤◌, ◌<◌}
-use mathlib.Core.Path.{◌≡◌, refl, sym, ap, ◌∙◌}
-use mathlib.Core.List.{List, ◌∷◌, ◌++◌, append_assoc, append-nil}
-use native.Mathlib.Omega.{arith}
-use native.Mathlib.Numerals.{add-one}
-use borrow.Author.Rules.{rules}
-use lib.ListN.{length, take, set, length-set}
-use lib.Seq.{take-suc-set, take-length}
+use Prim.Native.Nat.{◌-◌, ◌≤◌}
+use mathlib.Core.Path.{◌≡◌}
+use mathlib.Core.List.{◌++◌}
+use lib.ListN.{length, take}
 use Rattle.message.specs.Message.{bytes_of, section_of}
 use Rattle.message.proofs.put_section.Given as goal
 

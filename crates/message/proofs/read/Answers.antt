@@ -1,14 +1,10 @@
 -- `message::read` meets its contract: at each `return` the tests that led there say which case of `read_of` holds. Assumes nothing.
-use borrow.Author.Rules.{rules}
 use Prim.Native.Nat.{ℕ, ◌+◌}
 use mathlib.Core.Path.{◌≡◌, sym, ap, ◌∙◌}
-use mathlib.Core.Bool.{true}
 use native.Mathlib.Omega.{arith}
 use lib.ListN.{length, take, drop}
-use borrow.Author.Tests.{eq-eqb, ne_eqb, leb-true}
-use Rattle.cable.specs.Cable.{job_count}
-use Rattle.message.specs.Message.{in_range, length_of, read_of, section_in}
-use Rattle.message.proofs.Tests.{in-range}
+use borrow.Author.Tests.{eq-eqb, ne_eqb}
+use Rattle.message.specs.Message.{length_of, read_of, section_in}
 use Rattle.message.proofs.read.Goals as goal
 
 pub returns-then-not-in_range : goal.returns-then-not-in_range

@@ -1,14 +1,11 @@
 -- `message::read_two` meets its contract: at each `return` the tests that led there say which case of `read_two_of` holds. Assumes nothing.
-use borrow.Author.Rules.{rules}
 use Prim.Native.Nat.{ℕ}
 use mathlib.Core.Path.{◌≡◌, sym, ap, ◌∙◌}
-use mathlib.Core.Bool.{true}
 use native.Mathlib.Omega.{arith}
 use lib.ListN.{length, take, drop}
 use borrow.Author.Tests.{eq-eqb, ne_eqb}
-use Rattle.message.specs.Message.{in_range, length_two, section_in}
+use Rattle.message.specs.Message.{length_two, section_in}
 use Rattle.message.specs.TwoSections.{read_two_of}
-use Rattle.message.proofs.Tests.{in-range}
 use Rattle.message.proofs.read_two.Goals as goal
 
 pub returns-then-not-in_range : goal.returns-then-not-in_range

@@ -1,6 +1,4 @@
 -- `message::said_by` meets its contract: at each `return` the tests that led there say which case of `said_by` holds. Assumes nothing.
-use borrow.Author.Rules.{rules}
-use mathlib.Core.Bool.{◌&&◌}
 use Rattle.message.specs.Message.{said_by}
 use Rattle.message.proofs.said_by.Goals as goal
 

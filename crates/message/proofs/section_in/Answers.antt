@@ -1,7 +1,5 @@
 -- `message::section_in` meets its contract: a shift by the count leaves 0 where no spare bit is set.
 -- Assumes nothing.
-use borrow.Author.Rules.{rules}
-use native.Mathlib.Omega.{arith}
 use Rattle.message.proofs.Tests.{shifted-out}
 use Rattle.message.proofs.section_in.Goals as goal
 

@@ -1,15 +1,10 @@
 -- `message::write` meets its contract: at each `return` the tests that led there say which case of `write_of` holds. Assumes nothing.
-use borrow.Author.Rules.{rules}
-use Prim.Native.Nat.{◌+◌, ◌^◌, ◌≤◌}
+use Prim.Native.Nat.{◌+◌, ◌≤◌}
 use mathlib.Core.Path.{◌≡◌, sym, ◌∙◌}
-use mathlib.Core.Bool.{true, ◌&&◌}
 use native.Mathlib.Omega.{arith}
 use lib.ListN.{length}
-use lib.Dec.{ltb}
-use borrow.Author.Tests.{le-leb, lt-leb, leb-true}
-use Rattle.cable.specs.Cable.{job_count}
-use Rattle.message.specs.Message.{in_range, length_of, write_of}
-use Rattle.message.proofs.Tests.{in-range}
+use borrow.Author.Tests.{le-leb, lt-leb}
+use Rattle.message.specs.Message.{length_of, write_of}
 use Rattle.message.proofs.write.Goals as goal
 
 pub returns-then-not-in_range : goal.returns-then-not-in_range

@@ -1,15 +1,12 @@
 -- `message::write_two` meets its contract: at each `return` the tests that led there say which case of `write_two_of` holds. Assumes nothing.
-use borrow.Author.Rules.{rules}
 use Prim.Native.Nat.{◌+◌, ◌/◌, ◌^◌, ◌≤◌}
 use mathlib.Core.Path.{◌≡◌, sym, ◌∙◌}
-use mathlib.Core.Bool.{true}
 use native.Mathlib.Omega.{arith}
 use lib.ListN.{length}
-use lib.Dec.{ltb}
 use borrow.Author.Tests.{eq-eqb, ne_eqb, le-leb, lt-leb}
-use Rattle.message.specs.Message.{in_range, length_two}
+use Rattle.message.specs.Message.{length_two}
 use Rattle.message.specs.TwoSections.{write_two_of}
-use Rattle.message.proofs.Tests.{in-range, shifted-out}
+use Rattle.message.proofs.Tests.{shifted-out}
 use Rattle.message.proofs.write_two.Goals as goal
 
 pub returns-then-not-in_range : goal.returns-then-not-in_range

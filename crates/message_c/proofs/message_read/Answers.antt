@@ -1,7 +1,6 @@
 -- `message_c::message_read` meets its contract. Assumes nothing.
 use mathlib.Core.Path.{ap, ◌∙◌}
 use Rattle.message_c.specs.Numbers.{received_number}
-use borrow.Author.Rules.{rules}
 use Rattle.message_c.proofs.message_read.Goals as goal
 
 pub returns : goal.returns

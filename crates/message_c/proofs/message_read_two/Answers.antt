@@ -1,7 +1,6 @@
 -- `message_c::message_read_two` meets its contract. Assumes nothing.
 use mathlib.Core.Path.{ap, ◌∙◌}
 use Rattle.message_c.specs.Numbers.{received_number}
-use borrow.Author.Rules.{rules}
 use Rattle.message_c.proofs.message_read_two.Goals as goal
 
 pub returns : goal.returns

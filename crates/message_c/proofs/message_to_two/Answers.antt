@@ -1,5 +1,4 @@
 -- `message_c::message_to_two` meets its contract. Assumes nothing.
-use borrow.Author.Rules.{rules}
 use Prim.Native.Nat.{ℕ}
 use mathlib.Core.Path.{sym, ap, subst, ◌∙◌}
 use Rattle.message.specs.Message.{Outcome}
@@ -14,4 +13,4 @@ written_number-requires c =
 
 pub returns : goal.returns
 returns c =
-    ap (λ (x : ℕ). (x, c.to_two-written.new.1.1.0)) c.written_number.ensures ∙ ap outcome_number c.to_two-written.ensures
+    ap (λ (x : ℕ). (x, c.to_two-written.new.out)) c.written_number.ensures ∙ ap outcome_number c.to_two-written.ensures

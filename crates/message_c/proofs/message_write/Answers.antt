@@ -1,5 +1,4 @@
 -- `message_c::message_write` meets its contract. Assumes nothing.
-use borrow.Author.Rules.{rules}
 use Prim.Native.Nat.{ℕ}
 use mathlib.Core.Path.{sym, ap, subst, ◌∙◌}
 use Rattle.message.specs.Message.{Outcome}
@@ -10,8 +9,8 @@ use Rattle.message_c.proofs.message_write.Goals as goal
 pub written_number-requires : goal.written_number-requires
 written_number-requires c =
     let a = c.args in
-    subst (λ (o : Outcome). Short o.0) (sym c.write-written.ensures) (write-short a.k a.m a.acknowledgements a.return-bit a.jobs a.out.now)
+    subst (λ (o : Outcome). Short o.0) (sym c.write-written.ensures) (write-short a.k a.m a.acknowledgements a.return_bit a.jobs a.out.now)
 
 pub returns : goal.returns
 returns c =
-    ap (λ (x : ℕ). (x, c.write-written.new.1.1.1.1.1.0)) c.written_number.ensures ∙ ap outcome_number c.write-written.ensures
+    ap (λ (x : ℕ). (x, c.write-written.new.out)) c.written_number.ensures ∙ ap outcome_number c.write-written.ensures

@@ -1,5 +1,4 @@
 -- `message_c::message_write_two` meets its contract. Assumes nothing.
-use borrow.Author.Rules.{rules}
 use Prim.Native.Nat.{ℕ}
 use mathlib.Core.Path.{sym, ap, subst, ◌∙◌}
 use Rattle.message.specs.Message.{Outcome}
@@ -10,8 +9,8 @@ use Rattle.message_c.proofs.message_write_two.Goals as goal
 pub written_number-requires : goal.written_number-requires
 written_number-requires c =
     let a = c.args in
-    subst (λ (o : Outcome). Short o.0) (sym c.write_two-written.ensures) (write-two-short a.k a.acknowledgements a.return-bit a.out.now)
+    subst (λ (o : Outcome). Short o.0) (sym c.write_two-written.ensures) (write-two-short a.k a.acknowledgements a.return_bit a.out.now)
 
 pub returns : goal.returns
 returns c =
-    ap (λ (x : ℕ). (x, c.write_two-written.new.1.1.1.0)) c.written_number.ensures ∙ ap outcome_number c.write_two-written.ensures
+    ap (λ (x : ℕ). (x, c.write_two-written.new.out)) c.written_number.ensures ∙ ap outcome_number c.write_two-written.ensures

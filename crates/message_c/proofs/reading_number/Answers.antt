@@ -6,7 +6,6 @@ use native.Mathlib.Omega.{arith}
 use mir.Val.{bool_byte}
 use Rattle.message.proofs.Tests.{byte-is, bit-small}
 use Rattle.message_c.specs.Numbers.{reading_number}
-use borrow.Author.Rules.{rules}
 use Rattle.message_c.proofs.reading_number.Goals as goal
 
 -- a bool is 0 or 1
@@ -14,19 +13,19 @@ small : (b : Bool) → bool_byte b < 2
 small b = omega (arith, byte-is b, bit-small b)
 
 pub overflow_mul-result-in-Heard : goal.overflow_mul-result-in-Heard
-overflow_mul-result-in-Heard c = omega (arith, small c.reading.given.0.1.0)
+overflow_mul-result-in-Heard c = omega (arith, small c.in-Heard.return_bit)
 
 pub overflow_add-result-in-Heard : goal.overflow_add-result-in-Heard
-overflow_add-result-in-Heard c = omega (arith, small c.reading.given.0.1.0)
+overflow_add-result-in-Heard c = omega (arith, small c.in-Heard.return_bit)
 
 pub overflow_add-result-in-Heard-2 : goal.overflow_add-result-in-Heard-2
-overflow_add-result-in-Heard-2 c = omega (arith, small c.reading.given.0.1.0)
+overflow_add-result-in-Heard-2 c = omega (arith, small c.in-Heard.return_bit)
 
 pub returns-in-Heard : goal.returns-in-Heard
 returns-in-Heard c =
     let a = c.args in
-    ap (λ (x : ℕ). 0x200_0000_0000 + a.jobs * 0x2_0000_0000 + x * 0x1_0000_0000 + c.reading.given.0.0) (byte-is c.reading.given.0.1.0)
-    ∙ ap (reading_number a.jobs) (sym c.reading.given.1)
+    ap (λ (x : ℕ). 0x200_0000_0000 + a.jobs * 0x2_0000_0000 + x * 0x1_0000_0000 + c.in-Heard.acknowledgements) (byte-is c.in-Heard.return_bit)
+    ∙ ap (reading_number a.jobs) (sym c.in-Heard.is)
 
 pub returns-in-Refused : goal.returns-in-Refused
-returns-in-Refused c = c.number.ensures ∙ ap (reading_number c.args.jobs) (sym c.reading2.given.1)
+returns-in-Refused c = c.number.ensures ∙ ap (reading_number c.args.jobs) (sym c.in-Refused.is)

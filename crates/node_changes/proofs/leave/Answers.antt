@@ -1,6 +1,5 @@
 -- `node_changes::leave` meets its contract: its test is that of the definition. Assumes nothing.
 use mathlib.Core.Path.{sym, ◌∙◌}
-use borrow.Author.Rules.{rules}
 use Rattle.nodeset.proofs.Tests.{told, chosen, otherwise}
 use Rattle.node_changes.specs.Held.{leave}
 use Rattle.node_changes.proofs.leave.Goals as goal

@@ -1,7 +1,6 @@
 -- `node_changes::starting` meets its contract: the row is that of the full set. Assumes nothing.
 use Prim.Native.Nat.{ℕ}
 use mathlib.Core.Path.{ap, ◌∙◌}
-use borrow.Author.Rules.{rules}
 use Rattle.row.specs.declared.Row.{Row}
 use Rattle.row.specs.Rows.{as_row}
 use Rattle.node_changes.specs.Held.{beginning}

@@ -1,5 +1,4 @@
 -- `node_hearing::clean` meets its contract: it makes the tests of its definition. Assumes nothing.
-use borrow.Author.Rules.{rules}
 use Rattle.node_hearing.specs.Hearing.{clean}
 use Rattle.node_hearing.proofs.clean.Goals as goal
 

@@ -1,7 +1,6 @@
 -- `node_hearing::window_end` meets its contract: its tests are those of the definition. Assumes nothing.
 use mathlib.Core.Path.{sym, ◌∙◌}
 use borrow.Author.Tests.{eq-eqb, ne_eqb}
-use borrow.Author.Rules.{rules}
 use Rattle.nodeset.proofs.Tests.{failed, passed, chosen, otherwise}
 use Rattle.node_hearing.specs.Held.{window_end}
 use Rattle.node_hearing.proofs.window_end.Goals as goal

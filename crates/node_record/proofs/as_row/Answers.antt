@@ -1,5 +1,4 @@
 -- `node_record::as_row` meets its contract. Assumes nothing.
-use borrow.Author.Rules.{rules}
 use Rattle.node_record.proofs.as_row.Goals as goal
 
 pub returns : goal.returns

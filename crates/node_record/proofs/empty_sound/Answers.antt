@@ -2,7 +2,6 @@
 use mathlib.Core.Path.{refl, ap₂}
 use mathlib.Core.Bool.{◌||◌}
 use Rattle.node_record.specs.Soundness.{implies}
-use borrow.Author.Rules.{rules}
 use Rattle.node_record.proofs.empty_sound.Goals as goal
 
 pub returns : goal.returns

@@ -4,7 +4,6 @@ use mathlib.Core.Bool.{Bool, ◌||◌}
 use lib.Dec.{leb}
 use Rattle.nodeset.proofs.Tests.{told}
 use Rattle.node_record.specs.Soundness.{implies}
-use borrow.Author.Rules.{rules}
 use Rattle.node_record.proofs.enough_sound.Goals as goal
 
 pub returns-then-is_following-is_knocking : goal.returns-then-is_following-is_knocking

@@ -1,7 +1,6 @@
 -- `node_record::is_sound` meets its contract: it makes the tests of its definition. Assumes nothing.
 use mathlib.Core.Path.{ap₂, ◌∙◌}
 use mathlib.Core.Bool.{◌&&◌}
-use borrow.Author.Rules.{rules}
 use Rattle.node_record.specs.Inner.{sound_held}
 use Rattle.node_record.proofs.Holding.{held-sound}
 use Rattle.node_record.proofs.is_sound.Goals as goal

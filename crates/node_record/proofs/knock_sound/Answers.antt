@@ -1,7 +1,6 @@
 -- `node_record::knock_sound` meets its contract: it makes the tests of its definition. Assumes nothing.
 use mathlib.Core.Path.{refl, ap₂}
 use Rattle.node_record.specs.Soundness.{exactly}
-use borrow.Author.Rules.{rules}
 use Rattle.node_record.proofs.knock_sound.Goals as goal
 
 pub returns : goal.returns

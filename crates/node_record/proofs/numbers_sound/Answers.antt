@@ -1,7 +1,6 @@
 -- `node_record::numbers_sound` meets its contract: it makes the tests of its definition. Assumes nothing.
 use mathlib.Core.Path.{refl, ap₂}
 use mathlib.Core.Bool.{◌&&◌}
-use borrow.Author.Rules.{rules}
 use Rattle.node_record.proofs.numbers_sound.Goals as goal
 
 pub returns : goal.returns

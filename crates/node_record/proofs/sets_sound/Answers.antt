@@ -1,7 +1,6 @@
 -- `node_record::sets_sound` meets its contract: it makes the tests of its definition. Assumes nothing.
 use mathlib.Core.Path.{ap, ap₂, ◌∙◌}
 use mathlib.Core.Bool.{◌&&◌}
-use borrow.Author.Rules.{rules}
 use Rattle.nodeset.specs.Sets.{subset}
 use Rattle.node_record.proofs.sets_sound.Goals as goal
 

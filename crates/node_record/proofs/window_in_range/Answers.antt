@@ -4,7 +4,6 @@ use lib.Dec.{eqb, leb, ltb}
 use Rattle.node_record.specs.Soundness.{implies}
 use mathlib.Core.Path.{ap, ap₂}
 use Prim.Native.Nat.{ℕ}
-use borrow.Author.Rules.{rules}
 use Rattle.node_record.proofs.window_in_range.Goals as goal
 
 pub returns : goal.returns

@@ -3,7 +3,6 @@ use mathlib.Core.Path.{◌≡◌, sym, ap, ◌∙◌}
 use mathlib.Core.Bool.{Bool, true, false, ◌&&◌, ◌||◌, and-true}
 use Rattle.nodeset.proofs.Tests.{told}
 use Rattle.node_record.specs.Soundness.{implies}
-use borrow.Author.Rules.{rules}
 use Rattle.node_record.proofs.window_sound.Goals as goal
 
 -- the clause where the node listens, and where it does not

@@ -1,6 +1,5 @@
 -- `node_sending::bits_sent` meets its contract: its test is that of the definition. Assumes nothing.
 use mathlib.Core.Path.{sym, ◌∙◌}
-use borrow.Author.Rules.{rules}
 use Rattle.nodeset.proofs.Tests.{told, chosen, otherwise}
 use Rattle.node_sending.specs.Held.{bits_sent}
 use Rattle.node_sending.proofs.bits_sent.Goals as goal

@@ -1,6 +1,5 @@
 -- `node_sending::jobs_sent` meets its contract: its test is that of the definition. Assumes nothing.
 use mathlib.Core.Path.{sym}
-use borrow.Author.Rules.{rules}
 use Rattle.nodeset.proofs.Tests.{failed, passed, chosen, otherwise}
 use Rattle.node_sending.proofs.jobs_sent.Goals as goal
 

@@ -1,19 +1,15 @@
-use Prim.Native.Nat.{ℕ, ◌+◌, ◌-◌, ◌≤◌}
+-- `node_sending::mark_bits` meets its contract: the goals about its invariant. Assumes nothing.
+use Prim.Native.Nat.{ℕ, ◌+◌}
 use mathlib.Core.Path.{◌≡◌, refl, ap, ap₂, ◌∙◌, subst⁻¹}
 use mathlib.Core.Bool.{Bool}
 use native.Mathlib.Omega.{arith}
 use native.Mathlib.Numerals.{add-one}
-use borrow.Author.Rules.{rules}
 use Rattle.nodeset.specs.Sets.{has, with_if}
 use Rattle.row.specs.Inner.{back_in}
 use Rattle.row.specs.Sponsoring.{sponsored_row}
 use Rattle.node_record.specs.declared.Held.{Held}
 use Rattle.node_sending.specs.Held.{mark_bits}
 use Rattle.node_sending.proofs.mark_bits.Goals as goal
-
-record Going (v : Held) (most j bits : ℕ) : Type 0 where
-  below : j ≤ most
-  so_far : bits ≡ mark_bits j v
 
 -- one bit more is one step of the definition
 one-more : (v : Held) (j bits x : ℕ) → bits ≡ mark_bits j v → x ≡ sponsored_row v.cable v.row v.own (j + 1)

@@ -1,5 +1,4 @@
 -- `node_sending::return_sent` meets its contract: it makes the tests of its definition. Assumes nothing.
-use borrow.Author.Rules.{rules}
 use Rattle.node_sending.proofs.return_sent.Goals as goal
 
 pub returns : goal.returns

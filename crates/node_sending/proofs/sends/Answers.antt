@@ -1,5 +1,4 @@
 -- `node_sending::sends` meets its contract: it makes the tests of its definition. Assumes nothing.
-use borrow.Author.Rules.{rules}
 use Rattle.node_sending.proofs.sends.Goals as goal
 
 pub returns : goal.returns

@@ -1,5 +1,4 @@
 -- `node_steps::decided_by` meets its contract: its test is that of the definition. Assumes nothing.
-use borrow.Author.Rules.{rules}
 use mathlib.Core.Path.{sym, ◌∙◌}
 use Rattle.nodeset.proofs.Tests.{told, chosen, otherwise}
 use Rattle.node_steps.proofs.decided_by.Goals as goal

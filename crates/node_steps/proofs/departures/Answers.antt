@@ -1,8 +1,8 @@
+-- `node_steps::departures` meets its contract: the goals about its invariant. Assumes nothing.
 use Prim.Native.Nat.{ℕ, suc, ◌-◌}
 use mathlib.Core.Path.{◌≡◌, refl, sym, ap, ◌∙◌}
 use mathlib.Core.Bool.{true, false}
 use native.Mathlib.Omega.{arith}
-use borrow.Author.Rules.{rules}
 use borrow.Author.Tests.{eq-eqb, ne_eqb}
 use Rattle.nodeset.proofs.Tests.{told, chosen, otherwise}
 use Rattle.row.specs.declared.Row.{Row}

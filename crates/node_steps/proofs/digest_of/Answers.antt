@@ -1,7 +1,6 @@
 -- `node_steps::digest_of` meets its contract: it makes the record of its definition. Assumes nothing.
 use Prim.Native.Nat.{ℕ}
 use mathlib.Core.Path.{ap, ap₂, ◌∙◌}
-use borrow.Author.Rules.{rules}
 use Rattle.node_steps.specs.declared.Said.{Said}
 use Rattle.node_steps.specs.Held.{said_of, digest_of}
 use Rattle.node_steps.proofs.digest_of.Goals as goal

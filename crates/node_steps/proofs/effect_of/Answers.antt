@@ -1,6 +1,5 @@
 -- `node_steps::effect_of` meets its contract: the reader's answer is taken apart as in the definition. Assumes nothing.
 use mathlib.Core.Path.{sym, ap, ◌∙◌}
-use borrow.Author.Rules.{rules}
 use Rattle.message.specs.declared.Reading.{Reading}
 use Rattle.node_steps.specs.declared.Said.{Said}
 use Rattle.node_record.specs.Held.{setted}
@@ -11,12 +10,12 @@ use Rattle.node_steps.proofs.effect_of.Goals as goal
 pub returns-in_default : goal.returns-in_default
 returns-in_default c =
     let a = c.args in
-    c.unheard_effect.ensures ∙ sym (ap (λ (r : Reading). effect_of a.digest a.s r a.v) c.enum_told.given.1)
+    c.unheard_effect.ensures ∙ sym (ap (λ (r : Reading). effect_of a.digest a.s r a.v) c.in_default.is)
 
 pub returns : goal.returns
 returns c =
-    let h = c.heard.given in
+    let h = c.in-Heard in
     let a = c.args in
     c.heard_effect.ensures
-    ∙ ap (λ (said : Said). heard_effect said h.0.1.0 (setted a.v)) c.said_by.ensures
-    ∙ sym (ap (λ (r : Reading). effect_of a.digest a.s r a.v) h.1)
+    ∙ ap (λ (said : Said). heard_effect said h.return_bit (setted a.v)) c.said_by.ensures
+    ∙ sym (ap (λ (r : Reading). effect_of a.digest a.s r a.v) h.is)

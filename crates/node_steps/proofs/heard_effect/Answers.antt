@@ -2,7 +2,6 @@
 use Prim.Native.Nat.{ℕ}
 use mathlib.Core.Path.{ap₂}
 use mathlib.Core.Bool.{Bool, true, ◌||◌}
-use borrow.Author.Rules.{rules}
 use Rattle.node_steps.proofs.heard_effect.Goals as goal
 
 pub returns : goal.returns

@@ -1,5 +1,4 @@
 -- `node_steps::join` meets its contract: its test is that of the definition. Assumes nothing.
-use borrow.Author.Rules.{rules}
 use mathlib.Core.Path.{sym, ap, ◌∙◌}
 use mathlib.Core.Bool.{Bool, not, ◌&&◌}
 use Rattle.nodeset.proofs.Tests.{chosen, otherwise}

@@ -1,5 +1,4 @@
 -- `node_steps::joined` meets its contract: it makes the record of its definition. Assumes nothing.
-use borrow.Author.Rules.{rules}
 use mathlib.Core.Path.{◌≡◌}
 use Rattle.nodeset.specs.Sets.{with}
 use Rattle.row.specs.Inner.{with_row}

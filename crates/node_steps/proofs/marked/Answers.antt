@@ -1,5 +1,4 @@
 -- `node_steps::marked` meets its contract: it makes the record of its definition. Assumes nothing.
-use borrow.Author.Rules.{rules}
 use mathlib.Core.Path.{ap, ◌∙◌}
 use mathlib.Core.Bool.{Bool, ◌&&◌, ◌||◌}
 use Rattle.node_changes.specs.Held.{with_marks}

@@ -2,7 +2,6 @@
 use Prim.Native.Nat.{ℕ}
 use mathlib.Core.Path.{◌≡◌, refl, sym, ◌∙◌}
 use mathlib.Core.Bool.{Bool, cond, not, ◌&&◌}
-use borrow.Author.Rules.{rules}
 use Rattle.nodeset.specs.Sets.{has, without, union}
 use Rattle.nodeset.proofs.Tests.{chosen, otherwise}
 use Rattle.node_record.specs.declared.Node.{Node}

@@ -1,5 +1,4 @@
 -- `node_steps::nothing_heard` meets its contract: it makes the test of its definition. Assumes nothing.
-use borrow.Author.Rules.{rules}
 use Prim.Native.Nat.{ℕ}
 use mathlib.Core.Path.{ap, ◌∙◌}
 use lib.Dec.{eqb}

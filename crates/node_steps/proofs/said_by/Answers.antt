@@ -1,7 +1,6 @@
 -- `node_steps::said_by` meets its contract: its test is that of the definition. Assumes nothing.
 use mathlib.Core.Path.{sym, ◌∙◌}
 use Rattle.nodeset.proofs.Tests.{told, chosen, otherwise}
-use borrow.Author.Rules.{rules}
 use Rattle.node_steps.proofs.said_by.Goals as goal
 
 pub returns-then-is_for : goal.returns-then-is_for

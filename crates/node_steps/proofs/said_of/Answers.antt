@@ -1,4 +1,5 @@
-use Prim.Native.Nat.{ℕ, ◌+◌, ◌-◌, ◌^◌, ◌<◌, ◌≤◌}
+-- `node_steps::said_of` meets its contract: the goals about its invariant. Assumes nothing.
+use Prim.Native.Nat.{ℕ, ◌+◌, ◌^◌, ◌<◌}
 use mathlib.Core.Path.{◌≡◌, refl, ap, ap₂, ◌∙◌, subst⁻¹}
 use mathlib.Core.Bool.{Bool, true, false, cond}
 use native.Mathlib.Omega.{arith}
@@ -7,19 +8,11 @@ use borrow.Author.Rules.{rules}
 use Rattle.nodeset.specs.Sets.{has, with}
 use Rattle.cable.specs.declared.Cable.{Cable}
 use Rattle.row.specs.declared.Row.{Row}
-use Rattle.row.specs.Inner.{has_row, rank_in, back_in}
+use Rattle.row.specs.Inner.{back_in}
 use Rattle.row.specs.Sponsoring.{sponsors_row, sponsored_row}
 use Rattle.node_steps.specs.Steps.{says_so}
 use Rattle.node_steps.specs.Held.{answered}
 use Rattle.node_steps.proofs.said_of.Goals as goal
-
-record Going (s bits : ℕ) (cable : Cable) (row : Row) (most rank : ℕ) (here : Bool) (j yes' no' : ℕ) : Type 0 where
-  below : j ≤ most
-  count : most ≡ sponsors_row cable row
-  rank_is : rank ≡ rank_in cable.order row s
-  here-is : here ≡ has_row row s
-  so_far : yes' ≡ answered true (with 0 s) j s bits cable row
-  others : no' ≡ answered false 0 j s bits cable row
 
 one-more : (answer : Bool) (start s bits : ℕ) (cable : Cable) (row : Row) (j nodes x : ℕ) (bit : Bool)
     → bit ≡ has bits (j + 1) → nodes ≡ answered answer start j s bits cable row → x ≡ sponsored_row cable row s (j + 1)

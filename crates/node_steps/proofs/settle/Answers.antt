@@ -1,5 +1,4 @@
 -- `node_steps::settle` meets its contract: its tests are those of the definition, in their order. Assumes nothing.
-use borrow.Author.Rules.{rules}
 use mathlib.Core.Path.{sym, ap, ◌∙◌}
 use mathlib.Core.Bool.{Bool, ◌&&◌}
 use Rattle.nodeset.proofs.Tests.{told, chosen, otherwise}

@@ -1,5 +1,4 @@
 -- `node_steps::taken` meets its contract: its test is that of the definition. Assumes nothing.
-use borrow.Author.Rules.{rules}
 use mathlib.Core.Path.{sym, ◌∙◌}
 use Rattle.nodeset.proofs.Tests.{chosen, otherwise}
 use Rattle.node_steps.proofs.taken.Goals as goal

@@ -1,5 +1,4 @@
 -- `node_steps::too-few` meets its contract: it makes the tests of its definition. Assumes nothing.
-use borrow.Author.Rules.{rules}
 use mathlib.Core.Path.{ap}
 use mathlib.Core.Bool.{Bool, not, ◌&&◌}
 use lib.Dec.{ltb}

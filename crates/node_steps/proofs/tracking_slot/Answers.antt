@@ -2,7 +2,6 @@
 use Prim.Native.Nat.{ℕ}
 use mathlib.Core.Path.{◌≡◌, refl, sym, ap, ap₂, ◌∙◌}
 use mathlib.Core.Bool.{Bool, cond}
-use borrow.Author.Rules.{rules}
 use Rattle.row.specs.Inner.{has_row}
 use Rattle.nodeset.proofs.Tests.{chosen, otherwise}
 use Rattle.message.specs.declared.Reading.{Reading}

@@ -1,6 +1,5 @@
 -- `node_steps::unheard_marks` meets its contract: its test is that of the definition. Assumes nothing.
 use mathlib.Core.Path.{sym, ◌∙◌}
-use borrow.Author.Rules.{rules}
 use borrow.Author.Tests.{eq-eqb, ne_eqb}
 use Rattle.nodeset.proofs.Tests.{chosen, otherwise}
 use Rattle.node_steps.proofs.unheard_marks.Goals as goal

@@ -1,9 +1,6 @@
-use Prim.Native.Nat.{◌≤◌, ◌-◌}
-use mathlib.Core.Path.{◌≡◌, refl, sym, ◌∙◌}
+use mathlib.Core.Path.{refl, sym, ◌∙◌}
 use native.Mathlib.Omega.{arith}
 use borrow.Author.Rules.{rules}
-use lib.ListN.{length, drop}
-use Rattle.plan_line.specs.Words.{all_digits}
 use Rattle.plan_line.proofs.Words.{digits-next, digits_low, digits-high, digits-end}
 use Rattle.plan_line.proofs.all_digits.Goals as goal
 

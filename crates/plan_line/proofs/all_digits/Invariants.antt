@@ -1,12 +1,9 @@
--- `plan_line::all-digits` meets its contract. The loop's invariant: the word is all digits where what is left from `i` on is. The measure is
+-- `plan_line::all_digits` meets its contract. The loop's invariant: the word is all digits where what is left from `i` on is. The measure is
 -- what is left. Assumes nothing.
 use Prim.Native.Nat.{◌≤◌, ◌-◌}
-use mathlib.Core.Path.{◌≡◌, refl, sym, ◌∙◌}
-use native.Mathlib.Omega.{arith}
-use borrow.Author.Rules.{rules}
+use mathlib.Core.Path.{◌≡◌}
 use lib.ListN.{length, drop}
 use Rattle.plan_line.specs.Words.{all_digits}
-use Rattle.plan_line.proofs.Words.{digits-next, digits_low, digits-high, digits-end}
 use Rattle.plan_line.proofs.all_digits.Given as goal
 
 abbrev pub invariant-loop-i : goal.invariant-loop-i

@@ -1,9 +1,6 @@
-use Prim.Native.Nat.{◌≤◌, ◌-◌}
-use mathlib.Core.Path.{◌≡◌, refl, sym, ◌∙◌}
+use mathlib.Core.Path.{refl, sym, ◌∙◌}
 use native.Mathlib.Omega.{arith}
 use borrow.Author.Rules.{rules}
-use lib.ListN.{length, drop}
-use Rattle.plan_line.specs.Words as words
 use Rattle.plan_line.proofs.Words.{begins-next, begins-stop, begins-short, begins-end}
 use Rattle.plan_line.proofs.begins.Goals as goal
 

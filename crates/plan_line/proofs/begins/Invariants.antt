@@ -1,12 +1,9 @@
 -- `plan_line::begins` meets its contract. The loop's invariant: the line begins with the word where what is left of it from `i` on begins with
 -- what is left of the word. The measure is what is left of the word. Assumes nothing.
 use Prim.Native.Nat.{◌≤◌, ◌-◌}
-use mathlib.Core.Path.{◌≡◌, refl, sym, ◌∙◌}
-use native.Mathlib.Omega.{arith}
-use borrow.Author.Rules.{rules}
+use mathlib.Core.Path.{◌≡◌}
 use lib.ListN.{length, drop}
 use Rattle.plan_line.specs.Words as words
-use Rattle.plan_line.proofs.Words.{begins-next, begins-stop, begins-short, begins-end}
 use Rattle.plan_line.proofs.begins.Given as goal
 
 abbrev pub invariant-loop-i : goal.invariant-loop-i

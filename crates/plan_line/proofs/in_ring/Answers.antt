@@ -1,7 +1,6 @@
 -- `plan_line::in_ring` meets its contract.
 -- Assumes nothing.
 use mathlib.Core.Path.{sym, ◌∙◌}
-use borrow.Author.Rules.{rules}
 use Rattle.plan_line.proofs.in_ring.Goals as goal
 
 pub returns-then-is_node_number : goal.returns-then-is_node_number

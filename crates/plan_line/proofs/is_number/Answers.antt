@@ -3,15 +3,14 @@
 use Prim.Native.Nat.{◌<◌}
 use mathlib.Core.Path.{◌≡◌}
 use mathlib.Core.Bool.{false}
-use mathlib.Core.Logic.{⊎_elim}
 use native.Mathlib.Omega.{arith}
 use lib.ListN.{length}
 use borrow.Author.Tests.{lt-ltb, le-ltb}
 use Rattle.plan_line.specs.Words.{is_number, leading_zero}
 use Rattle.plan_line.proofs.Words.{and-false}
 use Rattle.plan_line.proofs.Numbers.{zero-alone, zero-not, zero-first}
-use borrow.Author.Rules.{rules}
 use Rattle.plan_line.proofs.is_number.Goals as goal
+use Rattle.plan_line.proofs.is_number.Goals.{then-word-gt1+else-word-eq48, else-word-gt1}
 
 pub returns-then-word-eq0 : goal.returns-then-word-eq0
 unfolding is_number
@@ -28,5 +27,5 @@ unfolding is_number
 returns c =
     let w = c.args.word.now in
     let some : 0 < length w = omega (arith, c.if-word-eq0.false) in
-    let plain : leading_zero w ≡ false = ⊎_elim (λ h. zero-not w h.2.left) (λ h. zero-alone w h.left) c.if-word-gt1.branch in
+    let plain : leading_zero w ≡ false = elim c.if-word-gt1.branch [ then-word-gt1+else-word-eq48 h ↦ zero-not w h.if-word-eq48.false | else-word-gt1 h ↦ zero-alone w h.if-word-gt1.false ] in
     simp (lt-ltb 0 (length w) some, plain) c.all_digits.ensures

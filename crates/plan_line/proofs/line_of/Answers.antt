@@ -3,7 +3,6 @@
 use lib.ListN.{length}
 use borrow.Author.Tests.{le-leb, lt-leb}
 use Rattle.plan_line.specs.Plan.{line_of}
-use borrow.Author.Rules.{rules}
 use Rattle.plan_line.proofs.line_of.Goals as goal
 
 pub returns-then-line-gt120 : goal.returns-then-line-gt120

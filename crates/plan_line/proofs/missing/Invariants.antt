@@ -1,19 +1,12 @@
 -- `plan_line::missing` meets its contract. The loop's invariant: what the text says is what the words from `at` on say after those that were
 -- read (`rest`); the last of those is a part of the text. The measure is what is left of the text. Assumes nothing.
-use Prim.Native.Nat.{ℕ, ◌≤◌, ◌+◌, ◌-◌}
-use mathlib.Core.Path.{◌≡◌, refl, sym, ap, ◌∙◌}
-use mathlib.Core.Bool.{true, false, ◌&&◌, and-eq-true_iff}
-use mathlib.Core.List.{List, []}
-use native.Mathlib.Omega.{arith}
-use borrow.Author.Rules.{rules}
-use borrow.Author.Tests.{not-true, not-false}
-use lib.Dec.{leb}
+use Prim.Native.Nat.{◌≤◌, ◌+◌, ◌-◌}
+use mathlib.Core.Path.{◌≡◌}
+use mathlib.Core.Bool.{true, false}
 use lib.ListN.{length, take, drop}
-use Rattle.plan_line.specs.declared.Missed.{Missed}
-use Rattle.plan_line.specs.Words.{all_digits, is_number, leading_zero, least_after, value_of}
-use Rattle.plan_line.specs.Plan.{missed_with, missing_of}
-use Rattle.plan_line.proofs.Numbers.{form}
-use Rattle.plan_line.proofs.Lists.{rest, rest-start, rest_end, rest-stop, rest-next, joined-capped, parts_from, part_at, part-in, from_place, from_end}
+use Rattle.plan_line.specs.Words.{all_digits, leading_zero}
+use Rattle.plan_line.specs.Plan.{missing_of}
+use Rattle.plan_line.proofs.Lists.{rest, parts_from}
 use Rattle.plan_line.proofs.missing.Given as goal
 
 abbrev pub invariant-loop-at : goal.invariant-loop-at

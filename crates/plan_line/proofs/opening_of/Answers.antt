@@ -13,7 +13,6 @@ use Rattle.refusal.specs.declared.Refusal.TheVariants.{PlanLine}
 use Rattle.plan_line.specs.declared.Opening.TheVariants.{Refused}
 use Rattle.plan_line.proofs.Words.{and-false}
 use Rattle.plan_line.specs.Plan.{numbers_of, opening_of}
-use borrow.Author.Rules.{rules}
 use Rattle.plan_line.proofs.opening_of.Goals as goal
 
 no_second : (l : List ℕ) → length l ≤ gap 32 l → numbers_of (before l) (after l) ≡ Refused PlanLine

@@ -1,9 +1,5 @@
-use Prim.Native.Nat.{◌+◌, ◌-◌}
-use mathlib.Core.Path.{◌≡◌, refl}
+use mathlib.Core.Path.{refl}
 use native.Mathlib.Omega.{arith}
-use borrow.Author.Rules.{rules}
-use lib.ListN.{length, drop}
-use Rattle.plan_line.specs.Words.{gap}
 use Rattle.plan_line.proofs.Words.{gap-mark, gap-next, gap-end}
 use Rattle.plan_line.proofs.part_end.Goals as goal
 

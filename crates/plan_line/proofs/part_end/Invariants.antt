@@ -1,12 +1,9 @@
 -- `plan_line::part_end` meets its contract. The loop's invariant: the first such byte after `from` is the first after `i`. The measure is what is
 -- left of the text. Assumes nothing.
 use Prim.Native.Nat.{◌+◌, ◌-◌}
-use mathlib.Core.Path.{◌≡◌, refl}
-use native.Mathlib.Omega.{arith}
-use borrow.Author.Rules.{rules}
+use mathlib.Core.Path.{◌≡◌}
 use lib.ListN.{length, drop}
 use Rattle.plan_line.specs.Words.{gap}
-use Rattle.plan_line.proofs.Words.{gap-mark, gap-next, gap-end}
 use Rattle.plan_line.proofs.part_end.Given as goal
 
 abbrev pub invariant-loop-i : goal.invariant-loop-i

@@ -1,9 +1,7 @@
-use Prim.Native.Nat.{◌≤◌, ◌-◌}
-use mathlib.Core.Path.{◌≡◌, refl, sym, ◌∙◌}
+use mathlib.Core.Path.{refl, sym, ◌∙◌}
 use native.Mathlib.Omega.{arith}
 use borrow.Author.Rules.{rules}
-use lib.ListN.{length, drop}
-use Rattle.plan_line.proofs.Numbers.{lexb, rise-shorter, rise-longer, rise-same, lex-next, lex-stop, lex-end}
+use Rattle.plan_line.proofs.Numbers.{rise-shorter, rise-longer, rise-same, lex-next, lex-stop, lex-end}
 use Rattle.plan_line.proofs.rises.Goals as goal
 
 pub returns-then-last-word : goal.returns-then-last-word

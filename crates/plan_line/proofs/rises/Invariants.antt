@@ -1,11 +1,9 @@
 -- `plan_line::rises` meets its contract. The loop's invariant: the digits from `i` on decide. The measure is what is left of them.
 -- Assumes nothing.
 use Prim.Native.Nat.{◌≤◌, ◌-◌}
-use mathlib.Core.Path.{◌≡◌, refl, sym, ◌∙◌}
-use native.Mathlib.Omega.{arith}
-use borrow.Author.Rules.{rules}
+use mathlib.Core.Path.{◌≡◌}
 use lib.ListN.{length, drop}
-use Rattle.plan_line.proofs.Numbers.{lexb, rise-shorter, rise-longer, rise-same, lex-next, lex-stop, lex-end}
+use Rattle.plan_line.proofs.Numbers.{lexb}
 use Rattle.plan_line.proofs.rises.Given as goal
 
 abbrev pub invariant-loop-i : goal.invariant-loop-i

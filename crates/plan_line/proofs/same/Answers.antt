@@ -2,7 +2,6 @@
 -- Assumes nothing.
 use lib.ListN.{length}
 use borrow.Author.Tests.{eq-eqb, ne_eqb}
-use borrow.Author.Rules.{rules}
 use Rattle.plan_line.proofs.same.Goals as goal
 
 pub returns-then-word-line : goal.returns-then-word-line

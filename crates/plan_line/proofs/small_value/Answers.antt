@@ -4,7 +4,6 @@ use mathlib.Core.Path.{sym, ◌∙◌}
 use native.Mathlib.Omega.{arith}
 use native.Mathlib.Nat.{min-eq_left, min-eq_right}
 use Rattle.plan_line.proofs.Numbers.{form, one-digit, two_digits, many-digits}
-use borrow.Author.Rules.{rules}
 use Rattle.plan_line.proofs.small_value.Goals as goal
 
 pub overflow_cast-result : goal.overflow_cast-result

@@ -2,82 +2,64 @@
 -- Assumes nothing.
 use Prim.Native.Nat.{ℕ, ◌-◌}
 use mathlib.Core.Path.{◌≡◌, sym, ap, ◌∙◌}
-use mathlib.Core.Bool.{true, false}
 use mathlib.Core.List.{List}
 use native.Mathlib.Omega.{arith}
 use lib.ListN.{length, take, drop, length-drop}
 use lib.Seq.{take_all}
-use Rattle.plan_line.specs.Words.{begins, same}
-use Rattle.plan_line.specs.Plan.{lost_word, miss_word, missing_of, named_of, off_line, off_word, ok_word, on_line, on_word}
+use Rattle.plan_line.specs.Plan.{miss_word, missing_of, named_of, off_line, off_word, on_line, on_word}
 use Rattle.plan_line.proofs.Words.{begins-long}
 use Rattle.plan_line.proofs.Cases.{says-ok, says-lost, says-miss, says-off, says_on, says_nothing}
-use borrow.Author.Rules.{rules}
 use Rattle.plan_line.proofs.word.Goals as goal
 
 -- a part that reaches to the end
 whole : (i : ℕ) (l : List ℕ) → take (length l - i) (drop i l) ≡ drop i l
 whole i l = take_all (length l - i) (drop i l) (omega (arith, length-drop i l))
 
-not-ok : (c : goal.Else-same) → same ok_word c.args.line.now ≡ false
-not-ok c = sym c.same.ensures ∙ c.if-same.false
-
-not-lost : (c : goal.Else-same-2) → same lost_word c.args.line.now ≡ false
-not-lost c = sym c.same-2.ensures ∙ c.if-same-2.false
-
-not-miss : (c : goal.Else-begins) → begins miss_word c.args.line.now ≡ false
-not-miss c = sym c.begins.ensures ∙ c.if-begins.false
-
-not-off : (c : goal.Else-begins-2) → begins off_word c.args.line.now ≡ false
-not-off c = sym c.begins-2.ensures ∙ c.if-begins-2.false
-
-not_on : (c : goal.Else-begins-3) → begins on_word c.args.line.now ≡ false
-not_on c = sym c.begins-3.ensures ∙ c.if-begins-3.false
-
-is-miss : (c : goal.Then-begins) → begins miss_word c.args.line.now ≡ true
-is-miss c = sym c.begins.ensures ∙ c.if-begins.true
-
-is-off : (c : goal.Then-begins-2) → begins off_word c.args.line.now ≡ true
-is-off c = sym c.begins-2.ensures ∙ c.if-begins-2.true
-
-is-on : (c : goal.Then-begins-3) → begins on_word c.args.line.now ≡ true
-is-on c = sym c.begins-3.ensures ∙ c.if-begins-3.true
-
 pub returns-then-same : goal.returns-then-same
 returns-then-same c = sym (says-ok c.args.n c.args.line.now (sym c.same.ensures ∙ c.if-same.true))
 
 pub returns-then-same-2 : goal.returns-then-same-2
 returns-then-same-2 c =
-    sym (says-lost c.args.n c.args.line.now (not-ok c) (sym c.same-2.ensures ∙ c.if-same-2.true))
+    sym (says-lost c.args.n c.args.line.now (sym c.same.ensures ∙ c.if-same.false) (sym c.same-2.ensures ∙ c.if-same-2.true))
 
 pub slice_bounds-missing-count : goal.slice_bounds-missing-count
-slice_bounds-missing-count c = begins-long miss_word c.args.line.now (is-miss c)
+slice_bounds-missing-count c = begins-long miss_word c.args.line.now (sym c.begins.ensures ∙ c.if-begins.true)
+
+pub slice_bounds-missing-start : goal.slice_bounds-missing-start
+slice_bounds-missing-start c = begins-long miss_word c.args.line.now (sym c.begins.ensures ∙ c.if-begins.true)
 
 pub returns-then-begins : goal.returns-then-begins
 returns-then-begins c =
     let a = c.args in
-    c.missing.ensures ∙ ap (missing_of a.n) (whole 5 a.line.now) ∙ sym (says-miss a.n a.line.now (not-ok c) (not-lost c) (is-miss c))
+    c.missing.ensures ∙ ap (missing_of a.n) (whole 5 a.line.now) ∙ sym (says-miss a.n a.line.now (sym c.same.ensures ∙ c.if-same.false) (sym c.same-2.ensures ∙ c.if-same-2.false) (sym c.begins.ensures ∙ c.if-begins.true))
 
 pub slice_bounds-node_named-count : goal.slice_bounds-node_named-count
-slice_bounds-node_named-count c = begins-long off_word c.args.line.now (is-off c)
+slice_bounds-node_named-count c = begins-long off_word c.args.line.now (sym c.begins-2.ensures ∙ c.if-begins-2.true)
+
+pub slice_bounds-node_named-start : goal.slice_bounds-node_named-start
+slice_bounds-node_named-start c = begins-long off_word c.args.line.now (sym c.begins-2.ensures ∙ c.if-begins-2.true)
 
 pub returns-then-begins-2 : goal.returns-then-begins-2
 returns-then-begins-2 c =
     let a = c.args in
     c.off_line.ensures
     ∙ ap off_line (c.node_named.ensures ∙ ap (named_of a.n) (whole 4 a.line.now))
-    ∙ sym (says-off a.n a.line.now (not-ok c) (not-lost c) (not-miss c) (is-off c))
+    ∙ sym (says-off a.n a.line.now (sym c.same.ensures ∙ c.if-same.false) (sym c.same-2.ensures ∙ c.if-same-2.false) (sym c.begins.ensures ∙ c.if-begins.false) (sym c.begins-2.ensures ∙ c.if-begins-2.true))
 
 pub slice_bounds-node_named-count-then-begins-3 : goal.slice_bounds-node_named-count-then-begins-3
-slice_bounds-node_named-count-then-begins-3 c = begins-long on_word c.args.line.now (is-on c)
+slice_bounds-node_named-count-then-begins-3 c = begins-long on_word c.args.line.now (sym c.begins-3.ensures ∙ c.if-begins-3.true)
+
+pub slice_bounds-node_named-start-then-begins-3 : goal.slice_bounds-node_named-start-then-begins-3
+slice_bounds-node_named-start-then-begins-3 c = begins-long on_word c.args.line.now (sym c.begins-3.ensures ∙ c.if-begins-3.true)
 
 pub returns-then-begins-3 : goal.returns-then-begins-3
 returns-then-begins-3 c =
     let a = c.args in
     c.on_line.ensures
     ∙ ap on_line (c.node_named-then-begins-3.ensures ∙ ap (named_of a.n) (whole 3 a.line.now))
-    ∙ sym (says_on a.n a.line.now (not-ok c) (not-lost c) (not-miss c) (not-off c) (is-on c))
+    ∙ sym (says_on a.n a.line.now (sym c.same.ensures ∙ c.if-same.false) (sym c.same-2.ensures ∙ c.if-same-2.false) (sym c.begins.ensures ∙ c.if-begins.false) (sym c.begins-2.ensures ∙ c.if-begins-2.false) (sym c.begins-3.ensures ∙ c.if-begins-3.true))
 
 pub returns : goal.returns
 returns c =
     let a = c.args in
-    sym (says_nothing a.n a.line.now (not-ok c) (not-lost c) (not-miss c) (not-off c) (not_on c))
+    sym (says_nothing a.n a.line.now (sym c.same.ensures ∙ c.if-same.false) (sym c.same-2.ensures ∙ c.if-same-2.false) (sym c.begins.ensures ∙ c.if-begins.false) (sym c.begins-2.ensures ∙ c.if-begins-2.false) (sym c.begins-3.ensures ∙ c.if-begins-3.false))

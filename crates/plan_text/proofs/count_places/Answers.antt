@@ -1,7 +1,5 @@
-use Prim.Native.Nat.{◌≤◌, ◌+◌, ◌-◌}
-use mathlib.Core.Path.{◌≡◌}
+use Prim.Native.Nat.{◌+◌, ◌-◌}
 use native.Mathlib.Omega.{arith}
-use Rattle.plan_text.specs.Text.{places}
 use Rattle.plan_text.proofs.Digits.{places-stop, places-next, places-last}
 use Rattle.plan_text.proofs.count_places.Goals as goal
 

@@ -2,9 +2,7 @@
 -- that is being looked at counted twice. The measure is what is left of 20. Assumes nothing.
 use Prim.Native.Nat.{◌≤◌, ◌+◌, ◌-◌}
 use mathlib.Core.Path.{◌≡◌}
-use native.Mathlib.Omega.{arith}
 use Rattle.plan_text.specs.Text.{places}
-use Rattle.plan_text.proofs.Digits.{places-stop, places-next, places-last}
 use Rattle.plan_text.proofs.count_places.Given as goal
 
 abbrev pub invariant-loop-count : goal.invariant-loop-count

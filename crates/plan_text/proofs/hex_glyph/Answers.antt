@@ -1,7 +1,6 @@
 -- `plan_text::hex_glyph` meets its contract.
 -- Assumes nothing.
 use borrow.Author.Tests.{lt-ltb, le-ltb}
-use borrow.Author.Rules.{rules}
 use Rattle.plan_text.proofs.hex_glyph.Goals as goal
 
 pub returns-then-digit-lt10 : goal.returns-then-digit-lt10

@@ -1,5 +1,4 @@
 -- `plan_text::next_line` meets its contract. Assumes nothing.
-use borrow.Author.Rules.{rules}
 use borrow.Author.Tests.{lt-ltb, le-ltb}
 use native.Mathlib.Omega.{arith}
 use Rattle.plan_text.specs.Text.{next_line}

@@ -1,11 +1,10 @@
-use Prim.Native.Nat.{ℕ, ◌≤◌, ◌+◌, ◌-◌, ◌%◌}
+use Prim.Native.Nat.{ℕ, ◌+◌, ◌-◌, ◌%◌}
 use mathlib.Core.Path.{◌≡◌, refl, sym, ◌∙◌}
 use native.Mathlib.Omega.{arith}
-use borrow.Author.Rules.{rules}
 use borrow.Author.Tests.{lt-ltb}
-use lib.ListN.{length, length-set}
+use lib.ListN.{length-set}
 use Rattle.plan_text.specs.Text.{glyph}
-use Rattle.plan_text.proofs.Paste.{filling, digit-turn, filling-end, filled}
+use Rattle.plan_text.proofs.Paste.{digit-turn, filling-end, filled}
 use Rattle.plan_text.proofs.put_digits.Goals as goal
 
 -- a decimal digit

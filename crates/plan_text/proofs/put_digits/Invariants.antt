@@ -1,13 +1,9 @@
 -- `plan_text::put_digits` meets its contract. The loop's invariant: with the digits that are left to put, the bytes will be what they should.
 -- The measure is `i`. Assumes nothing.
-use Prim.Native.Nat.{ℕ, ◌≤◌, ◌+◌, ◌-◌, ◌%◌}
-use mathlib.Core.Path.{◌≡◌, refl, sym, ◌∙◌}
-use native.Mathlib.Omega.{arith}
-use borrow.Author.Rules.{rules}
-use borrow.Author.Tests.{lt-ltb}
-use lib.ListN.{length, length-set}
-use Rattle.plan_text.specs.Text.{glyph}
-use Rattle.plan_text.proofs.Paste.{filling, digit-turn, filling-end, filled}
+use Prim.Native.Nat.{◌≤◌}
+use mathlib.Core.Path.{◌≡◌}
+use lib.ListN.{length}
+use Rattle.plan_text.proofs.Paste.{filling}
 use Rattle.plan_text.proofs.put_digits.Given as goal
 
 abbrev pub invariant-loop-i : goal.invariant-loop-i

@@ -1,9 +1,8 @@
-use Prim.Native.Nat.{◌≤◌, ◌+◌, ◌-◌}
-use mathlib.Core.Path.{◌≡◌, refl, sym, ◌∙◌}
+use Prim.Native.Nat.{◌+◌, ◌-◌}
+use mathlib.Core.Path.{refl, sym, ◌∙◌}
 use native.Mathlib.Omega.{arith}
-use borrow.Author.Rules.{rules}
-use lib.ListN.{length, length-set}
-use Rattle.plan_text.proofs.Paste.{filling, digit-turn, filling-end, filled}
+use lib.ListN.{length-set}
+use Rattle.plan_text.proofs.Paste.{digit-turn, filling-end, filled}
 use Rattle.plan_text.proofs.put_hex.Goals as goal
 
 pub loop-i-init : goal.loop-i-init

@@ -1,6 +1,5 @@
 -- `ring::before` meets its contract: the tests in the table's order, then the member. Assumes nothing.
 use mathlib.Core.Path.{ap}
-use borrow.Author.Rules.{rules}
 use Rattle.nodeset.proofs.Tests.{failed, passed}
 use Rattle.ring.specs.Answers.{finds}
 use Rattle.ring.proofs.before.Goals as goal

@@ -1,6 +1,5 @@
 -- `ring::decided_member` meets its contract: the last that is sponsored. Assumes nothing.
 use mathlib.Core.Path.{ap, ◌∙◌}
-use borrow.Author.Rules.{rules}
 use Rattle.ring.specs.Ring.{sponsored, decided}
 use Rattle.ring.proofs.decided_member.Goals as goal
 

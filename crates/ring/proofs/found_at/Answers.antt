@@ -1,7 +1,6 @@
 -- `ring::found_at` meets its contract: the test is the definition's. Assumes nothing.
 use Prim.Native.Nat.{ℕ, ◌-◌}
 use mathlib.Core.Path.{◌≡◌, sym, ap, ◌∙◌}
-use borrow.Author.Rules.{rules}
 use borrow.Author.Tests.{eq-eqb, ne_eqb}
 use Rattle.nodeset.proofs.Tests.{otherwise}
 use Rattle.ring.specs.declared.Found.TheVariants.{Member}

@@ -1,6 +1,5 @@
 -- `ring::member_before` meets its contract: the place that the walk reaches says what it finds. Assumes nothing.
 use mathlib.Core.Path.{ap, ◌∙◌}
-use borrow.Author.Rules.{rules}
 use Rattle.ring.specs.declared.Place.{Place}
 use Rattle.ring.specs.Ring.{member_before}
 use Rattle.ring.specs.Places.{start_at, reach, found_at}

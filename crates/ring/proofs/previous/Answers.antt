@@ -1,5 +1,4 @@
 -- `ring::previous` meets its contract: its test is that of the definition. Assumes nothing.
-use borrow.Author.Rules.{rules}
 use borrow.Author.Tests.{le-leb, lt-leb}
 use Rattle.ring.specs.Ring.{previous}
 use Rattle.ring.proofs.previous.Goals as goal

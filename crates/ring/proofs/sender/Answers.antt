@@ -1,10 +1,8 @@
 -- `ring::sender` meets its contract: slot done + 1 is the one whose number less 1 is `done`. Assumes nothing.
-use Prim.Native.Nat.{ℕ, ◌+◌, ◌-◌, ◌%◌, ◌≤◌}
+use Prim.Native.Nat.{ℕ, ◌+◌, ◌-◌, ◌%◌}
 use mathlib.Core.Path.{◌≡◌, sym, ap, ◌∙◌}
 use mathlib.Core.Bool.{true}
 use native.Mathlib.Omega.{arith}
-use native.Mathlib.Nat.{mod-lt}
-use borrow.Author.Rules.{rules}
 use Rattle.nodeset.proofs.Tests.{failed, passed, chosen}
 use Rattle.slot_table.specs.Order.{node_at}
 use Rattle.ring.specs.declared.Speaker.TheVariants.{Node}

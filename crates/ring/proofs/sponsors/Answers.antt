@@ -1,6 +1,5 @@
 -- `ring::sponsors` meets its contract: ks of the set's members. Assumes nothing.
 use mathlib.Core.Path.{ap, ◌∙◌}
-use borrow.Author.Rules.{rules}
 use Rattle.ring.specs.Ring.{ks, sponsors}
 use Rattle.ring.proofs.sponsors.Goals as goal
 

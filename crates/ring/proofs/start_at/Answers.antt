@@ -1,7 +1,6 @@
 -- `ring::start_at` meets its contract: the parts are those of the definition. Assumes nothing.
 use Prim.Native.Nat.{ℕ}
 use mathlib.Core.Path.{ap₂}
-use borrow.Author.Rules.{rules}
 use Rattle.ring.proofs.start_at.Goals as goal
 
 pub returns : goal.returns

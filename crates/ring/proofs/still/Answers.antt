@@ -1,9 +1,5 @@
 -- `ring::still` meets its contract: one less where a member is met, and never below 0. Assumes nothing.
-use Prim.Native.Nat.{◌-◌}
-use mathlib.Core.Path.{ap}
 use native.Mathlib.Omega.{arith}
-use borrow.Author.Tests.{not-true, not-false}
-use Rattle.nodeset.specs.Sums.{num}
 use Rattle.ring.proofs.still.Goals as goal
 
 pub returns-then-j-eq0 : goal.returns-then-j-eq0

@@ -1,5 +1,4 @@
 -- `ring::tests_of` meets its contract: the tests in the table's order. Assumes nothing.
-use borrow.Author.Rules.{rules}
 use Rattle.nodeset.proofs.Tests.{failed, passed}
 use Rattle.ring.proofs.tests_of.Goals as goal
 

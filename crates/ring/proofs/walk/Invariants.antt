@@ -1,15 +1,5 @@
 -- `ring::walk` meets its contract. The invariant: from where the walk stands it reaches the place that it reaches from its start. Assumes nothing.
-use Prim.Native.Nat.{ℕ, suc, ◌-◌}
-use mathlib.Core.Path.{◌≡◌, refl, sym, ap, ◌∙◌}
-use mathlib.Core.Bool.{Bool, true, false, ◌&&◌}
-use native.Mathlib.Omega.{arith}
-use lib.Dec.{eqb}
-use borrow.Author.Rules.{rules}
-use Rattle.nodeset.specs.Sums.{num}
-use Rattle.nodeset.specs.Sets.{has}
-use Rattle.slot_table.specs.Order.{node_at}
-use Rattle.cable.specs.declared.Cable.{Cable}
-use Rattle.ring.specs.Ring.{previous}
+use mathlib.Core.Path.{◌≡◌}
 use Rattle.ring.specs.Places.{reach}
 use Rattle.ring.proofs.walk.Given as goal
 

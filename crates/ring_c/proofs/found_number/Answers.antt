@@ -1,5 +1,4 @@
 -- `ring_c::found_number` meets its contract, case by case. Assumes nothing.
-use borrow.Author.Rules.{rules}
 use Rattle.ring_c.proofs.found_number.Goals as goal
 
 pub returns-in-Member : goal.returns-in-Member

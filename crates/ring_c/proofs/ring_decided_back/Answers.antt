@@ -3,7 +3,6 @@ use mathlib.Core.Path.{ap, ◌∙◌}
 use Rattle.cable.specs.declared.Cable.{Cable}
 use Rattle.ring.specs.Answers.{decided_of}
 use Rattle.ring_c.specs.Numbers.{lookup_back}
-use borrow.Author.Rules.{rules}
 use Rattle.ring_c.proofs.ring_decided_back.Goals as goal
 
 pub returns : goal.returns

@@ -2,7 +2,6 @@
 use mathlib.Core.Path.{ap, ◌∙◌}
 use Rattle.cable.specs.declared.Cable.{Cable}
 use Rattle.ring.specs.Ring.{ks}
-use borrow.Author.Rules.{rules}
 use Rattle.ring_c.proofs.ring_ks.Goals as goal
 
 pub returns : goal.returns

@@ -1,14 +1,8 @@
 -- `row::holds` meets its contract. The invariant: it is found exactly if one of the first i places holds it. Assumes nothing.
-use borrow.Author.Rules.{rules}
 use Prim.Native.Nat.{◌-◌, ◌≤◌}
-use mathlib.Core.Path.{◌≡◌, refl, sym, ap, ◌∙◌}
-use mathlib.Core.Bool.{Bool, ◌||◌}
-use native.Mathlib.Omega.{arith}
+use mathlib.Core.Path.{◌≡◌}
 use lib.ListN as list
-use lib.Dec.{eqb}
-use lib.Seq.{take_all}
 use Rattle.row.specs.Inner.{elem}
-use Rattle.row.proofs.Lists.{elem_next}
 use Rattle.row.proofs.holds.Given as goal
 
 abbrev pub invariant-loop-i : goal.invariant-loop-i

@@ -1,11 +1,8 @@
 -- `row::put_in` meets its contract. The invariant: with the number that moves put in at index i, the places are those with m put in at index p. Assumes nothing.
-use borrow.Author.Rules.{rules}
 use Prim.Native.Nat.{◌-◌}
-use mathlib.Core.Path.{◌≡◌, refl, ◌∙◌}
+use mathlib.Core.Path.{◌≡◌}
 use mathlib.Core.List.{◌∷◌, ◌++◌}
-use native.Mathlib.Omega.{arith}
 use lib.ListN as list
-use Rattle.row.proofs.Walked.{moved-next, moved-last}
 use Rattle.row.proofs.put_in.Given as goal
 
 abbrev pub invariant-loop-i : goal.invariant-loop-i

@@ -1,14 +1,8 @@
 -- `row::same_places` meets its contract. The invariant: the same stands in the first i places. Assumes nothing.
-use borrow.Author.Rules.{rules}
-use borrow.Author.Tests.{eq-eqb}
-use Prim.Native.Nat.{ℕ, ◌-◌, ◌≤◌}
-use mathlib.Core.Path.{◌≡◌, refl, sym, ap, ◌∙◌}
-use mathlib.Core.Bool.{Bool, ◌&&◌}
-use native.Mathlib.Omega.{arith}
-use native.Mathlib.Numerals.{add-one}
-use lib.Dec.{eqb}
+use Prim.Native.Nat.{◌-◌, ◌≤◌}
+use mathlib.Core.Path.{◌≡◌}
 use lib.ListN as list
-use Rattle.slot_table.specs.Order.{node_at, same_to}
+use Rattle.slot_table.specs.Order.{same_to}
 use Rattle.row.proofs.same_places.Given as goal
 
 abbrev pub invariant-loop-i : goal.invariant-loop-i

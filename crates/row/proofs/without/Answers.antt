@@ -1,11 +1,10 @@
 use borrow.Author.Rules.{rules}
-use Prim.Native.Nat.{ℕ, ◌-◌, ◌≤◌}
-use mathlib.Core.Path.{◌≡◌, refl, ap, ◌∙◌}
+use Prim.Native.Nat.{ℕ}
+use mathlib.Core.Path.{refl, ap, ◌∙◌}
 use mathlib.Core.Bool.{not, ◌&&◌}
 use native.Mathlib.Omega.{arith}
 use lib.ListN as list
 use lib.Dec.{eqb}
-use Rattle.row.specs.Rows.{keep, row_for}
 use Rattle.row.specs.Inner.{stays, without_row, row_at}
 use Rattle.row.proofs.Walked.{sifted-next, sifted, sifted-short}
 use Rattle.row.proofs.without.Goals as goal

@@ -1,14 +1,9 @@
 -- `row::without` meets its contract. The invariant: the row so far holds those of the first i places that stay. Assumes nothing.
-use borrow.Author.Rules.{rules}
-use Prim.Native.Nat.{ℕ, ◌-◌, ◌≤◌}
-use mathlib.Core.Path.{◌≡◌, refl, ap, ◌∙◌}
-use mathlib.Core.Bool.{not, ◌&&◌}
-use native.Mathlib.Omega.{arith}
+use Prim.Native.Nat.{◌-◌, ◌≤◌}
+use mathlib.Core.Path.{◌≡◌}
 use lib.ListN as list
-use lib.Dec.{eqb}
 use Rattle.row.specs.Rows.{keep, row_for}
-use Rattle.row.specs.Inner.{stays, without_row, row_at}
-use Rattle.row.proofs.Walked.{sifted-next, sifted, sifted-short}
+use Rattle.row.specs.Inner.{stays, row_at}
 use Rattle.row.proofs.without.Given as goal
 
 abbrev pub invariant-loop-i : goal.invariant-loop-i

@@ -1,10 +1,8 @@
 use borrow.Author.Rules.{rules}
-use Prim.Native.Nat.{◌-◌, ◌≤◌}
-use mathlib.Core.Path.{◌≡◌, refl, ap, ◌∙◌}
+use mathlib.Core.Path.{refl, ap, ◌∙◌}
 use native.Mathlib.Omega.{arith}
-use lib.ListN as list
 use Rattle.nodeset.specs.Sets.{has}
-use Rattle.row.specs.Rows.{keep, row_for, as_row}
+use Rattle.row.specs.Rows.{as_row}
 use Rattle.row.specs.Inner.{row_at}
 use Rattle.row.proofs.Walked.{sifted-next, sifted, sifted-short}
 use Rattle.row_sets.proofs.as_row.Goals as goal

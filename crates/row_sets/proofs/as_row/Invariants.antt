@@ -1,13 +1,10 @@
 -- `row_sets::as_row` meets its contract. The invariant: the row so far holds those of the first i places that are kept. Assumes nothing.
-use borrow.Author.Rules.{rules}
 use Prim.Native.Nat.{◌-◌, ◌≤◌}
-use mathlib.Core.Path.{◌≡◌, refl, ap, ◌∙◌}
-use native.Mathlib.Omega.{arith}
+use mathlib.Core.Path.{◌≡◌}
 use lib.ListN as list
 use Rattle.nodeset.specs.Sets.{has}
-use Rattle.row.specs.Rows.{keep, row_for, as_row}
+use Rattle.row.specs.Rows.{keep, row_for}
 use Rattle.row.specs.Inner.{row_at}
-use Rattle.row.proofs.Walked.{sifted-next, sifted, sifted-short}
 use Rattle.row_sets.proofs.as_row.Given as goal
 
 abbrev pub invariant-loop-i : goal.invariant-loop-i

@@ -1,18 +1,10 @@
 -- `row_sets::is_sound` meets its contract. The invariant: what is left of the row is a part of what is left of the table exactly if the row is a part of the table.
 -- Assumes nothing.
-use borrow.Author.Rules.{rules}
-use borrow.Author.Tests.{lt-leb, eq-eqb}
-use Prim.Native.Nat.{ℕ, ◌+◌, ◌-◌, ◌≤◌, min}
-use mathlib.Core.Path.{◌≡◌, refl, sym, ap, ◌∙◌}
-use mathlib.Core.Bool.{Bool, ◌&&◌}
-use mathlib.Core.List.{List}
-use native.Mathlib.Omega.{arith}
-use native.Mathlib.Decide.{dec_le}
-use lib.Dec.{eqb, leb, ltb}
+use Prim.Native.Nat.{◌-◌, ◌≤◌, min}
+use mathlib.Core.Path.{◌≡◌}
 use lib.ListN as list
-use lib.Seq.{take_all}
-use Rattle.row.specs.Rows.{is_part, blank, sound_row}
-use Rattle.row.proofs.Walked.{left, part-start, part-next, part-done, past-le, past-below}
+use Rattle.row.specs.Rows.{is_part, blank}
+use Rattle.row.proofs.Walked.{left}
 use Rattle.row_sets.proofs.is_sound.Given as goal
 
 abbrev pub invariant-loop-i : goal.invariant-loop-i

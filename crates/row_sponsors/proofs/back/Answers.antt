@@ -1,5 +1,4 @@
 -- `row_sponsors::back` meets its contract: its tests are those of the definition, and its places are in the row. Assumes nothing.
-use borrow.Author.Rules.{rules}
 use borrow.Author.Tests.{eqb-false, ltb-false, le-leb, lt-leb}
 use Prim.Native.Nat.{ℕ, ◌≤◌}
 use mathlib.Core.Path.{◌≡◌, refl, sym, ◌∙◌}

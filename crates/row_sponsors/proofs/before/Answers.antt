@@ -1,5 +1,4 @@
 -- `row_sponsors::before` meets its contract: the rank, and the places back from there. Assumes nothing.
-use borrow.Author.Rules.{rules}
 use Prim.Native.Nat.{ℕ}
 use mathlib.Core.Path.{ap₂, ◌∙◌}
 use mathlib.Core.Bool.{Bool}

@@ -1,5 +1,4 @@
 -- `row_sponsors::decided` meets its contract. Where somebody is sponsored the lag is below the number of members. Assumes nothing.
-use borrow.Author.Rules.{rules}
 use mathlib.Core.Path.{sym, ap, ◌∙◌}
 use borrow.Author.Tests.{eq-eqb, ne_eqb}
 use Rattle.nodeset.proofs.Tests.{chosen, otherwise}

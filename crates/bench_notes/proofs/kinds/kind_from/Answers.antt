@@ -1,5 +1,4 @@
 -- `bench_notes::kinds::kind_from` meets its contract: its tests are those of the definition. Assumes nothing.
-use borrow.Author.Rules.{rules}
 use mathlib.Core.Path.{sym, ap₂, ◌∙◌}
 use mathlib.Core.Bool.{◌&&◌, ◌||◌}
 use Rattle.nodeset.proofs.Tests.{told, chosen, otherwise}
