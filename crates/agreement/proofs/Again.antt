@@ -7,25 +7,25 @@ use mathlib.Core.Bool.{Bool, true, false, cond, not}
 use native.Mathlib.Omega.{arith}
 use native.Mathlib.Decide.{dec_le, dec_lt}
 use lib.Dec.{eqb}
-use Rattle.nodeset.specs.Sums.{sum}
-use Rattle.nodeset.specs.Sets.{has, without, size}
-use Rattle.nodeset.proofs.Tests.{by_cases, chosen, otherwise}
-use Rattle.nodeset.proofs.Sums.{sum_first, sum-next, sum-rest, sum-split}
-use Rattle.nodeset.proofs.Counts.{size-with, size-without}
-use Rattle.nodeset.proofs.Laws.{without-part}
-use Rattle.cable.specs.declared.Cable.{Cable}
-use Rattle.ring.specs.declared.Found.TheVariants as found
-use Rattle.ring.specs.Ring.{sender, sponsors, decided, member_in}
-use Rattle.ring_laws.proofs.Senders.{sender-range}
-use Rattle.ring_laws.proofs.Walks as walks
-use Rattle.ring.proofs.Members.{decided-before}
-use Rattle.node_record.specs.declared.Node.{Node}
-use Rattle.node_record.specs.declared.Cause.TheVariants.{Unconfirmed}
-use Rattle.node_record.specs.Sponsoring.{decided_in}
-use Rattle.node_record.proofs.Tracking.{tracks}
-use Rattle.node_changes.specs.Changes.{leave, with_set}
-use Rattle.node_steps.specs.Steps.{marks_after, leaves, settle}
-use Rattle.node_steps.specs.Inner.{read_marked, departing}
+use Rattle.bench.specs.nodeset.Sums.{sum}
+use Rattle.bench.specs.nodeset.Sets.{has, without, size}
+use Rattle.bench.proofs.nodeset.Tests.{by_cases, chosen, otherwise}
+use Rattle.bench.proofs.nodeset.Sums.{sum_first, sum-next, sum-rest, sum-split}
+use Rattle.bench.proofs.nodeset.Counts.{size-with, size-without}
+use Rattle.bench.proofs.nodeset.Laws.{without-part}
+use Rattle.bench.specs.cable.declared.Cable.{Cable}
+use Rattle.bench.specs.ring.declared.Found.TheVariants as found
+use Rattle.bench.specs.ring.Ring.{sender, sponsors, decided, member_in}
+use Rattle.bench.proofs.ring_laws.Senders.{sender-range}
+use Rattle.bench.proofs.ring_laws.Walks as walks
+use Rattle.bench.proofs.ring.Members.{decided-before}
+use Rattle.bench.specs.node_record.declared.Node.{Node}
+use Rattle.bench.specs.node_record.declared.Cause.TheVariants.{Unconfirmed}
+use Rattle.bench.specs.node_record.Sponsoring.{decided_in}
+use Rattle.bench.proofs.node_record.Tracking.{tracks}
+use Rattle.bench.specs.node_changes.Changes.{leave, with_set}
+use Rattle.bench.specs.node_steps.Steps.{marks_after, leaves, settle}
+use Rattle.bench.specs.node_steps.Inner.{read_marked, departing}
 use Rattle.agreement.proofs.History.{World, Untold, K, lst, failed, few-from, told-failures, told-in-time, span, sponsors-are, Before, before, num-is}
 use Rattle.agreement.proofs.Parts.{size-part}
 use Rattle.agreement.proofs.Invariant.{Knock}

@@ -3,18 +3,18 @@ use Prim.Native.Nat.{ℕ}
 use mathlib.Core.Path.{◌≡◌, refl}
 use mathlib.Core.Bool.{Bool, true, false, cond, false≢true}
 use lib.Dec.{eqb, ltb}
-use Rattle.message.specs.declared.Reading.{Reading}
-use Rattle.node_record.specs.declared.Node.{Node}
-use Rattle.node_record.specs.declared.Window.{Window}
-use Rattle.node_record.specs.declared.State.{State}
-use Rattle.node_record.specs.declared.State.TheVariants.{Member, Listening, Following, Knocking, Out}
-use Rattle.node_record.specs.declared.Cause.{Cause}
-use Rattle.node_record.specs.States.{is_member, is_listening}
-use Rattle.node_record.proofs.Tracking.{tracks}
-use Rattle.node_changes.specs.Changes.{counted, with_set, with_window, following_with, listening_after}
-use Rattle.node_steps.specs.Inner.{read_marked, slot_by_cases}
-use Rattle.node_hearing.specs.Hearing.{overheard, clean, window_end, goes_on, listening_by}
-use Rattle.node_slot.specs.Inner.{read_in}
+use Rattle.bench.specs.message.declared.Reading.{Reading}
+use Rattle.bench.specs.node_record.declared.Node.{Node}
+use Rattle.bench.specs.node_record.declared.Window.{Window}
+use Rattle.bench.specs.node_record.declared.State.{State}
+use Rattle.bench.specs.node_record.declared.State.TheVariants.{Member, Listening, Following, Knocking, Out}
+use Rattle.bench.specs.node_record.declared.Cause.{Cause}
+use Rattle.bench.specs.node_record.States.{is_member, is_listening}
+use Rattle.bench.proofs.node_record.Tracking.{tracks}
+use Rattle.bench.specs.node_changes.Changes.{counted, with_set, with_window, following_with, listening_after}
+use Rattle.bench.specs.node_steps.Inner.{read_marked, slot_by_cases}
+use Rattle.bench.specs.node_hearing.Hearing.{overheard, clean, window_end, goes_on, listening_by}
+use Rattle.bench.specs.node_slot.Inner.{read_in}
 use Rattle.agreement.proofs.Marks.{no_both}
 use Rattle.bench.proofs.Choices.{choose}
 use Rattle.bench.proofs.Counted.{Same, same}

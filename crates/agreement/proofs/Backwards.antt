@@ -3,15 +3,15 @@ use Prim.Native.Nat.{ℕ, suc, ◌+◌, ◌-◌, ◌≤◌, ◌<◌}
 use mathlib.Core.Path.{◌≡◌, sym, ap, ◌∙◌}
 use mathlib.Core.Bool.{true}
 use native.Mathlib.Omega.{arith}
-use Rattle.nodeset.specs.Sums.{sum}
-use Rattle.nodeset.specs.Sets.{has, size}
-use Rattle.nodeset.proofs.Sums.{num-le}
-use Rattle.ring.specs.declared.Found.TheVariants.{Member}
-use Rattle.cable.specs.declared.Cable.{Cable}
-use Rattle.ring.specs.Ring.{turn, sender, walk, member_before}
-use Rattle.ring_laws.proofs.Senders.{Turns, sender-place, size-round}
-use Rattle.ring_laws.proofs.Walks as walks
-use Rattle.ring_laws.proofs.Walks.{Met, walk_meets, before-is, others}
+use Rattle.bench.specs.nodeset.Sums.{sum}
+use Rattle.bench.specs.nodeset.Sets.{has, size}
+use Rattle.bench.proofs.nodeset.Sums.{num-le}
+use Rattle.bench.specs.ring.declared.Found.TheVariants.{Member}
+use Rattle.bench.specs.cable.declared.Cable.{Cable}
+use Rattle.bench.specs.ring.Ring.{turn, sender, walk, member_before}
+use Rattle.bench.proofs.ring_laws.Senders.{Turns, sender-place, size-round}
+use Rattle.bench.proofs.ring_laws.Walks as walks
+use Rattle.bench.proofs.ring_laws.Walks.{Met, walk_meets, before-is, others}
 
 module _ (cable : Cable) (turns : Turns cable) where
   open cable use {n, order}

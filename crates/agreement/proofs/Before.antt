@@ -7,20 +7,20 @@ use native.Mathlib.Omega.{arith}
 use native.Mathlib.Nat.{add-zero}
 use lib.Dec.{eqb}
 use lib.ListN.{length, get_or}
-use Rattle.nodeset.specs.Sums.{num}
-use Rattle.nodeset.proofs.Tests.{by_cases, chosen, otherwise}
-use Rattle.cable.specs.Cable.{node_number}
-use Rattle.message.specs.declared.Reading.{Reading}
-use Rattle.node_record.specs.declared.Node.{Node}
-use Rattle.node_record.specs.declared.State.{State}
-use Rattle.node_record.specs.declared.State.TheVariants.{Member, Listening, Following, Knocking, Out}
-use Rattle.node_record.specs.States.{is_out}
-use Rattle.node_changes.specs.Changes.{counted}
-use Rattle.node_slot.specs.Slot.{slot_by}
-use Rattle.node_slot.specs.Inner.{heard_from, read_in}
-use Rattle.node_slot.proofs.Read.{slot_read, listening-read}
-use Rattle.node.specs.Calls as node
-use Rattle.node.specs.Calls.{no_node}
+use Rattle.bench.specs.nodeset.Sums.{num}
+use Rattle.bench.proofs.nodeset.Tests.{by_cases, chosen, otherwise}
+use Rattle.bench.specs.cable.Cable.{node_number}
+use Rattle.bench.specs.message.declared.Reading.{Reading}
+use Rattle.bench.specs.node_record.declared.Node.{Node}
+use Rattle.bench.specs.node_record.declared.State.{State}
+use Rattle.bench.specs.node_record.declared.State.TheVariants.{Member, Listening, Following, Knocking, Out}
+use Rattle.bench.specs.node_record.States.{is_out}
+use Rattle.bench.specs.node_changes.Changes.{counted}
+use Rattle.bench.specs.node_slot.Slot.{slot_by}
+use Rattle.bench.specs.node_slot.Inner.{heard_from, read_in}
+use Rattle.bench.proofs.node_slot.Read.{slot_read, listening-read}
+use Rattle.bench.specs.node.Calls as node
+use Rattle.bench.specs.node.Calls.{no_node}
 use Rattle.bench.specs.Table.{Table, record_of, each_from, each, table_sound, node_count, slots_of, speaker}
 use Rattle.bench.specs.Calls.{Called, done, if_passed, heard_by, slot_of, table_after_off, off_of, table_after_restart, restart_of}
 use Rattle.bench.specs.Runs.{Call, slot, off, restart, call_of, is_slot}

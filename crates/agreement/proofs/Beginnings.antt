@@ -7,10 +7,10 @@ use native.Mathlib.Omega.{arith}
 use native.Mathlib.Decide.{dec_le}
 use lib.Dec.{eqb, leb}
 use borrow.Author.Tests.{lt-leb, ne_eqb}
-use Rattle.nodeset.specs.Sums.{num}
-use Rattle.nodeset.proofs.Tests.{otherwise}
-use Rattle.nodeset.proofs.Sums.{sum-le}
-use Rattle.cable.specs.declared.Cable.{Cable}
+use Rattle.bench.specs.nodeset.Sums.{num}
+use Rattle.bench.proofs.nodeset.Tests.{otherwise}
+use Rattle.bench.proofs.nodeset.Sums.{sum-le}
+use Rattle.bench.specs.cable.declared.Cable.{Cable}
 use Rattle.bench.specs.Table.{Table, slots_of}
 use Rattle.bench.specs.Runs.{Call, table_after, is_slot, Entry, no_entry, entry_on, entry}
 use Rattle.agreement.specs.Demand.{AtEach, AfterEach, Premises, is_deciding, deciding_ran}

@@ -7,13 +7,13 @@ use native.Mathlib.Omega.{arith}
 use native.Mathlib.Decide.{ℕ_discrete}
 use lib.Dec.{eqb}
 use borrow.Author.Tests.{eq-eqb, ne_eqb}
-use Rattle.nodeset.specs.Sums.{num}
-use Rattle.nodeset.specs.Sets.{has}
-use Rattle.slot_table.specs.Order.{node_at, plain, place}
-use Rattle.slot_table.proofs.Numbers.{plain_at, plain-place}
-use Rattle.cable.specs.declared.Cable.{Cable}
-use Rattle.cable.specs.Cable.{ring_size, node_number}
-use Rattle.cable.proofs.Ranges.{ring-size, node-number}
+use Rattle.bench.specs.nodeset.Sums.{num}
+use Rattle.bench.specs.nodeset.Sets.{has}
+use Rattle.bench.specs.slot_table.Order.{node_at, plain, place}
+use Rattle.bench.proofs.slot_table.Numbers.{plain_at, plain-place}
+use Rattle.bench.specs.cable.declared.Cable.{Cable}
+use Rattle.bench.specs.cable.Cable.{ring_size, node_number}
+use Rattle.bench.proofs.cable.Ranges.{ring-size, node-number}
 use Rattle.agreement.specs.Demand.{next, onwards, member_after}
 use Rattle.agreement.specs.ByNumber.{onwards_by_number, after_by_number, AfterAsBefore}
 

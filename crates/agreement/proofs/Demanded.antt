@@ -10,15 +10,15 @@ use native.Mathlib.Omega.{arith}
 use native.Mathlib.Decide.{ℕ_discrete, dec_le}
 use lib.Dec.{eqb, leb}
 use borrow.Author.Tests.{le-leb, lt-leb, eqb-true, eqb-false}
-use Rattle.nodeset.specs.Sums.{sum, num}
-use Rattle.nodeset.specs.Sets.{has, size, distance}
-use Rattle.nodeset.proofs.Tests.{by_cases, both}
-use Rattle.nodeset.proofs.Sums.{sum-none}
-use Rattle.nodeset.proofs.Counts.{distance-same}
-use Rattle.ring.specs.Ring.{sender}
-use Rattle.cable.proofs.Ranges.{ring-size, fitting}
-use Rattle.ring_laws.proofs.Senders.{sender-period}
-use Rattle.node_record.specs.Soundness.{sound, limit}
+use Rattle.bench.specs.nodeset.Sums.{sum, num}
+use Rattle.bench.specs.nodeset.Sets.{has, size, distance}
+use Rattle.bench.proofs.nodeset.Tests.{by_cases, both}
+use Rattle.bench.proofs.nodeset.Sums.{sum-none}
+use Rattle.bench.proofs.nodeset.Counts.{distance-same}
+use Rattle.bench.specs.ring.Ring.{sender}
+use Rattle.bench.proofs.cable.Ranges.{ring-size, fitting}
+use Rattle.bench.proofs.ring_laws.Senders.{sender-period}
+use Rattle.bench.specs.node_record.Soundness.{sound, limit}
 use Rattle.bench.specs.Table.{Table, record_of, slots_of, speaker}
 use Rattle.bench.specs.Calls.{set_up_of}
 use Rattle.bench.specs.Runs.{Call, slot, off, restart, table_after, is_slot, list_of, Entry, entry}

@@ -5,19 +5,19 @@ use mathlib.Core.Logic.{◌≢◌}
 use mathlib.Core.Bool.{Bool, true, false, cond}
 use native.Mathlib.Omega.{arith}
 use native.Mathlib.Decide.{dec_le}
-use Rattle.nodeset.specs.Sums.{sum, num}
-use Rattle.nodeset.specs.Sets.{has, without, size}
-use Rattle.nodeset.proofs.Tests.{by_cases}
-use Rattle.nodeset.proofs.Sums.{sum-le, sum_first, sum-none, sum-next, sum-split, one_place, num-le}
-use Rattle.nodeset.proofs.Laws.{has-without, has-without-other, without-lt, without-part}
-use Rattle.nodeset.proofs.Counts.{size-without}
-use Rattle.ring.specs.declared.Found.TheVariants.{Member}
-use Rattle.ring.specs.Ring.{turn, sender, walk, member_before}
-use Rattle.ring_laws.proofs.Senders.{turn-period, sender-range, sender-place, sender-period, same-slot}
-use Rattle.ring_laws.proofs.Walks as walks
-use Rattle.ring.proofs.Members.{same-member}
-use Rattle.ring_laws.proofs.Walks.{Met, walk_meets, before-is, others}
-use Rattle.node_steps.proofs.Answers.{At}
+use Rattle.bench.specs.nodeset.Sums.{sum, num}
+use Rattle.bench.specs.nodeset.Sets.{has, without, size}
+use Rattle.bench.proofs.nodeset.Tests.{by_cases}
+use Rattle.bench.proofs.nodeset.Sums.{sum-le, sum_first, sum-none, sum-next, sum-split, one_place, num-le}
+use Rattle.bench.proofs.nodeset.Laws.{has-without, has-without-other, without-lt, without-part}
+use Rattle.bench.proofs.nodeset.Counts.{size-without}
+use Rattle.bench.specs.ring.declared.Found.TheVariants.{Member}
+use Rattle.bench.specs.ring.Ring.{turn, sender, walk, member_before}
+use Rattle.bench.proofs.ring_laws.Senders.{turn-period, sender-range, sender-place, sender-period, same-slot}
+use Rattle.bench.proofs.ring_laws.Walks as walks
+use Rattle.bench.proofs.ring.Members.{same-member}
+use Rattle.bench.proofs.ring_laws.Walks.{Met, walk_meets, before-is, others}
+use Rattle.bench.proofs.node_steps.Answers.{At}
 use Rattle.agreement.proofs.History.{World, K, KFact, lst, one-knock, size-from, num-is, num-isnt}
 use Rattle.agreement.proofs.Marks.{no_both, not-true}
 use Rattle.agreement.proofs.Listed.{ListedSlot, other-sender, same-window}

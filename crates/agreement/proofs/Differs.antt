@@ -9,21 +9,21 @@ use native.Mathlib.Omega.{arith}
 use native.Mathlib.Decide.{ℕ_discrete}
 use lib.Dec.{eqb}
 use lib.ListN.{length}
-use Rattle.nodeset.specs.Sums.{num}
-use Rattle.nodeset.specs.Sets.{has, size}
-use Rattle.nodeset.proofs.Tests.{by_cases, both, chosen, otherwise}
-use Rattle.nodeset.proofs.Sums.{sum-le, num-le}
-use Rattle.nodeset.proofs.Laws.{has-with-other}
-use Rattle.cable.specs.declared.Cable.{Cable}
-use Rattle.cable.specs.Cable.{cable_fits}
-use Rattle.ring.specs.Ring.{sender}
-use Rattle.message.specs.declared.Reading.{Reading}
-use Rattle.node_record.specs.declared.Node.{Node}
-use Rattle.node_record.specs.States.{is_member}
-use Rattle.node_record.specs.Soundness.{sound, limit}
-use Rattle.node_changes.specs.Changes.{counted}
-use Rattle.node_slot.specs.Slot.{slot_by}
-use Rattle.node_slot.specs.Inner.{read_in}
+use Rattle.bench.specs.nodeset.Sums.{num}
+use Rattle.bench.specs.nodeset.Sets.{has, size}
+use Rattle.bench.proofs.nodeset.Tests.{by_cases, both, chosen, otherwise}
+use Rattle.bench.proofs.nodeset.Sums.{sum-le, num-le}
+use Rattle.bench.proofs.nodeset.Laws.{has-with-other}
+use Rattle.bench.specs.cable.declared.Cable.{Cable}
+use Rattle.bench.specs.cable.Cable.{cable_fits}
+use Rattle.bench.specs.ring.Ring.{sender}
+use Rattle.bench.specs.message.declared.Reading.{Reading}
+use Rattle.bench.specs.node_record.declared.Node.{Node}
+use Rattle.bench.specs.node_record.States.{is_member}
+use Rattle.bench.specs.node_record.Soundness.{sound, limit}
+use Rattle.bench.specs.node_changes.Changes.{counted}
+use Rattle.bench.specs.node_slot.Slot.{slot_by}
+use Rattle.bench.specs.node_slot.Inner.{read_in}
 use Rattle.bench.specs.Table.{Table, record_of, slots_of, speaker}
 use Rattle.bench.specs.Calls.{set_up_of, heard_by, table_after_slot}
 use Rattle.bench.specs.Runs.{Call, slot, off, restart, is_slot, list_of, table_after, Entry, no_entry, new_entry, entry_on}

@@ -8,15 +8,15 @@ use native.Mathlib.Decide.{dec_le}
 use lib.Dec.{eqb}
 use lib.ListN.{length}
 use borrow.Author.Tests.{eq-eqb, ne_eqb}
-use Rattle.nodeset.specs.Sums.{sum, num}
-use Rattle.nodeset.specs.Sets.{has}
-use Rattle.nodeset.proofs.Sums.{sum-none, sum-next, sum-split, sum-zero, sum_same}
-use Rattle.nodeset.proofs.Tests.{by_cases, chosen, otherwise, all}
-use Rattle.cable.specs.declared.Cable.{Cable}
-use Rattle.cable.specs.Cable.{cable_fits}
-use Rattle.ring_laws.proofs.Senders.{turns-of}
-use Rattle.cable.proofs.Ranges.{ring-size, sponsor-count, fitting}
-use Rattle.node_record.specs.States.{is_member}
+use Rattle.bench.specs.nodeset.Sums.{sum, num}
+use Rattle.bench.specs.nodeset.Sets.{has}
+use Rattle.bench.proofs.nodeset.Sums.{sum-none, sum-next, sum-split, sum-zero, sum_same}
+use Rattle.bench.proofs.nodeset.Tests.{by_cases, chosen, otherwise, all}
+use Rattle.bench.specs.cable.declared.Cable.{Cable}
+use Rattle.bench.specs.cable.Cable.{cable_fits}
+use Rattle.bench.proofs.ring_laws.Senders.{turns-of}
+use Rattle.bench.proofs.cable.Ranges.{ring-size, sponsor-count, fitting}
+use Rattle.bench.specs.node_record.States.{is_member}
 use Rattle.bench.specs.Table.{Table, record_of, node_count, slots_of, speaker}
 use Rattle.bench.specs.Calls.{transmits}
 use Rattle.bench.specs.Runs.{Call, slot, off, restart, table_after, is_slot, is_listed, misses, failures_in, Entry, entry}

@@ -7,24 +7,24 @@ use native.Mathlib.Omega.{arith}
 use native.Mathlib.Decide.{dec_le}
 use lib.Dec.{eqb, leb, ltb}
 use borrow.Author.Tests.{eqb-true, leb-true, ltb-true, ltb-false}
-use Rattle.nodeset.specs.Sums.{num}
-use Rattle.nodeset.specs.Sets.{has, with, size, run, run_from}
-use Rattle.nodeset.proofs.Tests.{by_cases, otherwise}
-use Rattle.nodeset.proofs.Sums.{sum-le, sum-add, num-le}
-use Rattle.nodeset.proofs.Bits.{has-none}
-use Rattle.nodeset.proofs.Counts.{size_none}
-use Rattle.nodeset.proofs.Laws.{has-with, has-with-other, with-lt, set-ext}
-use Rattle.cable.specs.declared.Cable.{Cable}
-use Rattle.ring.specs.Ring.{sender, ks}
-use Rattle.ring_laws.proofs.Senders.{sender-range, sender-period, its-slot, size-round}
-use Rattle.message.specs.declared.Reading.{Reading}
-use Rattle.message.specs.declared.Reading.TheVariants as reading
-use Rattle.node_record.specs.declared.Node.{Node}
-use Rattle.node_record.specs.declared.Window.{Window}
-use Rattle.node_changes.specs.Changes.{listening_after, following_with, with_window}
-use Rattle.node_steps.specs.Steps.{is_heard}
-use Rattle.node_steps.specs.Digests.{bits_heard}
-use Rattle.node_hearing.specs.Hearing.{overheard, clean, window_end, goes_on, listening_by}
+use Rattle.bench.specs.nodeset.Sums.{num}
+use Rattle.bench.specs.nodeset.Sets.{has, with, size, run, run_from}
+use Rattle.bench.proofs.nodeset.Tests.{by_cases, otherwise}
+use Rattle.bench.proofs.nodeset.Sums.{sum-le, sum-add, num-le}
+use Rattle.bench.proofs.nodeset.Bits.{has-none}
+use Rattle.bench.proofs.nodeset.Counts.{size_none}
+use Rattle.bench.proofs.nodeset.Laws.{has-with, has-with-other, with-lt, set-ext}
+use Rattle.bench.specs.cable.declared.Cable.{Cable}
+use Rattle.bench.specs.ring.Ring.{sender, ks}
+use Rattle.bench.proofs.ring_laws.Senders.{sender-range, sender-period, its-slot, size-round}
+use Rattle.bench.specs.message.declared.Reading.{Reading}
+use Rattle.bench.specs.message.declared.Reading.TheVariants as reading
+use Rattle.bench.specs.node_record.declared.Node.{Node}
+use Rattle.bench.specs.node_record.declared.Window.{Window}
+use Rattle.bench.specs.node_changes.Changes.{listening_after, following_with, with_window}
+use Rattle.bench.specs.node_steps.Steps.{is_heard}
+use Rattle.bench.specs.node_steps.Digests.{bits_heard}
+use Rattle.bench.specs.node_hearing.Hearing.{overheard, clean, window_end, goes_on, listening_by}
 use Rattle.agreement.proofs.Past.{Past}
 use Rattle.agreement.proofs.History.{World, K, KFact, num-is, num-isnt}
 use Rattle.agreement.proofs.Invariant.{Tracking, ListeningInv}

@@ -4,16 +4,16 @@ use Prim.Native.Nat.{ℕ, zero, suc, ◌+◌, ◌-◌, ◌≤◌, ◌<◌}
 use mathlib.Core.Path.{◌≡◌, refl, sym, ap, ◌∙◌}
 use mathlib.Core.Bool.{Bool, true, false}
 use native.Mathlib.Omega.{arith}
-use Rattle.nodeset.specs.Sums.{sum, num}
-use Rattle.nodeset.specs.Sets.{has, size}
-use Rattle.nodeset.proofs.Tests.{by_cases}
-use Rattle.nodeset.proofs.Sums.{sum-next, sum_first, sum-add, sum-split, sum-at, one_place, num-le}
-use Rattle.cable.specs.declared.Cable.{Cable}
-use Rattle.ring.specs.declared.Found.TheVariants.{Member}
-use Rattle.ring.specs.Ring.{sender, member_before, sponsors, sponsored, decided}
-use Rattle.ring_laws.proofs.Senders.{Turns, sender-range, round}
-use Rattle.ring_laws.proofs.Walks as walks
-use Rattle.ring.proofs.Members.{sponsored-before, decided-before}
+use Rattle.bench.specs.nodeset.Sums.{sum, num}
+use Rattle.bench.specs.nodeset.Sets.{has, size}
+use Rattle.bench.proofs.nodeset.Tests.{by_cases}
+use Rattle.bench.proofs.nodeset.Sums.{sum-next, sum_first, sum-add, sum-split, sum-at, one_place, num-le}
+use Rattle.bench.specs.cable.declared.Cable.{Cable}
+use Rattle.bench.specs.ring.declared.Found.TheVariants.{Member}
+use Rattle.bench.specs.ring.Ring.{sender, member_before, sponsors, sponsored, decided}
+use Rattle.bench.proofs.ring_laws.Senders.{Turns, sender-range, round}
+use Rattle.bench.proofs.ring_laws.Walks as walks
+use Rattle.bench.proofs.ring.Members.{sponsored-before, decided-before}
 use Rattle.agreement.proofs.Past.{Past, no_past}
 use Rattle.agreement.proofs.Backwards as backwards
 

@@ -3,10 +3,10 @@ use Prim.Native.Nat.{ℕ, ◌+◌, ◌^◌, ◌<◌}
 use mathlib.Core.Path.{◌≡◌}
 use mathlib.Core.Logic.{◌≢◌, ◌⊎◌}
 use mathlib.Core.Bool.{Bool, true, false}
-use Rattle.nodeset.specs.Sets.{has}
-use Rattle.ring.specs.Ring.{sender}
-use Rattle.node_record.specs.declared.Node.{Node}
-use Rattle.node_record.specs.States.{is_member, is_knocking}
+use Rattle.bench.specs.nodeset.Sets.{has}
+use Rattle.bench.specs.ring.Ring.{sender}
+use Rattle.bench.specs.node_record.declared.Node.{Node}
+use Rattle.bench.specs.node_record.States.{is_member, is_knocking}
 use Rattle.agreement.proofs.History.{World, Untold}
 
 module _ (W : World) where

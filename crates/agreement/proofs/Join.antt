@@ -5,22 +5,22 @@ use mathlib.Core.Logic.{◌≢◌, ◌⊎◌, inl, inr}
 use mathlib.Core.Bool.{true, false, true≢false, false≢true}
 use native.Mathlib.Omega.{arith}
 use native.Mathlib.Decide.{dec_lt}
-use Rattle.nodeset.specs.Sums.{sum}
-use Rattle.nodeset.specs.Sets.{has, with}
-use Rattle.nodeset.proofs.Sums.{sum-at, sum-rest}
-use Rattle.nodeset.proofs.Laws.{has-with, has-with-other}
-use Rattle.cable.specs.declared.Cable.{Cable}
-use Rattle.ring.specs.declared.Found.TheVariants as found
-use Rattle.ring.specs.Ring.{sender, member_before}
-use Rattle.ring_laws.proofs.Senders.{sender-range}
-use Rattle.ring_laws.proofs.Walks as walks
-use Rattle.node_record.specs.declared.Node.{Node}
-use Rattle.node_record.specs.declared.State.TheVariants.{Member, Following}
-use Rattle.node_record.specs.States.{is_member, is_knocking}
-use Rattle.node_changes.specs.Changes.{with_set, with_returning}
-use Rattle.node_steps.specs.Steps.{marks_after, yes_after, joins}
-use Rattle.node_steps.specs.Inner.{read_return, read_heard, read_marked}
-use Rattle.node_steps.proofs.Answers.{At}
+use Rattle.bench.specs.nodeset.Sums.{sum}
+use Rattle.bench.specs.nodeset.Sets.{has, with}
+use Rattle.bench.proofs.nodeset.Sums.{sum-at, sum-rest}
+use Rattle.bench.proofs.nodeset.Laws.{has-with, has-with-other}
+use Rattle.bench.specs.cable.declared.Cable.{Cable}
+use Rattle.bench.specs.ring.declared.Found.TheVariants as found
+use Rattle.bench.specs.ring.Ring.{sender, member_before}
+use Rattle.bench.proofs.ring_laws.Senders.{sender-range}
+use Rattle.bench.proofs.ring_laws.Walks as walks
+use Rattle.bench.specs.node_record.declared.Node.{Node}
+use Rattle.bench.specs.node_record.declared.State.TheVariants.{Member, Following}
+use Rattle.bench.specs.node_record.States.{is_member, is_knocking}
+use Rattle.bench.specs.node_changes.Changes.{with_set, with_returning}
+use Rattle.bench.specs.node_steps.Steps.{marks_after, yes_after, joins}
+use Rattle.bench.specs.node_steps.Inner.{read_return, read_heard, read_marked}
+use Rattle.bench.proofs.node_steps.Answers.{At}
 use Rattle.agreement.proofs.History.{World, sender-most, Untold, lst, told-in-time, num-is}
 use Rattle.agreement.proofs.Invariant.{Tracking, Off, Lost, Knock, Awaits, aware, unaware}
 use Rattle.agreement.proofs.Marks.{no_both, not-true, not-false, has-with-keeps}

@@ -5,15 +5,15 @@ use mathlib.Core.Bool.{Bool, true, false}
 use mathlib.Core.List.{List, [], ◌∷◌}
 use native.Mathlib.Omega.{arith}
 use lib.ListN.{length}
-use Rattle.nodeset.specs.Sums.{sum, num}
-use Rattle.nodeset.specs.Sets.{full}
-use Rattle.nodeset.proofs.Tests.{by_cases, both, chosen}
-use Rattle.cable.specs.declared.Cable.{Cable}
-use Rattle.cable.specs.Cable.{node_number, cable_fits}
-use Rattle.cable.proofs.Ranges.{ring-size, fitting}
-use Rattle.node_record.specs.declared.Cause.TheVariants.{SwitchedOff}
-use Rattle.node.specs.Calls.{Stepped}
-use Rattle.node.specs.Calls as node
+use Rattle.bench.specs.nodeset.Sums.{sum, num}
+use Rattle.bench.specs.nodeset.Sets.{full}
+use Rattle.bench.proofs.nodeset.Tests.{by_cases, both, chosen}
+use Rattle.bench.specs.cable.declared.Cable.{Cable}
+use Rattle.bench.specs.cable.Cable.{node_number, cable_fits}
+use Rattle.bench.proofs.cable.Ranges.{ring-size, fitting}
+use Rattle.bench.specs.node_record.declared.Cause.TheVariants.{SwitchedOff}
+use Rattle.bench.specs.node.Calls.{Stepped}
+use Rattle.bench.specs.node.Calls as node
 use Rattle.bench.specs.Table.{Table, table_sound, node_count, slots_of}
 use Rattle.bench.specs.Calls.{set_up_of, table_after_slot}
 use Rattle.bench.specs.Runs.{Call, slot, off, restart, table_after, is_slot, entry}

@@ -4,12 +4,12 @@ use mathlib.Core.Path.{◌≡◌, sym, ap, ◌∙◌}
 use mathlib.Core.Logic.{◌≢◌}
 use native.Mathlib.Omega.{arith}
 use native.Mathlib.Decide.{dec_lt}
-use Rattle.nodeset.specs.Sums.{sum, num}
-use Rattle.nodeset.specs.Sets.{has, size}
-use Rattle.nodeset.proofs.Sums.{sum-next}
-use Rattle.ring.specs.Ring.{turn, sender}
-use Rattle.ring_laws.proofs.Senders.{same-slot, sender-place, size-round}
-use Rattle.ring_laws.proofs.Walks.{member}
+use Rattle.bench.specs.nodeset.Sums.{sum, num}
+use Rattle.bench.specs.nodeset.Sets.{has, size}
+use Rattle.bench.proofs.nodeset.Sums.{sum-next}
+use Rattle.bench.specs.ring.Ring.{turn, sender}
+use Rattle.bench.proofs.ring_laws.Senders.{same-slot, sender-place, size-round}
+use Rattle.bench.proofs.ring_laws.Walks.{member}
 use Rattle.agreement.specs.Demand.{onwards, member_after}
 use Rattle.agreement.proofs.History.{World, K, lst, span, num-is, sum_more}
 use Rattle.agreement.proofs.Depart.{since-next}

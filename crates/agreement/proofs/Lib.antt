@@ -31,3 +31,9 @@ pub mod Demanded
 pub mod Throughout
 pub mod Plain
 pub mod ByNumber
+pub use Rattle.bench.proofs.nodeset as nodeset
+pub use Rattle.bench.proofs.cable as cable
+pub use Rattle.bench.proofs.ring as ring
+pub use Rattle.bench.proofs.ring_laws as ring_laws
+pub use Rattle.bench.proofs.node_steps as node_steps
+pub use Rattle.bench.proofs as bench

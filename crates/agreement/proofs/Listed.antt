@@ -7,21 +7,21 @@ use native.Mathlib.Omega.{arith}
 use native.Mathlib.Decide.{ℕ_discrete}
 use lib.Dec.{eqb}
 use borrow.Author.Tests as tests
-use Rattle.nodeset.specs.Sums.{sum, num}
-use Rattle.nodeset.specs.Sets.{has, size}
-use Rattle.nodeset.proofs.Tests.{by_cases}
-use Rattle.nodeset.proofs.Sums.{sum-at, num-le}
-use Rattle.cable.specs.declared.Cable.{Cable}
-use Rattle.ring.specs.declared.Found.TheVariants as found
-use Rattle.ring.specs.Ring.{sender, sponsors, sponsored}
-use Rattle.ring_laws.proofs.Senders.{sender-range, sender-once, same-slot}
-use Rattle.message.specs.declared.Reading.{Reading}
-use Rattle.node_record.specs.declared.Node.{Node}
-use Rattle.node_record.specs.States.{is_member}
-use Rattle.node_record.specs.Sponsoring.{sponsors_in, sponsored_in}
-use Rattle.node_steps.specs.Steps.{is_heard, return_in, marks_after, yes_after}
-use Rattle.node_steps.specs.Digests.{bits_heard}
-use Rattle.node_steps.proofs.Answers.{At, Told}
+use Rattle.bench.specs.nodeset.Sums.{sum, num}
+use Rattle.bench.specs.nodeset.Sets.{has, size}
+use Rattle.bench.proofs.nodeset.Tests.{by_cases}
+use Rattle.bench.proofs.nodeset.Sums.{sum-at, num-le}
+use Rattle.bench.specs.cable.declared.Cable.{Cable}
+use Rattle.bench.specs.ring.declared.Found.TheVariants as found
+use Rattle.bench.specs.ring.Ring.{sender, sponsors, sponsored}
+use Rattle.bench.proofs.ring_laws.Senders.{sender-range, sender-once, same-slot}
+use Rattle.bench.specs.message.declared.Reading.{Reading}
+use Rattle.bench.specs.node_record.declared.Node.{Node}
+use Rattle.bench.specs.node_record.States.{is_member}
+use Rattle.bench.specs.node_record.Sponsoring.{sponsors_in, sponsored_in}
+use Rattle.bench.specs.node_steps.Steps.{is_heard, return_in, marks_after, yes_after}
+use Rattle.bench.specs.node_steps.Digests.{bits_heard}
+use Rattle.bench.proofs.node_steps.Answers.{At, Told}
 use Rattle.agreement.proofs.History.{World, sender-most, Untold, K, lst, told-in-time, sponsors-are, Decision, sponsored-since, Sponsored, num-is}
 use Rattle.agreement.proofs.Invariant.{Tracking, Off, Lost}
 use Rattle.agreement.proofs.Marks.{no_both, not-true, not-false, WasOff, unmarked, denied, WasOn, mark-own, mark-of-sender, off-before, on-before, yes-own, yes-before}

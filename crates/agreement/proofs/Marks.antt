@@ -6,19 +6,19 @@ use mathlib.Core.Bool.{Bool, true, false, not, ◌&&◌, true≢false}
 use native.Mathlib.Omega.{arith}
 use native.Mathlib.Decide.{ℕ_discrete}
 use borrow.Author.Tests.{eq-eqb, ne_eqb}
-use Rattle.nodeset.specs.Sets.{has, with, without}
-use Rattle.nodeset.proofs.Tests.{by_cases, both, all, or_else, chosen, otherwise}
-use Rattle.nodeset.proofs.Laws.{has-with, has-with-other, has-without, has-without-other}
-use Rattle.ring.specs.declared.Found.{Found}
-use Rattle.ring.specs.declared.Found.TheVariants as found
-use Rattle.ring.specs.Ring.{member_in}
-use Rattle.message.specs.declared.Reading.{Reading}
-use Rattle.message.specs.declared.Reading.TheVariants.{Heard, Refused}
-use Rattle.node_record.specs.declared.Node.{Node}
-use Rattle.node_record.specs.Sponsoring.{sponsors_in, sponsored_in}
-use Rattle.node_steps.specs.Steps.{is_heard, is_own, confirmed, hears_no, hears_yes, heard_marks, read_marks, marks_after, read_yes, yes_after}
-use Rattle.node_steps.specs.Digests.{bits_heard}
-use Rattle.node_steps.proofs.Answers.{At, Told, told-by, says-told}
+use Rattle.bench.specs.nodeset.Sets.{has, with, without}
+use Rattle.bench.proofs.nodeset.Tests.{by_cases, both, all, or_else, chosen, otherwise}
+use Rattle.bench.proofs.nodeset.Laws.{has-with, has-with-other, has-without, has-without-other}
+use Rattle.bench.specs.ring.declared.Found.{Found}
+use Rattle.bench.specs.ring.declared.Found.TheVariants as found
+use Rattle.bench.specs.ring.Ring.{member_in}
+use Rattle.bench.specs.message.declared.Reading.{Reading}
+use Rattle.bench.specs.message.declared.Reading.TheVariants.{Heard, Refused}
+use Rattle.bench.specs.node_record.declared.Node.{Node}
+use Rattle.bench.specs.node_record.Sponsoring.{sponsors_in, sponsored_in}
+use Rattle.bench.specs.node_steps.Steps.{is_heard, is_own, confirmed, hears_no, hears_yes, heard_marks, read_marks, marks_after, read_yes, yes_after}
+use Rattle.bench.specs.node_steps.Digests.{bits_heard}
+use Rattle.bench.proofs.node_steps.Answers.{At, Told, told-by, says-told}
 
 pub no_both : {b : Bool} → b ≡ true → b ≡ false → ⊥
 no_both p q = true≢false (sym p ∙ q)

@@ -4,25 +4,25 @@ use mathlib.Core.Path.{◌≡◌, sym, ap, ap₂, ◌∙◌, subst}
 use mathlib.Core.Logic.{◌⊎◌, inl, inr}
 use mathlib.Core.Bool.{true, false, cond, false≢true}
 use native.Mathlib.Omega.{arith}
-use Rattle.nodeset.specs.Sets.{has, size}
-use Rattle.cable.specs.declared.Cable.{Cable}
-use Rattle.ring.specs.declared.Found.TheVariants as found
-use Rattle.ring.specs.Ring.{sender, decided}
-use Rattle.message.specs.declared.Reading.{Reading}
-use Rattle.node_record.specs.declared.Node.{Node}
-use Rattle.node_record.specs.declared.State.TheVariants.{Member, Out}
-use Rattle.node_record.specs.declared.Cause.{Cause}
-use Rattle.node_record.specs.declared.Cause.TheVariants.{MissedReturn}
-use Rattle.node_record.specs.States.{is_member, is_listening}
-use Rattle.node_record.specs.Sponsoring.{decided_in}
-use Rattle.node_record.proofs.Tracking.{tracks}
-use Rattle.node_changes.specs.Changes.{counted, leave, with_set}
-use Rattle.node_steps.specs.Steps.{is_heard, noted, settle}
-use Rattle.node_steps.specs.Digests.{bits_heard}
-use Rattle.node_steps.specs.Inner.{read_return, read_marked, departing, inside_slot, outside_slot, slot_by_cases}
-use Rattle.node_steps.proofs.Cases.{slot-inside, slot-outside}
-use Rattle.node_hearing.specs.Hearing.{listening_by}
-use Rattle.node_slot.specs.Inner.{read_in}
+use Rattle.bench.specs.nodeset.Sets.{has, size}
+use Rattle.bench.specs.cable.declared.Cable.{Cable}
+use Rattle.bench.specs.ring.declared.Found.TheVariants as found
+use Rattle.bench.specs.ring.Ring.{sender, decided}
+use Rattle.bench.specs.message.declared.Reading.{Reading}
+use Rattle.bench.specs.node_record.declared.Node.{Node}
+use Rattle.bench.specs.node_record.declared.State.TheVariants.{Member, Out}
+use Rattle.bench.specs.node_record.declared.Cause.{Cause}
+use Rattle.bench.specs.node_record.declared.Cause.TheVariants.{MissedReturn}
+use Rattle.bench.specs.node_record.States.{is_member, is_listening}
+use Rattle.bench.specs.node_record.Sponsoring.{decided_in}
+use Rattle.bench.proofs.node_record.Tracking.{tracks}
+use Rattle.bench.specs.node_changes.Changes.{counted, leave, with_set}
+use Rattle.bench.specs.node_steps.Steps.{is_heard, noted, settle}
+use Rattle.bench.specs.node_steps.Digests.{bits_heard}
+use Rattle.bench.specs.node_steps.Inner.{read_return, read_marked, departing, inside_slot, outside_slot, slot_by_cases}
+use Rattle.bench.proofs.node_steps.Cases.{slot-inside, slot-outside}
+use Rattle.bench.specs.node_hearing.Hearing.{listening_by}
+use Rattle.bench.specs.node_slot.Inner.{read_in}
 use Rattle.bench.proofs.Choices.{choose}
 use Rattle.bench.proofs.Counted.{Same, same_then}
 use Rattle.agreement.proofs.History.{World, K}

@@ -6,15 +6,15 @@ use mathlib.Core.Bool.{Bool, true, false, cond, ◌&&◌}
 use native.Mathlib.Omega.{arith}
 use lib.Dec.{eqb}
 use borrow.Author.Tests.{eqb-true, eqb-false, eq-eqb, ne_eqb}
-use Rattle.nodeset.specs.Sums.{sum, num}
-use Rattle.nodeset.specs.Sets.{has}
-use Rattle.nodeset.proofs.Tests.{both, by_cases, chosen, otherwise}
-use Rattle.nodeset.proofs.Sums.{sum-none, sum_first}
-use Rattle.slot_table.specs.Order.{node_at}
-use Rattle.cable.specs.declared.Cable.{Cable}
-use Rattle.ring.specs.Ring.{turn, sender}
-use Rattle.ring_laws.proofs.Senders.{Turns, turn-range, turn-add}
-use Rattle.ring_laws.proofs.Walks.{member}
+use Rattle.bench.specs.nodeset.Sums.{sum, num}
+use Rattle.bench.specs.nodeset.Sets.{has}
+use Rattle.bench.proofs.nodeset.Tests.{both, by_cases, chosen, otherwise}
+use Rattle.bench.proofs.nodeset.Sums.{sum-none, sum_first}
+use Rattle.bench.specs.slot_table.Order.{node_at}
+use Rattle.bench.specs.cable.declared.Cable.{Cable}
+use Rattle.bench.specs.ring.Ring.{turn, sender}
+use Rattle.bench.proofs.ring_laws.Senders.{Turns, turn-range, turn-add}
+use Rattle.bench.proofs.ring_laws.Walks.{member}
 use Rattle.agreement.specs.Demand.{next, onwards}
 
 next-turn : (n : ℕ) → 1 ≤ n → (p : ℕ) → 1 ≤ p → next n (turn n p) ≡ turn n (suc p)

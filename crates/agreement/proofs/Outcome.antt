@@ -5,22 +5,22 @@ use mathlib.Core.Logic.{◌≢◌, ◌⊎◌, inl, inr}
 use mathlib.Core.Bool.{Bool, true, false, cond, not, ◌&&◌, true≢false, false≢true}
 use lib.Dec.{eqb}
 use borrow.Author.Tests.{eqb-true, eqb-false, eq-eqb}
-use Rattle.nodeset.specs.Sets.{has, with, without}
-use Rattle.nodeset.proofs.Tests.{both, chosen, otherwise}
-use Rattle.ring.specs.declared.Found.{Found}
-use Rattle.ring.specs.declared.Found.TheVariants as found
-use Rattle.ring.specs.Ring.{member_in, is_found}
-use Rattle.message.specs.declared.Reading.{Reading}
-use Rattle.node_record.specs.declared.Node.{Node}
-use Rattle.node_record.specs.declared.State.{State}
-use Rattle.node_record.specs.declared.State.TheVariants.{Member, Listening, Following, Knocking, Out}
-use Rattle.node_record.specs.declared.Cause.{Cause}
-use Rattle.node_record.specs.declared.Cause.TheVariants.{Unconfirmed, NothingHeard, MissedReturn}
-use Rattle.node_record.specs.States.{is_member, is_following, is_knocking}
-use Rattle.node_record.specs.Sponsoring.{decided_in}
-use Rattle.node_changes.specs.Changes.{out_for, fresh, leave, with_set, with_returning}
-use Rattle.node_steps.specs.Steps.{is_heard, noted, leaves, too_few, nothing_heard, joins, state_on_list, settled_as, join, settle}
-use Rattle.node_steps.specs.Inner.{read_return, read_marked, departing, inside_slot}
+use Rattle.bench.specs.nodeset.Sets.{has, with, without}
+use Rattle.bench.proofs.nodeset.Tests.{both, chosen, otherwise}
+use Rattle.bench.specs.ring.declared.Found.{Found}
+use Rattle.bench.specs.ring.declared.Found.TheVariants as found
+use Rattle.bench.specs.ring.Ring.{member_in, is_found}
+use Rattle.bench.specs.message.declared.Reading.{Reading}
+use Rattle.bench.specs.node_record.declared.Node.{Node}
+use Rattle.bench.specs.node_record.declared.State.{State}
+use Rattle.bench.specs.node_record.declared.State.TheVariants.{Member, Listening, Following, Knocking, Out}
+use Rattle.bench.specs.node_record.declared.Cause.{Cause}
+use Rattle.bench.specs.node_record.declared.Cause.TheVariants.{Unconfirmed, NothingHeard, MissedReturn}
+use Rattle.bench.specs.node_record.States.{is_member, is_following, is_knocking}
+use Rattle.bench.specs.node_record.Sponsoring.{decided_in}
+use Rattle.bench.specs.node_changes.Changes.{out_for, fresh, leave, with_set, with_returning}
+use Rattle.bench.specs.node_steps.Steps.{is_heard, noted, leaves, too_few, nothing_heard, joins, state_on_list, settled_as, join, settle}
+use Rattle.bench.specs.node_steps.Inner.{read_return, read_marked, departing, inside_slot}
 use Rattle.bench.proofs.Choices.{choose}
 
 -- no longer tracking

@@ -7,16 +7,16 @@ use native.Mathlib.Omega.{arith}
 use native.Mathlib.Decide.{ℕ_discrete}
 use lib.Dec.{eqb}
 use borrow.Author.Tests.{eq-eqb}
-use Rattle.nodeset.specs.Sets.{has}
-use Rattle.ring.specs.Ring.{sender}
-use Rattle.message.specs.declared.Reading.{Reading}
-use Rattle.node_record.specs.declared.Node.{Node}
-use Rattle.node_record.specs.declared.State.{State}
-use Rattle.node_record.specs.declared.State.TheVariants.{Member, Listening, Following, Knocking, Out}
-use Rattle.node_record.specs.States.{is_member, is_following, is_knocking}
-use Rattle.node_changes.specs.Changes.{with_returning}
-use Rattle.node_steps.specs.Steps.{is_heard}
-use Rattle.node_sending.specs.Sending.{sends}
+use Rattle.bench.specs.nodeset.Sets.{has}
+use Rattle.bench.specs.ring.Ring.{sender}
+use Rattle.bench.specs.message.declared.Reading.{Reading}
+use Rattle.bench.specs.node_record.declared.Node.{Node}
+use Rattle.bench.specs.node_record.declared.State.{State}
+use Rattle.bench.specs.node_record.declared.State.TheVariants.{Member, Listening, Following, Knocking, Out}
+use Rattle.bench.specs.node_record.States.{is_member, is_following, is_knocking}
+use Rattle.bench.specs.node_changes.Changes.{with_returning}
+use Rattle.bench.specs.node_steps.Steps.{is_heard}
+use Rattle.bench.specs.node_sending.Sending.{sends}
 use Rattle.agreement.proofs.History.{World, Untold, one-knock, num-isnt}
 use Rattle.agreement.proofs.Invariant.{Tracking, Off, Lost, Knock, Awaits, aware, unaware}
 use Rattle.agreement.proofs.Marks.{no_both, not-true, not-false}

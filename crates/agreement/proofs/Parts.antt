@@ -4,12 +4,12 @@ use mathlib.Core.Path.{◌≡◌, ◌∙◌, ap}
 use mathlib.Core.Logic.{◌≢◌}
 use mathlib.Core.Bool.{true}
 use native.Mathlib.Omega.{arith}
-use Rattle.nodeset.specs.Sums.{num}
-use Rattle.nodeset.specs.Sets.{has, without, size}
-use Rattle.nodeset.proofs.Tests.{by_cases}
-use Rattle.nodeset.proofs.Sums.{sum-le}
-use Rattle.nodeset.proofs.Laws.{has-without-other}
-use Rattle.nodeset.proofs.Counts.{size-without}
+use Rattle.bench.specs.nodeset.Sums.{num}
+use Rattle.bench.specs.nodeset.Sets.{has, without, size}
+use Rattle.bench.proofs.nodeset.Tests.{by_cases}
+use Rattle.bench.proofs.nodeset.Sums.{sum-le}
+use Rattle.bench.proofs.nodeset.Laws.{has-without-other}
+use Rattle.bench.proofs.nodeset.Counts.{size-without}
 
 -- a part has no more nodes
 pub size-part : (n a b : ℕ) → ((x : ℕ) → has a x ≡ true → has b x ≡ true) → size n a ≤ size n b

@@ -5,10 +5,10 @@ use mathlib.Core.Bool.{cond, ◌&&◌}
 use native.Mathlib.Nat.{add-zero}
 use lib.Dec.{eqb, leb}
 use borrow.Author.Tests.{le-leb}
-use Rattle.nodeset.proofs.Tests.{all}
-use Rattle.ring.specs.declared.Found.TheVariants.{Nobody}
-use Rattle.ring.specs.Ring.{sender, member_before, sponsors, sponsored}
-use Rattle.cable.proofs.Ranges.{fits_by}
+use Rattle.bench.proofs.nodeset.Tests.{all}
+use Rattle.bench.specs.ring.declared.Found.TheVariants.{Nobody}
+use Rattle.bench.specs.ring.Ring.{sender, member_before, sponsors, sponsored}
+use Rattle.bench.proofs.cable.Ranges.{fits_by}
 use Rattle.bench.specs.Table.{slots_of, speaker}
 use Rattle.bench.specs.Runs.{is_slot, list_of, table_after}
 use Rattle.agreement.specs.Demand.{member_after, KeepsListOn, is_deciding, EverySequence}

@@ -1,14 +1,14 @@
 -- Whom a message reaches: by whose slot it is, what is lost, who is named, who sends. Assumes nothing.
 use mathlib.Core.Path.{◌≡◌, refl, sym}
 use mathlib.Core.Bool.{Bool, true, false, cond, not, ◌&&◌, ◌||◌, true≢false, false≢true}
-use Rattle.message.specs.declared.Reading.{Reading}
-use Rattle.message.specs.declared.Reading.TheVariants as reading
-use Rattle.node_record.specs.declared.State.{State}
-use Rattle.node_record.specs.declared.State.TheVariants.{Member, Listening, Following, Knocking, Out}
-use Rattle.node_record.specs.States.{is_member, is_listening, is_following, is_out}
-use Rattle.node_record.proofs.Tracking.{tracks}
-use Rattle.node_steps.specs.Steps.{is_heard}
-use Rattle.node_steps.specs.Digests.{bits_heard}
+use Rattle.bench.specs.message.declared.Reading.{Reading}
+use Rattle.bench.specs.message.declared.Reading.TheVariants as reading
+use Rattle.bench.specs.node_record.declared.State.{State}
+use Rattle.bench.specs.node_record.declared.State.TheVariants.{Member, Listening, Following, Knocking, Out}
+use Rattle.bench.specs.node_record.States.{is_member, is_listening, is_following, is_out}
+use Rattle.bench.proofs.node_record.Tracking.{tracks}
+use Rattle.bench.specs.node_steps.Steps.{is_heard}
+use Rattle.bench.specs.node_steps.Digests.{bits_heard}
 use Rattle.bench.specs.Calls.{unheard}
 
 -- ---- what is heard: by whose slot it is, what is lost, who is named, who sends

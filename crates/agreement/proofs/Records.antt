@@ -5,24 +5,24 @@ use mathlib.Core.Bool.{Bool, true, cond, ◌||◌}
 use native.Mathlib.Omega.{arith}
 use lib.Dec.{eqb}
 use lib.ListN.{length}
-use Rattle.nodeset.specs.Sets.{has}
-use Rattle.nodeset.proofs.Tests.{chosen}
-use Rattle.cable.specs.declared.Cable.{Cable}
-use Rattle.ring.specs.declared.Found.{Found}
-use Rattle.ring.specs.Ring.{sender, sponsors, sponsored, member_in}
-use Rattle.message.specs.declared.Reading.{Reading}
-use Rattle.message.specs.declared.Reading.TheVariants as reading
-use Rattle.node_record.specs.declared.Node.{Node}
-use Rattle.node_record.specs.States.{is_member}
-use Rattle.node_record.specs.Soundness.{sound, limit}
-use Rattle.node_changes.specs.Changes.{counted}
-use Rattle.node_steps.proofs.Answers.{At}
-use Rattle.node_sending.specs.Sending.{mark_bits, bits_sent, return_sent}
-use Rattle.node_sending.proofs.Laws.{has-mark_bits}
-use Rattle.node_slot.specs.Slot.{after_slot}
-use Rattle.node_slot.specs.Inner.{read_in}
-use Rattle.node_slot.proofs.Read.{after_read}
-use Rattle.node.specs.Calls.{Stepped}
+use Rattle.bench.specs.nodeset.Sets.{has}
+use Rattle.bench.proofs.nodeset.Tests.{chosen}
+use Rattle.bench.specs.cable.declared.Cable.{Cable}
+use Rattle.bench.specs.ring.declared.Found.{Found}
+use Rattle.bench.specs.ring.Ring.{sender, sponsors, sponsored, member_in}
+use Rattle.bench.specs.message.declared.Reading.{Reading}
+use Rattle.bench.specs.message.declared.Reading.TheVariants as reading
+use Rattle.bench.specs.node_record.declared.Node.{Node}
+use Rattle.bench.specs.node_record.States.{is_member}
+use Rattle.bench.specs.node_record.Soundness.{sound, limit}
+use Rattle.bench.specs.node_changes.Changes.{counted}
+use Rattle.bench.proofs.node_steps.Answers.{At}
+use Rattle.bench.specs.node_sending.Sending.{mark_bits, bits_sent, return_sent}
+use Rattle.bench.proofs.node_sending.Laws.{has-mark_bits}
+use Rattle.bench.specs.node_slot.Slot.{after_slot}
+use Rattle.bench.specs.node_slot.Inner.{read_in}
+use Rattle.bench.proofs.node_slot.Read.{after_read}
+use Rattle.bench.specs.node.Calls.{Stepped}
 use Rattle.bench.specs.Table.{Table, record_of, speaker}
 use Rattle.bench.specs.Calls.{transmits, unheard, spoken, heard_by, table_after_slot}
 use Rattle.bench.proofs.Counted.{step-done}

@@ -7,22 +7,22 @@ use native.Mathlib.Omega.{arith}
 use native.Mathlib.Decide.{ℕ_discrete, dec_lt}
 use lib.Dec.{eqb}
 use borrow.Author.Tests.{eqb-true, eq-eqb, ne_eqb}
-use Rattle.nodeset.specs.Sums.{num}
-use Rattle.nodeset.specs.Sets.{has}
-use Rattle.nodeset.proofs.Tests.{by_cases, both, all}
-use Rattle.nodeset.proofs.Sums.{num-le}
-use Rattle.ring.specs.declared.Found.TheVariants as found
-use Rattle.ring.specs.Ring.{sender, member_before, is_found}
-use Rattle.ring_laws.proofs.Senders.{sender-range}
-use Rattle.message.specs.declared.Reading.{Reading}
-use Rattle.message.specs.declared.Reading.TheVariants.{Heard, Refused}
-use Rattle.node_record.specs.declared.Node.{Node}
-use Rattle.node_record.specs.declared.State.{State}
-use Rattle.node_record.specs.declared.State.TheVariants.{Member, Listening, Following, Knocking, Out}
-use Rattle.node_record.specs.States.{is_member, is_knocking}
-use Rattle.node_steps.specs.Steps.{is_heard, return_in, joins}
-use Rattle.node_steps.specs.Inner.{read_return, read_heard, read_marked}
-use Rattle.node_steps.proofs.Answers.{At, found_it, is-found}
+use Rattle.bench.specs.nodeset.Sums.{num}
+use Rattle.bench.specs.nodeset.Sets.{has}
+use Rattle.bench.proofs.nodeset.Tests.{by_cases, both, all}
+use Rattle.bench.proofs.nodeset.Sums.{num-le}
+use Rattle.bench.specs.ring.declared.Found.TheVariants as found
+use Rattle.bench.specs.ring.Ring.{sender, member_before, is_found}
+use Rattle.bench.proofs.ring_laws.Senders.{sender-range}
+use Rattle.bench.specs.message.declared.Reading.{Reading}
+use Rattle.bench.specs.message.declared.Reading.TheVariants.{Heard, Refused}
+use Rattle.bench.specs.node_record.declared.Node.{Node}
+use Rattle.bench.specs.node_record.declared.State.{State}
+use Rattle.bench.specs.node_record.declared.State.TheVariants.{Member, Listening, Following, Knocking, Out}
+use Rattle.bench.specs.node_record.States.{is_member, is_knocking}
+use Rattle.bench.specs.node_steps.Steps.{is_heard, return_in, joins}
+use Rattle.bench.specs.node_steps.Inner.{read_return, read_heard, read_marked}
+use Rattle.bench.proofs.node_steps.Answers.{At, found_it, is-found}
 use Rattle.agreement.proofs.History.{World, Untold, lst, told-in-time, one-knock, num-is}
 use Rattle.agreement.proofs.Invariant.{Knock, Awaits, aware, unaware}
 use Rattle.agreement.proofs.Marks.{no_both, not-true, not-false}

@@ -5,13 +5,13 @@ use mathlib.Core.Logic.{◌≢◌}
 use mathlib.Core.Bool.{true, false}
 use native.Mathlib.Omega.{arith}
 use native.Mathlib.Decide.{ℕ_discrete}
-use Rattle.nodeset.specs.Sums.{sum}
-use Rattle.nodeset.specs.Sets.{has, with, size}
-use Rattle.nodeset.proofs.Tests.{by_cases}
-use Rattle.nodeset.proofs.Laws.{has-with-other, with-lt}
-use Rattle.ring.specs.Ring.{sender}
-use Rattle.ring_laws.proofs.Senders.{sender-range, sender-period}
-use Rattle.ring_laws.proofs.Walks.{Met, walk_meets}
+use Rattle.bench.specs.nodeset.Sums.{sum}
+use Rattle.bench.specs.nodeset.Sets.{has, with, size}
+use Rattle.bench.proofs.nodeset.Tests.{by_cases}
+use Rattle.bench.proofs.nodeset.Laws.{has-with-other, with-lt}
+use Rattle.bench.specs.ring.Ring.{sender}
+use Rattle.bench.proofs.ring_laws.Senders.{sender-range, sender-period}
+use Rattle.bench.proofs.ring_laws.Walks.{Met, walk_meets}
 use Rattle.agreement.proofs.History.{World, K, KFact, lst, full-round, size-from, num-isnt}
 use Rattle.agreement.proofs.Marks.{no_both}
 use Rattle.agreement.proofs.Listed.{Begins, ListedSlot, same-window}

@@ -8,28 +8,28 @@ use native.Mathlib.Decide.{ℕ_discrete}
 use lib.Dec.{eqb}
 use lib.ListN.{length}
 use borrow.Author.Tests.{eq-eqb, ne_eqb}
-use Rattle.nodeset.specs.Sets.{has, size}
-use Rattle.nodeset.proofs.Tests.{by_cases, otherwise}
-use Rattle.cable.specs.declared.Cable.{Cable}
-use Rattle.ring.specs.declared.Found.TheVariants as found
-use Rattle.ring.specs.Ring.{sender, sponsored}
-use Rattle.ring_laws.proofs.Senders.{sender-range, sender-period}
-use Rattle.message.specs.declared.Reading.{Reading}
-use Rattle.message.specs.declared.Reading.TheVariants as reading
-use Rattle.node_record.specs.declared.Node.{Node}
-use Rattle.node_record.specs.States.{is_member, is_listening, is_out}
-use Rattle.node_record.specs.Soundness.{sound, limit}
-use Rattle.node_record.proofs.Tracking.{tracks}
-use Rattle.node_changes.specs.Changes.{counted}
-use Rattle.node_steps.specs.Steps.{is_heard}
-use Rattle.node_steps.specs.Digests.{bits_heard}
-use Rattle.node_steps.proofs.Cases.{slot-outside}
-use Rattle.node_sending.specs.Sending.{sends, bits_sent, return_sent}
-use Rattle.node_slot.specs.Inner.{read_in}
+use Rattle.bench.specs.nodeset.Sets.{has, size}
+use Rattle.bench.proofs.nodeset.Tests.{by_cases, otherwise}
+use Rattle.bench.specs.cable.declared.Cable.{Cable}
+use Rattle.bench.specs.ring.declared.Found.TheVariants as found
+use Rattle.bench.specs.ring.Ring.{sender, sponsored}
+use Rattle.bench.proofs.ring_laws.Senders.{sender-range, sender-period}
+use Rattle.bench.specs.message.declared.Reading.{Reading}
+use Rattle.bench.specs.message.declared.Reading.TheVariants as reading
+use Rattle.bench.specs.node_record.declared.Node.{Node}
+use Rattle.bench.specs.node_record.States.{is_member, is_listening, is_out}
+use Rattle.bench.specs.node_record.Soundness.{sound, limit}
+use Rattle.bench.proofs.node_record.Tracking.{tracks}
+use Rattle.bench.specs.node_changes.Changes.{counted}
+use Rattle.bench.specs.node_steps.Steps.{is_heard}
+use Rattle.bench.specs.node_steps.Digests.{bits_heard}
+use Rattle.bench.proofs.node_steps.Cases.{slot-outside}
+use Rattle.bench.specs.node_sending.Sending.{sends, bits_sent, return_sent}
+use Rattle.bench.specs.node_slot.Inner.{read_in}
 use Rattle.bench.specs.Table.{Table, record_of, slots_of, speaker}
 use Rattle.bench.specs.Calls.{transmits, unheard, heard_by, table_after_slot}
 use Rattle.bench.specs.Runs.{slot, list_of, is_listed, misses}
-use Rattle.node_steps.proofs.Answers.{At}
+use Rattle.bench.proofs.node_steps.Answers.{At}
 use Rattle.agreement.specs.Demand.{AllHear}
 use Rattle.agreement.proofs.Past.{Past, past_of}
 use Rattle.agreement.proofs.History.{World, K, decision, sponsors-are}

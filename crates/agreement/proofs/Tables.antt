@@ -8,17 +8,17 @@ use native.Mathlib.Omega.{arith}
 use lib.Dec.{eqb}
 use lib.ListN.{length, get_or}
 use borrow.Author.Tests.{eqb-true}
-use Rattle.nodeset.specs.Sets.{full, size}
-use Rattle.nodeset.proofs.Tests.{by_cases, chosen, otherwise}
-use Rattle.nodeset.proofs.Laws.{has-full, full-lt}
-use Rattle.nodeset.proofs.Counts.{size_none}
-use Rattle.ring.specs.Ring.{sender}
-use Rattle.ring_laws.proofs.Senders.{sender-range}
-use Rattle.node_record.specs.declared.Node.{Node}
-use Rattle.node_record.specs.declared.Cause.{Cause}
-use Rattle.node_record.specs.States.{is_member}
-use Rattle.node_changes.specs.Changes.{starting, out_for, fresh}
-use Rattle.node.specs.Calls.{no_node}
+use Rattle.bench.specs.nodeset.Sets.{full, size}
+use Rattle.bench.proofs.nodeset.Tests.{by_cases, chosen, otherwise}
+use Rattle.bench.proofs.nodeset.Laws.{has-full, full-lt}
+use Rattle.bench.proofs.nodeset.Counts.{size_none}
+use Rattle.bench.specs.ring.Ring.{sender}
+use Rattle.bench.proofs.ring_laws.Senders.{sender-range}
+use Rattle.bench.specs.node_record.declared.Node.{Node}
+use Rattle.bench.specs.node_record.declared.Cause.{Cause}
+use Rattle.bench.specs.node_record.States.{is_member}
+use Rattle.bench.specs.node_changes.Changes.{starting, out_for, fresh}
+use Rattle.bench.specs.node.Calls.{no_node}
 use Rattle.bench.specs.Table.{Table, record_of, each, slots_of}
 use Rattle.bench.specs.Calls.{start_table, list_in}
 use Rattle.bench.specs.Runs.{set_in, list_of}

@@ -5,13 +5,13 @@ use mathlib.Core.Bool.{true, false≢true}
 use mathlib.Core.List.{List, [], ◌∷◌}
 use native.Mathlib.Omega.{arith}
 use lib.ListN.{length}
-use Rattle.nodeset.specs.Sets.{distance}
-use Rattle.cable.specs.declared.Cable.{Cable}
-use Rattle.cable.proofs.Ranges.{ring-size, fitting}
+use Rattle.bench.specs.nodeset.Sets.{distance}
+use Rattle.bench.specs.cable.declared.Cable.{Cable}
+use Rattle.bench.proofs.cable.Ranges.{ring-size, fitting}
 use Rattle.bench.proofs.Ledgers.{given_made}
-use Rattle.node.specs.declared.Answer.{Answer}
-use Rattle.node.specs.declared.Answer.TheVariants.{Done, Refused}
-use Rattle.node.specs.Calls.{is_done}
+use Rattle.bench.specs.node.declared.Answer.{Answer}
+use Rattle.bench.specs.node.declared.Answer.TheVariants.{Done, Refused}
+use Rattle.bench.specs.node.Calls.{is_done}
 use Rattle.bench.specs.Table.{Table, record_of, node_count}
 use Rattle.bench.specs.Calls.{set_up_of, slot_of, look_of, greatest, Called}
 use Rattle.bench.specs.Outcomes.{slot_outcome, ended_of}

@@ -1,11 +1,11 @@
 -- Document 02, request k: "With the plain table 1 to n everything is as now." Demand 3's own walk, to the members after a node, as it was before the slot table, by node numbers, and that with the plain
 -- table it is the same. (ring_laws' specs/Before says it of what the rules ask of the ring.)
 use Rattle.std.specs.Prelude.{ℕ, zero, suc, ◌-◌, ◌≡◌, true, cond, ◌&&◌, eqb}
-use Rattle.nodeset.specs.Sums.{num}
-use Rattle.nodeset.specs.Sets.{has}
-use Rattle.slot_table.specs.Order.{plain}
-use Rattle.cable.specs.declared.Cable.{Cable}
-use Rattle.cable.specs.Cable.{ring_size, node_number}
+use Rattle.bench.specs.nodeset.Sums.{num}
+use Rattle.bench.specs.nodeset.Sets.{has}
+use Rattle.bench.specs.slot_table.Order.{plain}
+use Rattle.bench.specs.cable.declared.Cable.{Cable}
+use Rattle.bench.specs.cable.Cable.{ring_size, node_number}
 use Rattle.agreement.specs.Demand.{next, member_after}
 
 -- The j-th member met from node x onwards, in at most `left` slots, where the node after x is `next n x`; 0 where there is none.

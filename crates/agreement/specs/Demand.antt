@@ -1,13 +1,13 @@
 -- Demand 3 (document 01, "The bench"): over every sequence of calls that keeps the premises the lists agree after each call, and a listed node whose slot was
 -- lost or silent leaves them at its deciding slot. A sequence of calls has THE LATEST FIRST: in c ∷ cs the calls before c are cs.
 use Rattle.std.specs.Prelude.{ℕ, zero, suc, ◌+◌, ◌-◌, ◌≤◌, ◌≡◌, ◌≢◌, Bool, true, false, cond, ◌&&◌, ◌||◌, List, [], ◌∷◌, eqb, leb, length}
-use Rattle.nodeset.specs.Sums.{sum, num}
-use Rattle.nodeset.specs.Sets.{has, size, distance}
-use Rattle.slot_table.specs.Order.{node_at, place}
-use Rattle.cable.specs.declared.Cable.{Cable}
-use Rattle.cable.specs.Cable.{cable_fits}
-use Rattle.ring.specs.Ring.{sender}
-use Rattle.node_record.specs.States.{is_member, is_out}
+use Rattle.bench.specs.nodeset.Sums.{sum, num}
+use Rattle.bench.specs.nodeset.Sets.{has, size, distance}
+use Rattle.bench.specs.slot_table.Order.{node_at, place}
+use Rattle.bench.specs.cable.declared.Cable.{Cable}
+use Rattle.bench.specs.cable.Cable.{cable_fits}
+use Rattle.bench.specs.ring.Ring.{sender}
+use Rattle.bench.specs.node_record.States.{is_member, is_out}
 use Rattle.bench.specs.Table.{Table, record_of, slots_of, speaker}
 use Rattle.bench.specs.Calls.{transmits, set_up_of}
 use Rattle.bench.specs.Runs as runs

@@ -1,7 +1,7 @@
 -- Demand 3 as the bench's call tells it, stated without a ledger (`OnlyRefuses`: with one it is told so, or 13): no distance between two lists (document 01, "The bench program": "the greatest distance between sets of two members").
 use Rattle.std.specs.Prelude.{ℕ, ◌≡◌, Bool, true, List}
-use Rattle.cable.specs.declared.Cable.{Cable}
-use Rattle.node.specs.Calls.{is_done}
+use Rattle.bench.specs.cable.declared.Cable.{Cable}
+use Rattle.bench.specs.node.Calls.{is_done}
 use Rattle.bench.specs.declared.Command.TheVariants as command
 use Rattle.bench.specs.declared.Outcome.{Outcome}
 use Rattle.bench.specs.declared.Outcome.TheVariants as outcome

@@ -1,11 +1,11 @@
 -- Request j: "The agreement is to be shown once for both lags." Of a cable without lag it is the demand of document 01, whose words each definition of it then has that request j changed.
 use Rattle.std.specs.Prelude.{ℕ, ◌+◌, ◌-◌, ◌≤◌, min, ◌≡◌, true, cond, ◌&&◌, List, ◌∷◌, eqb, leb, length}
-use Rattle.nodeset.specs.Sets.{size}
-use Rattle.slot_table.specs.Order.{is_kept}
-use Rattle.cable.specs.declared.Cable.{Cable}
-use Rattle.ring.specs.declared.Found.TheVariants.{Nobody}
-use Rattle.cable.specs.Cable.{ring_size, job_count}
-use Rattle.ring.specs.Ring.{sender, ks, member_before, sponsors, sponsored}
+use Rattle.bench.specs.nodeset.Sets.{size}
+use Rattle.bench.specs.slot_table.Order.{is_kept}
+use Rattle.bench.specs.cable.declared.Cable.{Cable}
+use Rattle.bench.specs.ring.declared.Found.TheVariants.{Nobody}
+use Rattle.bench.specs.cable.Cable.{ring_size, job_count}
+use Rattle.bench.specs.ring.Ring.{sender, ks, member_before, sponsors, sponsored}
 use Rattle.bench.specs.Table.{Table, slots_of, speaker}
 use Rattle.bench.specs.Calls.{set_up_of}
 use Rattle.bench.specs.Runs.{Call, is_slot, list_of, table_after}

@@ -1,14 +1,14 @@
 -- Request f: "On a run from a common start that keeps the premises of the agreement, the k + 1 members included, here also counted between a departure and a joining
 -- in the same slot, nothing differs from before, and that is to be proved." The rule before has one departure step in a slot. A sequence of calls has THE LATEST FIRST.
 use Rattle.std.specs.Prelude.{ℕ, ◌+◌, ◌≤◌, ◌≡◌, Bool, true, cond, ◌&&◌, List, [], ◌∷◌}
-use Rattle.nodeset.specs.Sums.{sum, num}
-use Rattle.nodeset.specs.Sets.{has}
-use Rattle.cable.specs.declared.Cable.{Cable}
-use Rattle.message.specs.declared.Reading.{Reading}
-use Rattle.node_record.specs.declared.Node.{Node}
-use Rattle.node_changes.specs.Changes.{counted}
-use Rattle.node_steps.specs.Steps.{slot_with}
-use Rattle.node_slot.specs.Slot.{slot_by}
+use Rattle.bench.specs.nodeset.Sums.{sum, num}
+use Rattle.bench.specs.nodeset.Sets.{has}
+use Rattle.bench.specs.cable.declared.Cable.{Cable}
+use Rattle.bench.specs.message.declared.Reading.{Reading}
+use Rattle.bench.specs.node_record.declared.Node.{Node}
+use Rattle.bench.specs.node_changes.Changes.{counted}
+use Rattle.bench.specs.node_steps.Steps.{slot_with}
+use Rattle.bench.specs.node_slot.Slot.{slot_by}
 use Rattle.bench.specs.Table.{Table, each, speaker}
 use Rattle.bench.specs.Calls.{heard_by}
 use Rattle.bench.specs.Runs.{Call, slot, off, restart, call_of, is_slot, list_of, table_after}

@@ -5,13 +5,13 @@ use mathlib.Core.Bool.{Bool, true, false, ◌&&◌, true≢false, false≢true}
 use lib.Dec.{eqb, leb, ltb}
 use lib.ListN.{length}
 use borrow.Author.Tests.{eq-eqb}
-use Rattle.nodeset.specs.Sets.{within}
+use Rattle.cable.specs.nodeset.Sets.{within}
 use Rattle.cable.specs.declared.Cable.{Cable}
 use Rattle.cable.specs.Cable.{cable_fits, node_number, fault_of}
 use Rattle.cable.proofs.Ranges.{Fits, fits_by}
 use Rattle.node.specs.Calls.{is_done}
-use Rattle.node_record.specs.States.{is_out}
-use Rattle.node_record.specs.Soundness.{limit}
+use Rattle.node.specs.node_record.States.{is_out}
+use Rattle.node.specs.node_record.Soundness.{limit}
 use Rattle.bench.specs.Table.{Table, record_of, table_sound, node_count, slots_of}
 use Rattle.bench.specs.Calls.{Called, done, if_passed, start_table, set_up_of, table_after_slot, slot_of, table_after_off, off_of, table_after_restart, restart_of}
 use Rattle.bench.specs.Runs.{slot, off, restart, call_of, is_slot}

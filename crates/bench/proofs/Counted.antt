@@ -4,27 +4,27 @@ use mathlib.Core.Path.{◌≡◌, refl, sym, ap, subst, ◌∙◌}
 use mathlib.Core.Bool.{Bool, true, false, cond, not, ◌&&◌}
 use lib.Dec.{eqb, ltb}
 use borrow.Author.Tests.{lt-leb}
-use Rattle.nodeset.specs.Sets.{has, without}
-use Rattle.nodeset.proofs.Tests.{chosen, otherwise}
+use Rattle.cable.specs.nodeset.Sets.{has, without}
+use Rattle.cable.proofs.nodeset.Tests.{chosen, otherwise}
 use Rattle.cable.specs.declared.Cable.{Cable}
-use Rattle.ring.specs.Ring.{member_in, sender}
-use Rattle.message.specs.declared.Reading.{Reading}
-use Rattle.node_record.specs.declared.Node.{Node}
-use Rattle.node_record.specs.declared.Window.{Window}
-use Rattle.node_record.specs.declared.State.{State}
-use Rattle.node_record.specs.declared.State.TheVariants.{Member, Listening, Following, Knocking, Out}
-use Rattle.node_record.specs.declared.Cause.{Cause}
-use Rattle.node_record.specs.declared.Cause.TheVariants.{Unconfirmed, NothingHeard, MissedReturn, SwitchedOff}
-use Rattle.node_record.specs.States.{is_member, is_following, is_knocking, is_out}
-use Rattle.node_record.specs.Soundness.{limit, sound}
-use Rattle.node_record.specs.Sponsoring.{decided_in}
-use Rattle.node_changes.specs.Changes.{listening_after, following_with, with_window, out_for, fresh, leave, counted, with_set, with_returning}
-use Rattle.node_steps.specs.Steps.{is_heard, noted, leaves, too_few, nothing_heard, joins, joined, join, settle}
-use Rattle.node_steps.specs.Inner.{read_return, read_marked, departing, inside_slot, outside_slot, slot_by_cases}
-use Rattle.node_hearing.specs.Hearing.{overheard, clean, window_end, goes_on, listening_by}
-use Rattle.node_slot.specs.Slot.{after_slot}
-use Rattle.node_slot.specs.Inner.{heard_from, read_in}
-use Rattle.node_slot.proofs.Read.{after_read}
+use Rattle.node.specs.ring.Ring.{member_in, sender}
+use Rattle.node.specs.message.declared.Reading.{Reading}
+use Rattle.node.specs.node_record.declared.Node.{Node}
+use Rattle.node.specs.node_record.declared.Window.{Window}
+use Rattle.node.specs.node_record.declared.State.{State}
+use Rattle.node.specs.node_record.declared.State.TheVariants.{Member, Listening, Following, Knocking, Out}
+use Rattle.node.specs.node_record.declared.Cause.{Cause}
+use Rattle.node.specs.node_record.declared.Cause.TheVariants.{Unconfirmed, NothingHeard, MissedReturn, SwitchedOff}
+use Rattle.node.specs.node_record.States.{is_member, is_following, is_knocking, is_out}
+use Rattle.node.specs.node_record.Soundness.{limit, sound}
+use Rattle.node.specs.node_record.Sponsoring.{decided_in}
+use Rattle.node.specs.node_changes.Changes.{listening_after, following_with, with_window, out_for, fresh, leave, counted, with_set, with_returning}
+use Rattle.node.specs.node_steps.Steps.{is_heard, noted, leaves, too_few, nothing_heard, joins, joined, join, settle}
+use Rattle.node.specs.node_steps.Inner.{read_return, read_marked, departing, inside_slot, outside_slot, slot_by_cases}
+use Rattle.node.specs.node_hearing.Hearing.{overheard, clean, window_end, goes_on, listening_by}
+use Rattle.node.specs.node_slot.Slot.{after_slot}
+use Rattle.node.specs.node_slot.Inner.{heard_from, read_in}
+use Rattle.node.proofs.node_slot.Read.{after_read}
 use Rattle.node.specs.Calls.{Stepped, done, refused, step_of, off_of, restart_of}
 use Rattle.bench.proofs.Choices.{choose}
 

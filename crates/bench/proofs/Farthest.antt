@@ -6,11 +6,11 @@ use mathlib.Core.List.{[], ◌∷◌}
 use native.Mathlib.Omega.{arith}
 use native.Mathlib.Decide.{dec_lt}
 use lib.ListN.{length, get_or}
-use Rattle.nodeset.specs.Sums.{num}
-use Rattle.nodeset.specs.Sets.{has, distance}
-use Rattle.nodeset.proofs.Sums.{sum_same}
-use Rattle.nodeset.proofs.Counts.{distance-same}
-use Rattle.node_record.specs.States.{is_member}
+use Rattle.cable.specs.nodeset.Sums.{num}
+use Rattle.cable.specs.nodeset.Sets.{has, distance}
+use Rattle.cable.proofs.nodeset.Sums.{sum_same}
+use Rattle.cable.proofs.nodeset.Counts.{distance-same}
+use Rattle.node.specs.node_record.States.{is_member}
 use Rattle.node.specs.Calls.{no_node}
 use Rattle.bench.specs.Table.{Table, record_of}
 use Rattle.bench.specs.Calls.{farthest, greatest}

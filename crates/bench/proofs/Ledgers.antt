@@ -7,11 +7,11 @@ use lib.Dec.{eqb, ltb}
 use lib.ListN.{length}
 use lib.Pow.{pow_pos}
 use borrow.Author.Tests.{lt-ltb}
-use Rattle.nodeset.specs.Sets.{within}
-use Rattle.nodeset.proofs.Tests.{by_cases}
+use Rattle.cable.specs.nodeset.Sets.{within}
+use Rattle.cable.proofs.nodeset.Tests.{by_cases}
 use Rattle.cable.specs.Cable.{cable_with, may_set_up, node_number}
-use Rattle.message.specs.Message.{jobs_within}
-use Rattle.node_record.specs.Soundness.{limit}
+use Rattle.node.specs.message.Message.{jobs_within}
+use Rattle.node.specs.node_record.Soundness.{limit}
 use Rattle.node.specs.Calls.{is_done}
 use Rattle.bench.specs.declared.Command.TheVariants as command
 use Rattle.bench.specs.Table.{Table, table_sound, node_count, slots_of}

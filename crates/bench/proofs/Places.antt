@@ -8,14 +8,14 @@ use native.Mathlib.Nat.{add-zero}
 use lib.Dec.{eqb}
 use lib.ListN.{length, get_or}
 use borrow.Author.Tests.{eqb-true, eq-eqb}
-use Rattle.nodeset.proofs.Tests.{both, all}
+use Rattle.cable.proofs.nodeset.Tests.{both, all}
 use Rattle.cable.specs.declared.Cable.{Cable}
 use Rattle.cable.specs.Cable.{same_cable}
-use Rattle.slot_table.proofs.Places.{kept-length}
+use Rattle.cable.proofs.slot_table.Places.{kept-length}
 use Rattle.cable.proofs.Cables.{same-is, is_same}
-use Rattle.node_record.proofs.Facts.{clauses}
-use Rattle.node_record.specs.declared.Node.{Node}
-use Rattle.node_record.specs.Soundness.{sound}
+use Rattle.node.proofs.node_record.Facts.{clauses}
+use Rattle.node.specs.node_record.declared.Node.{Node}
+use Rattle.node.specs.node_record.Soundness.{sound}
 use Rattle.node.specs.Calls.{no_node}
 use Rattle.bench.specs.Table.{Table, record_of, each_from, each, in_place, placed_from, table_sound, slots_of}
 

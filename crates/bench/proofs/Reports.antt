@@ -7,8 +7,8 @@ use native.Mathlib.Omega.{arith}
 use native.Mathlib.Nat.{add-zero}
 use lib.ListN.{length, get_or}
 use Rattle.cable.specs.declared.Cable.{Cable}
-use Rattle.ring.specs.Ring.{sender}
-use Rattle.node_reports.specs.Reports.{Counts}
+use Rattle.node.specs.ring.Ring.{sender}
+use Rattle.node.specs.node_reports.Reports.{Counts}
 use Rattle.node.specs.Calls.{counts_after}
 use Rattle.bench.specs.Table.{Table, record_of, table_sound, speaker}
 use Rattle.bench.specs.Reports.{received_by, each_counts_from, reports_after_slot}

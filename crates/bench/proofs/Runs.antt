@@ -9,17 +9,17 @@ use native.Mathlib.Nat.{add-zero}
 use lib.Dec.{eqb, leb, ltb}
 use lib.ListN.{length}
 use borrow.Author.Tests.{le-leb, ltb-true}
-use Rattle.nodeset.specs.Sums.{num}
-use Rattle.nodeset.specs.Sets.{has, within}
-use Rattle.nodeset.proofs.Tests.{by_cases, both, all}
+use Rattle.cable.specs.nodeset.Sums.{num}
+use Rattle.cable.specs.nodeset.Sets.{has, within}
+use Rattle.cable.proofs.nodeset.Tests.{by_cases, both, all}
 use Rattle.cable.specs.declared.Cable.{Cable}
 use Rattle.cable.specs.Cable.{node_number, cable_fits}
 use Rattle.cable.proofs.Ranges.{fitting}
-use Rattle.message.specs.declared.Reading.{Reading}
-use Rattle.node_record.specs.declared.Node.{Node}
-use Rattle.node_record.specs.Soundness.{limit, sound}
-use Rattle.node_changes.specs.Changes.{starting}
-use Rattle.node_changes.proofs.Sound.{starting-sound}
+use Rattle.node.specs.message.declared.Reading.{Reading}
+use Rattle.node.specs.node_record.declared.Node.{Node}
+use Rattle.node.specs.node_record.Soundness.{limit, sound}
+use Rattle.node.specs.node_changes.Changes.{starting}
+use Rattle.node.proofs.node_changes.Sound.{starting-sound}
 use Rattle.node.specs.Calls as node
 use Rattle.node.proofs.Sound.{step-sound, off-sound, restart-sound}
 use Rattle.bench.specs.Table.{Table, record_of, each, table_sound, node_count, slots_of}

@@ -6,25 +6,25 @@ use mathlib.Core.Bool.{Bool, true, false, cond, not, ◌&&◌, ◌||◌, true≢
 use mathlib.Core.Logic.{◌⊎◌, inl, inr}
 use native.Mathlib.Omega.{arith}
 use lib.Dec.{eqb, leb, ltb}
-use Rattle.nodeset.specs.Sets.{has, without, size}
-use Rattle.nodeset.proofs.Tests.{both}
-use Rattle.ring.specs.Ring.{sender, member_in}
-use Rattle.message.specs.declared.Reading.{Reading}
-use Rattle.node_record.specs.declared.Node.{Node}
-use Rattle.node_record.specs.declared.Cause.{Cause}
-use Rattle.node_record.specs.declared.Cause.TheVariants.{Unconfirmed, NothingHeard, MissedReturn}
-use Rattle.node_record.specs.declared.State.{State}
-use Rattle.node_record.specs.declared.State.TheVariants.{Member, Listening, Following, Knocking, Out}
-use Rattle.node_record.specs.States.{is_member, is_listening, is_following, is_knocking, is_out}
-use Rattle.node_record.specs.Soundness.{sound, limit}
-use Rattle.node_record.specs.Sponsoring.{decided_in}
-use Rattle.node_changes.specs.Changes.{out_for, fresh, leave, counted, with_set, with_returning}
-use Rattle.node_steps.specs.Steps.{is_heard, nothing_heard, joins, state_on_list, noted, leaves, join, settle}
-use Rattle.node_steps.specs.Inner.{read_return, read_marked, departing, inside_slot, outside_slot, slot_by_cases}
-use Rattle.node_hearing.specs.Hearing.{clean, window_end, overheard, goes_on, listening_by}
-use Rattle.node_slot.specs.Slot.{after_slot}
-use Rattle.node_slot.specs.Inner.{heard_from, read_in}
-use Rattle.node_slot.proofs.Read.{after_read}
+use Rattle.cable.specs.nodeset.Sets.{has, without, size}
+use Rattle.cable.proofs.nodeset.Tests.{both}
+use Rattle.node.specs.ring.Ring.{sender, member_in}
+use Rattle.node.specs.message.declared.Reading.{Reading}
+use Rattle.node.specs.node_record.declared.Node.{Node}
+use Rattle.node.specs.node_record.declared.Cause.{Cause}
+use Rattle.node.specs.node_record.declared.Cause.TheVariants.{Unconfirmed, NothingHeard, MissedReturn}
+use Rattle.node.specs.node_record.declared.State.{State}
+use Rattle.node.specs.node_record.declared.State.TheVariants.{Member, Listening, Following, Knocking, Out}
+use Rattle.node.specs.node_record.States.{is_member, is_listening, is_following, is_knocking, is_out}
+use Rattle.node.specs.node_record.Soundness.{sound, limit}
+use Rattle.node.specs.node_record.Sponsoring.{decided_in}
+use Rattle.node.specs.node_changes.Changes.{out_for, fresh, leave, counted, with_set, with_returning}
+use Rattle.node.specs.node_steps.Steps.{is_heard, nothing_heard, joins, state_on_list, noted, leaves, join, settle}
+use Rattle.node.specs.node_steps.Inner.{read_return, read_marked, departing, inside_slot, outside_slot, slot_by_cases}
+use Rattle.node.specs.node_hearing.Hearing.{clean, window_end, overheard, goes_on, listening_by}
+use Rattle.node.specs.node_slot.Slot.{after_slot}
+use Rattle.node.specs.node_slot.Inner.{heard_from, read_in}
+use Rattle.node.proofs.node_slot.Read.{after_read}
 use Rattle.node.specs.Calls.{Stepped, step_of}
 use Rattle.bench.specs.Pairs.{same_state, kind_from}
 

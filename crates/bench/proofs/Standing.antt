@@ -7,18 +7,18 @@ use native.Mathlib.Omega.{arith}
 use lib.Dec.{eqb, leb, ltb}
 use lib.ListN.{length, length-map}
 use borrow.Author.Tests.{eqb-true}
-use Rattle.nodeset.specs.Sets.{within}
-use Rattle.nodeset.proofs.Tests.{both}
+use Rattle.cable.specs.nodeset.Sets.{within}
+use Rattle.cable.proofs.nodeset.Tests.{both}
 use Rattle.cable.specs.declared.Cable.{Cable}
 use Rattle.cable.specs.Cable.{cable_with, cable_fits, may_set_up, node_number}
 use Rattle.cable.proofs.Ranges.{fitting, ring-size}
-use Rattle.message.specs.Message.{jobs_within}
-use Rattle.node_reports.specs.Reports.{Counts}
-use Rattle.node_record.specs.declared.Node.{Node}
-use Rattle.node_record.specs.States.{is_out}
-use Rattle.node_record.specs.Soundness.{limit, sound}
-use Rattle.node_record.specs.Held.{setted}
-use Rattle.node_record.proofs.Holding.{node-back, held_back}
+use Rattle.node.specs.message.Message.{jobs_within}
+use Rattle.node.specs.node_reports.Reports.{Counts}
+use Rattle.node.specs.node_record.declared.Node.{Node}
+use Rattle.node.specs.node_record.States.{is_out}
+use Rattle.node.specs.node_record.Soundness.{limit, sound}
+use Rattle.node.specs.node_record.Held.{setted}
+use Rattle.node.proofs.node_record.Holding.{node-back, held_back}
 use Rattle.node.specs.declared.Answer.{Answer}
 use Rattle.node.specs.declared.Answer.TheVariants as answer
 use Rattle.node.specs.Calls.{is_done}

@@ -3,16 +3,16 @@
 -- leaves the table as it was.
 use Rattle.std.specs.Prelude.{ℕ, max, Bool, true, false, cond, ◌||◌, List, [], ◌∷◌, eqb, leb, ltb, length}
 use Rattle.refusal.specs.Causes.{cause}
-use Rattle.nodeset.specs.Sets.{has, within, distance}
+use Rattle.cable.specs.nodeset.Sets.{has, within, distance}
 use Rattle.cable.specs.declared.Choices.{Choices}
 use Rattle.cable.specs.declared.Cable.{Cable}
 use Rattle.cable.specs.Cable.{cable_with, cable_fits, may_set_up, node_number, fault_of}
-use Rattle.message.specs.declared.Reading.{Reading}
-use Rattle.message.specs.declared.Reading.TheVariants as reading
-use Rattle.node_record.specs.States.{is_member, is_out}
-use Rattle.node_record.specs.Soundness.{limit}
-use Rattle.node_changes.specs.Changes.{starting}
-use Rattle.node_sending.specs.Sending.{sends, bits_sent, return_sent}
+use Rattle.node.specs.message.declared.Reading.{Reading}
+use Rattle.node.specs.message.declared.Reading.TheVariants as reading
+use Rattle.node.specs.node_record.States.{is_member, is_out}
+use Rattle.node.specs.node_record.Soundness.{limit}
+use Rattle.node.specs.node_changes.Changes.{starting}
+use Rattle.node.specs.node_sending.Sending.{sends, bits_sent, return_sent}
 use Rattle.node.specs.declared.Answer.{Answer}
 use Rattle.node.specs.declared.Answer.TheVariants.{Done, Refused}
 use Rattle.node.specs.Calls as node

@@ -1,9 +1,9 @@
 -- Document 02, request l: "The bench must show the same digits and the same bytes as the old layout did." Each call on a table as it is held is, through the conversion, the call of specs/Kept on the table that
 -- it stands for: one that is made leaves what holds the table of the rules, a refused one the table that came. Ledger, counts, answer and lent bytes are those of the rules.
 use Rattle.std.specs.Prelude.{ℕ, ◌≡◌, List, map}
-use Rattle.node_reports.specs.Reports.{Counts}
-use Rattle.node_record.specs.declared.Held.{Held}
-use Rattle.node_record.specs.Held.{rowed, setted}
+use Rattle.node.specs.node_reports.Reports.{Counts}
+use Rattle.node.specs.node_record.declared.Held.{Held}
+use Rattle.node.specs.node_record.Held.{rowed, setted}
 use Rattle.bench.specs.declared.Command.{Command}
 use Rattle.bench.specs.declared.Reply.{Reply}
 use Rattle.bench.specs.Table.{Table}

@@ -2,10 +2,10 @@
 -- above the slot count plus one: 13, just before 5." "A report count above the slot count, or not one array of counts per node in set-up or bench slot, gives 4". The other calls neither test nor change them.
 use Rattle.std.specs.Prelude.{ℕ, ◌+◌, ◌≡◌, ◌⊎◌, Bool, List, eqb, length}
 use Rattle.refusal.specs.Causes.{cause}
-use Rattle.nodeset.specs.Sets.{within}
+use Rattle.cable.specs.nodeset.Sets.{within}
 use Rattle.cable.specs.declared.Choices.{Choices}
 use Rattle.cable.specs.Cable.{cable_with, may_set_up, node_number, fault_of}
-use Rattle.node_reports.specs.Reports.{Counts, no_reports_at}
+use Rattle.node.specs.node_reports.Reports.{Counts, no_reports_at}
 use Rattle.node.specs.declared.Answer.{Answer}
 use Rattle.node.specs.declared.Answer.TheVariants as answer
 use Rattle.bench.specs.declared.Command.{Command}

@@ -1,8 +1,8 @@
 -- The ledger of leavings (document 02, request a): "for each node how often it left, how often it joined, and the slot of its last leaving (0 if never)". It is lent beside
 -- the table, an entry of three numbers per node.
 use Rattle.std.specs.Prelude.{ℕ, suc, ◌+◌, Bool, true, cond, not, ◌&&◌, List, [], ◌∷◌, eqb, leb, length, get_or}
-use Rattle.node_record.specs.declared.State.{State}
-use Rattle.node_record.specs.States.{is_member}
+use Rattle.node.specs.node_record.declared.State.{State}
+use Rattle.node.specs.node_record.States.{is_member}
 use Rattle.bench.specs.Table.{Table, record_of}
 
 -- ---- entries

@@ -1,8 +1,8 @@
 -- What each call leaves and answers (document 01, "The bench" and "The bench program"; the ledger and the counts of document 02 are added in specs/Kept).
 use Rattle.std.specs.Prelude.{ℕ, Bool, List, ltb}
-use Rattle.nodeset.specs.Sets.{within}
-use Rattle.message.specs.Message.{jobs_within}
-use Rattle.node_record.specs.Soundness.{limit}
+use Rattle.cable.specs.nodeset.Sets.{within}
+use Rattle.node.specs.message.Message.{jobs_within}
+use Rattle.node.specs.node_record.Soundness.{limit}
 use Rattle.node.specs.declared.Answer.{Answer}
 use Rattle.node.specs.declared.Answer.TheVariants as answer
 use Rattle.bench.specs.declared.Command.{Command}

@@ -1,8 +1,8 @@
 -- The pairs of a slot (document 01, "The bench"): "two bytes per node whose state changed: node, then kind .. the bytes after them are untouched, and the
 -- number of pairs is returned." Their order is that of document 02, request c.
 use Rattle.std.specs.Prelude.{ℕ, suc, Bool, cond, not, ◌&&◌, ◌||◌, List, [], ◌∷◌, ◌++◌, eqb, length, drop}
-use Rattle.node_record.specs.declared.State.{State}
-use Rattle.node_record.specs.States.{is_member, is_listening, is_following, is_knocking, is_out}
+use Rattle.node.specs.node_record.declared.State.{State}
+use Rattle.node.specs.node_record.States.{is_member, is_listening, is_following, is_knocking, is_out}
 use Rattle.node.specs.declared.Answer.{Answer}
 use Rattle.node.specs.declared.Answer.TheVariants as answer
 use Rattle.bench.specs.Table.{Table}

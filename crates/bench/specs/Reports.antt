@@ -1,8 +1,8 @@
 -- The counts of failure reports that are lent beside the table, one array for each node (document 02, h).
 use Rattle.std.specs.Prelude.{ℕ, suc, Bool, ◌&&◌, List, [], ◌∷◌, eqb, length}
-use Rattle.node_reports.specs.Reports.{Counts, all_within}
-use Rattle.message.specs.declared.Received.{Received}
-use Rattle.node_sending.specs.Sending.{jobs_sent}
+use Rattle.node.specs.node_reports.Reports.{Counts, all_within}
+use Rattle.node.specs.message.declared.Received.{Received}
+use Rattle.node.specs.node_sending.Sending.{jobs_sent}
 use Rattle.node.specs.Calls as node
 use Rattle.bench.specs.Table.{Table, record_of, node_count, slots_of, speaker}
 use Rattle.bench.specs.Calls.{heard_by}

@@ -2,9 +2,9 @@
 use Rattle.std.specs.Prelude.{ℕ, suc, ◌+◌, ◌-◌, Bool, true, false, ◌&&◌, List, [], ◌∷◌, eqb, length, get_or}
 use Rattle.cable.specs.declared.Cable.{Cable}
 use Rattle.cable.specs.Cable.{same_cable}
-use Rattle.ring.specs.Ring.{sender}
-use Rattle.node_record.specs.declared.Node.{Node}
-use Rattle.node_record.specs.Soundness.{sound}
+use Rattle.node.specs.ring.Ring.{sender}
+use Rattle.node.specs.node_record.declared.Node.{Node}
+use Rattle.node.specs.node_record.Soundness.{sound}
 use Rattle.node.specs.Calls.{no_node}
 
 abbrev pub Table : Type 0

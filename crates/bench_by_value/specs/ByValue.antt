@@ -1,7 +1,7 @@
 -- The bench's calls on 32 rows, the first n of which hold its table.
 use Rattle.std.specs.Prelude.{ℕ, List, ◌++◌, take, drop}
 use Rattle.node_record.specs.declared.Held.{Held}
-use Rattle.node_reports.specs.Reports.{Counts}
+use Rattle.bench.specs.node_reports.Reports.{Counts}
 use Rattle.bench.specs.declared.Command.{Command}
 use Rattle.bench.specs.declared.Reply.{Reply}
 use Rattle.bench.specs.Table.{Table}

@@ -1,1 +1,2 @@
 pub mod ByValue
+pub use Rattle.bench_calls.specs.ledger as ledger

@@ -11,28 +11,28 @@ use lib.Dec.{eqb, leb, ltb}
 use lib.ListN.{length}
 use lib.Pow.{pow_mono}
 use borrow.Author.Tests.{eqb-true, ltb-true, le-leb, eq-eqb, ne_eqb}
-use Rattle.refusal.specs.declared.Refusal.{Refusal}
-use Rattle.refusal.specs.declared.Refusal.TheVariants.{NodeNumber, Unsound, SlotLimit, SpareBit, OutputShort, NotOut, LedgerUnfit}
-use Rattle.refusal.specs.Causes.{cause}
-use Rattle.nodeset.specs.Sets.{has, without, minus, within}
-use Rattle.nodeset.proofs.Tests.{both, all}
-use Rattle.nodeset.proofs.Bits.{has-none}
-use Rattle.nodeset.proofs.Laws.{has-without, has-without-other}
-use Rattle.nodeset.proofs.Subsets.{has-minus}
-use Rattle.cable.specs.declared.Choices.{Choices}
-use Rattle.cable.specs.Cable.{cable_with, may_set_up, node_number, fault_of}
-use Rattle.cable.proofs.Ranges.{ring-size}
+use Rattle.bench.specs.refusal.declared.Refusal.{Refusal}
+use Rattle.bench.specs.refusal.declared.Refusal.TheVariants.{NodeNumber, Unsound, SlotLimit, SpareBit, OutputShort, NotOut, LedgerUnfit}
+use Rattle.bench.specs.refusal.Causes.{cause}
+use Rattle.node_record.specs.nodeset.Sets.{has, without, minus, within}
+use Rattle.node_record.proofs.nodeset.Tests.{both, all}
+use Rattle.node_record.proofs.nodeset.Bits.{has-none}
+use Rattle.node_record.proofs.nodeset.Laws.{has-without, has-without-other}
+use Rattle.node_record.proofs.nodeset.Subsets.{has-minus}
+use Rattle.node_record.specs.cable.declared.Choices.{Choices}
+use Rattle.node_record.specs.cable.Cable.{cable_with, may_set_up, node_number, fault_of}
+use Rattle.node_record.proofs.cable.Ranges.{ring-size}
 use Rattle.bench.proofs.Reports.{next-sender}
-use Rattle.node_reports.specs.Reports.{Counts, no_reports_at, counts_with, heard_from, heard_by}
-use Rattle.node_reports.specs.Inner.{greatest_of}
-use Rattle.node_reports.proofs.Laws.{nobody-hears}
-use Rattle.message.specs.declared.Reading.{Reading}
-use Rattle.message.specs.Message.{jobs_within}
+use Rattle.bench_work.specs.node_reports.Reports.{Counts, no_reports_at, counts_with, heard_from, heard_by}
+use Rattle.bench_work.specs.node_reports.Inner.{greatest_of}
+use Rattle.bench_work.proofs.node_reports.Laws.{nobody-hears}
+use Rattle.bench_orders.specs.message.declared.Reading.{Reading}
+use Rattle.bench_orders.specs.message.Message.{jobs_within}
 use Rattle.node_record.specs.declared.Node.{Node}
 use Rattle.node_record.specs.Soundness.{limit}
-use Rattle.node_steps.specs.Steps.{is_heard}
-use Rattle.node_sending.specs.Sending.{jobs_sent}
-use Rattle.node.specs.Calls.{hears_report, counts_after}
+use Rattle.bench_orders.specs.node_steps.Steps.{is_heard}
+use Rattle.bench_orders.specs.node_sending.Sending.{jobs_sent}
+use Rattle.bench.specs.node.Calls.{hears_report, counts_after}
 use Rattle.bench.specs.declared.Command.{Command}
 use Rattle.bench.specs.declared.Command.TheVariants as command
 use Rattle.bench.specs.Table.{Table, record_of, table_sound, speaker}

@@ -7,21 +7,21 @@ use native.Mathlib.Omega.{arith}
 use lib.Dec.{eqb, leb, ltb}
 use lib.ListN.{length, take}
 use lib.Seq.{take-length}
-use Rattle.refusal.specs.declared.Refusal.{Refusal}
-use Rattle.refusal.specs.declared.Refusal.TheVariants.{NodeNumber, Unsound, SlotLimit, OutputShort, NotOut, LedgerUnfit, SpareBit}
-use Rattle.refusal.specs.Causes.{cause}
-use Rattle.nodeset.specs.Sets.{has, within}
-use Rattle.nodeset.proofs.Tests.{by_cases}
-use Rattle.cable.specs.Cable.{cable_with, may_set_up, node_number, fault_of}
-use Rattle.cable.proofs.Ranges.{ring-size}
-use Rattle.cable.specs.declared.Cable.{Cable}
-use Rattle.cable.specs.declared.Choices.{Choices}
+use Rattle.bench.specs.refusal.declared.Refusal.{Refusal}
+use Rattle.bench.specs.refusal.declared.Refusal.TheVariants.{NodeNumber, Unsound, SlotLimit, OutputShort, NotOut, LedgerUnfit, SpareBit}
+use Rattle.bench.specs.refusal.Causes.{cause}
+use Rattle.node_record.specs.nodeset.Sets.{has, within}
+use Rattle.node_record.proofs.nodeset.Tests.{by_cases}
+use Rattle.node_record.specs.cable.Cable.{cable_with, may_set_up, node_number, fault_of}
+use Rattle.node_record.proofs.cable.Ranges.{ring-size}
+use Rattle.node_record.specs.cable.declared.Cable.{Cable}
+use Rattle.node_record.specs.cable.declared.Choices.{Choices}
 use Rattle.bench_calls.proofs.Counted.{reported-told}
-use Rattle.message.specs.Message.{jobs_within}
+use Rattle.bench_orders.specs.message.Message.{jobs_within}
 use Rattle.bench_orders.specs.declared.Beside.{Beside}
-use Rattle.node_reports.proofs.Laws.{greatest-within}
-use Rattle.node_reports.specs.Inner.{greatest_of}
-use Rattle.node_reports.specs.Reports.{Counts}
+use Rattle.bench_work.proofs.node_reports.Laws.{greatest-within}
+use Rattle.bench_work.specs.node_reports.Inner.{greatest_of}
+use Rattle.bench_work.specs.node_reports.Reports.{Counts}
 use Rattle.bench.specs.Reports.{reports_fit}
 use Rattle.node_record.specs.Soundness.{limit}
 use Rattle.bench.specs.declared.Command.{Command}
@@ -33,12 +33,12 @@ use Rattle.bench.specs.Outcomes.{ended_by, bytes_by}
 use Rattle.bench.specs.Ledger.{Ledger, ledger_fits, ledger_after}
 use Rattle.bench.specs.Kept.{slot_with, off_with, called_with, ledger_with, kept_of, bytes_with, set_up_with, reports_with}
 use Rattle.bench.specs.Held.{HeldTable, setted_all, held_by, KeptHeld, kept_held}
-use Rattle.ledger.specs.Entered.{entered, one_more}
-use Rattle.ledger.proofs.Entered.{one-more-is, entered-is}
+use Rattle.bench_work.specs.ledger.Entered.{entered, one_more}
+use Rattle.bench_work.proofs.ledger.Entered.{one-more-is, entered-is}
 use Rattle.bench_orders.specs.declared.Order.{Order}
 use Rattle.bench_orders.specs.declared.Order.TheVariants as order
 use Rattle.bench_orders.specs.declared.Errand.{Errand}
-use Rattle.bench_notes.specs.declared.Moves.{Moves}
+use Rattle.bench_orders.specs.bench_notes.declared.Moves.{Moves}
 use Rattle.bench_orders.specs.declared.Survey.{Survey}
 use Rattle.bench_orders.specs.Survey.{survey_of, fine_table}
 use Rattle.bench_orders.specs.Orders.{if_good, turn_of, order_of, order_for, errand_of, carried_from, fate_by, notes_of, reply_by, written_by}

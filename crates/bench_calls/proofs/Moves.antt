@@ -5,27 +5,27 @@ use mathlib.Core.Bool.{Bool, true, false, cond, false≢true, true≢false}
 use mathlib.Core.List.{[], ◌∷◌}
 use native.Mathlib.Omega.{arith}
 use lib.ListN.{length, get_or}
-use Rattle.nodeset.specs.Sets.{with_if}
-use Rattle.nodeset.proofs.Tests.{by_cases}
-use Rattle.cable.specs.declared.Cable.{Cable}
+use Rattle.node_record.specs.nodeset.Sets.{with_if}
+use Rattle.node_record.proofs.nodeset.Tests.{by_cases}
+use Rattle.node_record.specs.cable.declared.Cable.{Cable}
 use Rattle.node_record.specs.declared.Node.{Node}
 use Rattle.node_record.specs.declared.Held.{Held}
 use Rattle.node_record.specs.Held.{setted}
 use Rattle.node_record.specs.declared.State.{State}
 use Rattle.node_record.specs.declared.State.TheVariants.{Member, Listening, Following, Knocking, Out}
 use Rattle.node_record.specs.States.{is_member}
-use Rattle.node.specs.Calls.{no_node}
+use Rattle.bench.specs.node.Calls.{no_node}
 use Rattle.bench.specs.Table.{Table, record_of, placed_from, slots_of, table_sound}
 use Rattle.bench.specs.Pairs.{same_state}
 use Rattle.bench.specs.Ledger.{is_leaving, is_joining}
-use Rattle.ledger.specs.Entered.{nodes_where, leavers, joiners}
+use Rattle.bench_work.specs.ledger.Entered.{nodes_where, leavers, joiners}
 use Rattle.bench_orders.specs.declared.Errand.{Errand}
-use Rattle.bench_notes.specs.declared.Moves.{Moves}
-use Rattle.bench_notes.specs.declared.Notes.{Notes}
+use Rattle.bench_orders.specs.bench_notes.declared.Moves.{Moves}
+use Rattle.bench_orders.specs.bench_notes.declared.Notes.{Notes}
 use Rattle.bench.specs.Held.{HeldTable, setted_all}
 use Rattle.bench.proofs.Standing.{length-setted}
 use Rattle.bench_orders.specs.Survey.{fold_from, map_from}
-use Rattle.bench_notes.specs.Notes.{moves_with, noticed, no_notes}
+use Rattle.bench_orders.specs.bench_notes.Notes.{moves_with, noticed, no_notes}
 use Rattle.bench_orders.specs.Orders.{carried, carried_from, noticed_from, notes_of}
 use Rattle.bench_calls.proofs.Surveys.{placed, said}
 

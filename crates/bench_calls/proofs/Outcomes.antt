@@ -9,26 +9,26 @@ use lib.Dec.{eqb, leb, ltb}
 use lib.ListN.{length, take}
 use lib.Seq.{take-length}
 use borrow.Author.Tests.{eqb-true, ltb-true}
-use Rattle.refusal.specs.declared.Refusal.{Refusal}
-use Rattle.refusal.specs.declared.Refusal.TheVariants.{NodeNumber, Unsound, SlotLimit, OutputShort, NotOut, LedgerUnfit, SpareBit}
-use Rattle.refusal.specs.Causes.{cause}
-use Rattle.nodeset.specs.Sets.{has, within, distance}
-use Rattle.nodeset.specs.Sums.{num}
-use Rattle.nodeset.proofs.Tests.{by_cases, both, all, chosen, otherwise}
-use Rattle.nodeset.proofs.Counts.{distance-same}
-use Rattle.cable.specs.Cable.{may_set_up, node_number, fault_of}
-use Rattle.cable.proofs.Ranges.{ring-size}
-use Rattle.cable.specs.declared.Choices.{Choices}
-use Rattle.message.specs.Message.{jobs_within}
+use Rattle.bench.specs.refusal.declared.Refusal.{Refusal}
+use Rattle.bench.specs.refusal.declared.Refusal.TheVariants.{NodeNumber, Unsound, SlotLimit, OutputShort, NotOut, LedgerUnfit, SpareBit}
+use Rattle.bench.specs.refusal.Causes.{cause}
+use Rattle.node_record.specs.nodeset.Sets.{has, within, distance}
+use Rattle.node_record.specs.nodeset.Sums.{num}
+use Rattle.node_record.proofs.nodeset.Tests.{by_cases, both, all, chosen, otherwise}
+use Rattle.node_record.proofs.nodeset.Counts.{distance-same}
+use Rattle.node_record.specs.cable.Cable.{may_set_up, node_number, fault_of}
+use Rattle.node_record.proofs.cable.Ranges.{ring-size}
+use Rattle.node_record.specs.cable.declared.Choices.{Choices}
+use Rattle.bench_orders.specs.message.Message.{jobs_within}
 use Rattle.bench_orders.specs.declared.Beside.{Beside}
-use Rattle.row.specs.declared.Row.{Row}
-use Rattle.row.specs.Rows.{row_for, nodes_in}
-use Rattle.row.specs.Inner.{same_row}
+use Rattle.node_record.specs.row.declared.Row.{Row}
+use Rattle.node_record.specs.row.Rows.{row_for, nodes_in}
+use Rattle.node_record.specs.row.Inner.{same_row}
 use Rattle.node_record.specs.declared.Held.{Held}
 use Rattle.node_record.specs.Held.{rowed, setted}
 use Rattle.node_record.specs.Soundness.{sound}
 use Rattle.node_record.proofs.Holding.{held_back, rows_same}
-use Rattle.node.proofs.Holding.{set-held}
+use Rattle.bench.proofs.node.Holding.{set-held}
 use Rattle.node_record.specs.States.{is_member}
 use Rattle.node_record.specs.Soundness.{limit}
 use Rattle.bench.specs.declared.Command.{Command}
@@ -41,9 +41,9 @@ use Rattle.bench.specs.declared.Outcome.TheVariants as outcome
 use Rattle.bench_orders.specs.declared.Order.{Order}
 use Rattle.bench_orders.specs.declared.Order.TheVariants as order
 use Rattle.bench_orders.specs.declared.Errand.{Errand}
-use Rattle.bench_notes.specs.declared.Lists.{Lists}
-use Rattle.bench_notes.specs.declared.Notes.{Notes}
-use Rattle.cable.specs.declared.Cable.{Cable}
+use Rattle.bench_orders.specs.bench_notes.declared.Lists.{Lists}
+use Rattle.bench_orders.specs.bench_notes.declared.Notes.{Notes}
+use Rattle.node_record.specs.cable.declared.Cable.{Cable}
 use Rattle.bench.specs.declared.Reply.{Reply}
 use Rattle.bench.specs.Table.{Table, record_of, placed_from, table_sound, slots_of, speaker}
 use Rattle.bench.specs.Held.{HeldTable, setted_all, held_by}
@@ -56,7 +56,7 @@ use Rattle.bench.proofs.Accepted.{is-slot, slot-done}
 use Rattle.bench.proofs.Runs.{placed-call}
 use Rattle.bench.proofs.Standing.{length-setted, table_kept, call-sound}
 use Rattle.bench_orders.specs.Survey.{fold_from, map_from, survey_of, fine_table, no_members, members_of}
-use Rattle.bench_notes.specs.Notes.{list_with, lists_with, no_lists, noticed, no_notes}
+use Rattle.bench_orders.specs.bench_notes.Notes.{list_with, lists_with, no_lists, noticed, no_notes}
 use Rattle.bench_orders.specs.Orders.{if_good, fate_by, turn_of, order_for, carried, carried_from, noticed_from, notes_of, answer_to, reach_of, outcome_by, reply_by}
 use Rattle.bench_walks.proofs.Partly.{take-least}
 use Rattle.bench_calls.proofs.Surveys.{Placed as At, placed, fine-table, said}

@@ -9,11 +9,11 @@ use native.Mathlib.Numerals.{add-one}
 use lib.Dec.{ltb}
 use lib.ListN.{length, get_or, set, replicate, length-set, length-replicate}
 use borrow.Author.Tests.{lt-ltb}
-use Rattle.nodeset.specs.Sets.{distance}
-use Rattle.nodeset.proofs.Tests.{by_cases}
-use Rattle.cable.specs.declared.Cable.{Cable}
-use Rattle.cable.proofs.Ranges.{ring-size}
-use Rattle.row.specs.Rows.{nodes_in}
+use Rattle.node_record.specs.nodeset.Sets.{distance}
+use Rattle.node_record.proofs.nodeset.Tests.{by_cases}
+use Rattle.node_record.specs.cable.declared.Cable.{Cable}
+use Rattle.node_record.proofs.cable.Ranges.{ring-size}
+use Rattle.node_record.specs.row.Rows.{nodes_in}
 use Rattle.node_record.specs.declared.Held.{Held}
 use Rattle.node_record.specs.Soundness.{sound}
 use Rattle.node_record.specs.Held.{setted}
@@ -23,7 +23,7 @@ use Rattle.bench.specs.Table.{Table, record_of, placed_from, table_sound, slots_
 use Rattle.bench.specs.Calls.{farthest, greatest}
 use Rattle.bench.specs.Held.{HeldTable, setted_all}
 use Rattle.bench.proofs.Standing.{length-setted}
-use Rattle.node.proofs.Holding.{set-held}
+use Rattle.bench.proofs.node.Holding.{set-held}
 use Rattle.bench_orders.specs.Survey.{fold_from, far_from, member_seen, gathered, no_members, members_of}
 use Rattle.bench_calls.proofs.Surveys.{placed, said}
 

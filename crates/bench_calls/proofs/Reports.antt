@@ -10,16 +10,16 @@ use lib.Dec.{eqb, leb, ltb}
 use lib.ListN.{length, get_or, set, take, drop, length-set, length-replicate, length-append, take-append-drop}
 use lib.Seq.{get_or-take, take-length}
 use borrow.Author.Tests.{leb-true, le-leb, lt-ltb}
-use Rattle.refusal.specs.declared.Refusal.{Refusal}
-use Rattle.refusal.specs.declared.Refusal.TheVariants.{NodeNumber, Unsound, SlotLimit, OutputShort, NotOut, LedgerUnfit, SpareBit}
-use Rattle.refusal.specs.Causes.{cause}
-use Rattle.nodeset.specs.Sets.{has, within}
-use Rattle.nodeset.proofs.Tests.{by_cases, all, chosen}
-use Rattle.cable.specs.declared.Choices.{Choices}
-use Rattle.cable.specs.declared.Cable.{Cable}
-use Rattle.cable.specs.Cable.{may_set_up, node_number, fault_of}
-use Rattle.cable.proofs.Ranges.{ring-size}
-use Rattle.message.specs.Message.{jobs_within}
+use Rattle.bench.specs.refusal.declared.Refusal.{Refusal}
+use Rattle.bench.specs.refusal.declared.Refusal.TheVariants.{NodeNumber, Unsound, SlotLimit, OutputShort, NotOut, LedgerUnfit, SpareBit}
+use Rattle.bench.specs.refusal.Causes.{cause}
+use Rattle.node_record.specs.nodeset.Sets.{has, within}
+use Rattle.node_record.proofs.nodeset.Tests.{by_cases, all, chosen}
+use Rattle.node_record.specs.cable.declared.Choices.{Choices}
+use Rattle.node_record.specs.cable.declared.Cable.{Cable}
+use Rattle.node_record.specs.cable.Cable.{may_set_up, node_number, fault_of}
+use Rattle.node_record.proofs.cable.Ranges.{ring-size}
+use Rattle.bench_orders.specs.message.Message.{jobs_within}
 use Rattle.bench_orders.specs.declared.Beside.{Beside}
 use Rattle.node_record.specs.declared.Held.{Held}
 use Rattle.node_record.specs.declared.State.{State}
@@ -29,8 +29,8 @@ use Rattle.bench.specs.declared.Command.TheVariants as command
 use Rattle.bench_orders.specs.declared.Order.{Order}
 use Rattle.bench_orders.specs.declared.Order.TheVariants as order
 use Rattle.bench_orders.specs.declared.Errand.{Errand}
-use Rattle.bench_notes.specs.declared.Pairs.{Pairs}
-use Rattle.bench_notes.specs.declared.Notes.{Notes}
+use Rattle.bench_orders.specs.bench_notes.declared.Pairs.{Pairs}
+use Rattle.bench_orders.specs.bench_notes.declared.Notes.{Notes}
 use Rattle.bench.specs.Table.{Table, record_of, placed_from, table_sound, slots_of}
 use Rattle.bench.specs.Held.{HeldTable, setted_all}
 use Rattle.bench.proofs.Standing.{length-setted}
@@ -38,7 +38,7 @@ use Rattle.bench.specs.Calls.{Called}
 use Rattle.bench.specs.Outcomes.{pairs_of, bytes_by}
 use Rattle.bench.specs.Pairs.{same_state, kind_from, Pair, pair_bytes, leaves, changes_else, group_from, pairs_in, pairs_told, slot_bytes}
 use Rattle.bench_orders.specs.Survey.{fold_from, map_from, survey_of, fine_table}
-use Rattle.bench_notes.specs.Notes.{pushed, with_pair, no_pairs, in_group, with_one, grouped_to, ordered, noticed, no_notes}
+use Rattle.bench_orders.specs.bench_notes.Notes.{pushed, with_pair, no_pairs, in_group, with_one, grouped_to, ordered, noticed, no_notes}
 use Rattle.bench_orders.specs.Orders.{if_good, fate_by, turn_of, order_for, carried, noticed_from, notes_of, pairs_by, bytes_told, puts, written_by}
 use Rattle.bench_calls.proofs.Surveys.{placed, fine-table, said}
 use Rattle.bench_calls.proofs.Works.{called_fit, sent_on, called_by, called-by}

@@ -9,16 +9,16 @@ use native.Mathlib.Omega.{arith}
 use lib.Dec.{eqb}
 use lib.ListN.{length, get_or}
 use borrow.Author.Tests.{eqb-true, eqb-false, eq-eqb, ne_eqb, leb-true}
-use Rattle.nodeset.specs.Sets.{has, with, with_if}
-use Rattle.nodeset.proofs.Tests.{by_cases, both, chosen, otherwise}
-use Rattle.nodeset.proofs.Bits.{has-none}
-use Rattle.nodeset.proofs.Laws.{has-with, has-with-other}
-use Rattle.cable.specs.declared.Cable.{Cable}
-use Rattle.cable.specs.Cable.{ring_size, node_number}
-use Rattle.ring.specs.Ring.{sender}
-use Rattle.cable.proofs.Ranges.{ring-size, node-number}
-use Rattle.ring_laws.proofs.Senders.{turns-of, sender-range}
-use Rattle.row.specs.Inner.{has_row}
+use Rattle.node_record.specs.nodeset.Sets.{has, with, with_if}
+use Rattle.node_record.proofs.nodeset.Tests.{by_cases, both, chosen, otherwise}
+use Rattle.node_record.proofs.nodeset.Bits.{has-none}
+use Rattle.node_record.proofs.nodeset.Laws.{has-with, has-with-other}
+use Rattle.node_record.specs.cable.declared.Cable.{Cable}
+use Rattle.node_record.specs.cable.Cable.{ring_size, node_number}
+use Rattle.bench_orders.specs.ring.Ring.{sender}
+use Rattle.node_record.proofs.cable.Ranges.{ring-size, node-number}
+use Rattle.node_record.proofs.ring_laws.Senders.{turns-of, sender-range}
+use Rattle.node_record.specs.row.Inner.{has_row}
 use Rattle.bench.specs.Reports.{jobs_on}
 use Rattle.node_record.specs.declared.Node.{Node}
 use Rattle.node_record.specs.declared.Held.{Held}
@@ -27,7 +27,7 @@ use Rattle.node_record.specs.Soundness.{sound, limit}
 use Rattle.node_record.specs.Held.{rowed, setted}
 use Rattle.node_record.proofs.Facts.{clauses}
 use Rattle.node_record.proofs.Holding.{held_back, row_has}
-use Rattle.node.specs.Calls.{no_node}
+use Rattle.bench.specs.node.Calls.{no_node}
 use Rattle.bench_orders.specs.declared.Survey.{Survey}
 use Rattle.bench.specs.Table.{Table, record_of, in_place, placed_from, table_sound, slots_of, speaker}
 use Rattle.bench.specs.Held.{HeldTable, setted_all}

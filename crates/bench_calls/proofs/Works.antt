@@ -10,20 +10,20 @@ use native.Mathlib.Numerals.{add-one}
 use lib.Dec.{eqb, leb, ltb}
 use lib.ListN.{length, get_or}
 use borrow.Author.Tests.{eqb-true, ltb-true, lt-ltb}
-use Rattle.refusal.specs.declared.Refusal.{Refusal}
-use Rattle.refusal.specs.Causes.{cause}
-use Rattle.nodeset.specs.Sets.{has, within}
-use Rattle.nodeset.proofs.Tests.{by_cases, both, chosen}
-use Rattle.cable.specs.declared.Cable.{Cable}
-use Rattle.cable.specs.declared.Choices.{Choices}
-use Rattle.cable.specs.Cable.{ring_size, cable_with, cable_fits, may_set_up, node_number, fault_of}
-use Rattle.ring.specs.Ring.{sender}
-use Rattle.cable.proofs.Ranges.{ring-size, fitting, node-number}
-use Rattle.ring_laws.proofs.Senders.{turns-of, sender-range}
+use Rattle.bench.specs.refusal.declared.Refusal.{Refusal}
+use Rattle.bench.specs.refusal.Causes.{cause}
+use Rattle.node_record.specs.nodeset.Sets.{has, within}
+use Rattle.node_record.proofs.nodeset.Tests.{by_cases, both, chosen}
+use Rattle.node_record.specs.cable.declared.Cable.{Cable}
+use Rattle.node_record.specs.cable.declared.Choices.{Choices}
+use Rattle.node_record.specs.cable.Cable.{ring_size, cable_with, cable_fits, may_set_up, node_number, fault_of}
+use Rattle.bench_orders.specs.ring.Ring.{sender}
+use Rattle.node_record.proofs.cable.Ranges.{ring-size, fitting, node-number}
+use Rattle.node_record.proofs.ring_laws.Senders.{turns-of, sender-range}
 use Rattle.bench.specs.Reports.{jobs_on}
-use Rattle.message.specs.Message.{jobs_within}
-use Rattle.message.specs.declared.Reading.{Reading}
-use Rattle.message.specs.declared.Reading.TheVariants as reading
+use Rattle.bench_orders.specs.message.Message.{jobs_within}
+use Rattle.bench_orders.specs.message.declared.Reading.{Reading}
+use Rattle.bench_orders.specs.message.declared.Reading.TheVariants as reading
 use Rattle.node_record.specs.declared.Node.{Node}
 use Rattle.node_record.specs.declared.Held.{Held}
 use Rattle.node_record.specs.declared.Cause.TheVariants.{SwitchedOff}
@@ -32,23 +32,23 @@ use Rattle.node_record.specs.Soundness.{sound, limit}
 use Rattle.node_record.specs.Held.{rowed, setted}
 use Rattle.node_record.proofs.Facts.{clauses}
 use Rattle.node_record.proofs.Holding.{set-small}
-use Rattle.node_changes.specs.Changes.{starting, out_for, fresh, numbered}
-use Rattle.node_changes.specs.Held as held
-use Rattle.node_changes.proofs.Holding.{starting-held, out-held, listening-held, either_held}
-use Rattle.node_steps.specs.Steps.{is_heard}
-use Rattle.node_steps.specs.declared.Digest.{Digest}
-use Rattle.node_steps.specs.Held.{digest_of}
-use Rattle.node_sending.specs.Sending.{sends, return_sent}
-use Rattle.node_sending.specs.Sending as rules
-use Rattle.node_sending.proofs.Holding.{bits-held}
-use Rattle.node_slot.specs.Held.{after_by}
-use Rattle.node_slot.proofs.Digests.{heard-told, sound-own, sound-marks}
-use Rattle.node_slot.proofs.Holding.{after-held}
-use Rattle.node.specs.declared.Answer.{Answer}
-use Rattle.node.specs.declared.Answer.TheVariants as answer
-use Rattle.node.specs.Calls as node
-use Rattle.node.specs.Calls.{Stepped, no_node}
-use Rattle.node.proofs.Holding.{good_of}
+use Rattle.bench_orders.specs.node_changes.Changes.{starting, out_for, fresh, numbered}
+use Rattle.bench_orders.specs.node_changes.Held as held
+use Rattle.bench_orders.proofs.node_changes.Holding.{starting-held, out-held, listening-held, either_held}
+use Rattle.bench_orders.specs.node_steps.Steps.{is_heard}
+use Rattle.bench_orders.specs.node_steps.declared.Digest.{Digest}
+use Rattle.bench_orders.specs.node_steps.Held.{digest_of}
+use Rattle.bench_orders.specs.node_sending.Sending.{sends, return_sent}
+use Rattle.bench_orders.specs.node_sending.Sending as rules
+use Rattle.bench_orders.proofs.node_sending.Holding.{bits-held}
+use Rattle.bench_orders.specs.node_slot.Held.{after_by}
+use Rattle.bench_orders.proofs.node_slot.Digests.{heard-told, sound-own, sound-marks}
+use Rattle.bench_orders.proofs.node_slot.Holding.{after-held}
+use Rattle.bench.specs.node.declared.Answer.{Answer}
+use Rattle.bench.specs.node.declared.Answer.TheVariants as answer
+use Rattle.bench.specs.node.Calls as node
+use Rattle.bench.specs.node.Calls.{Stepped, no_node}
+use Rattle.bench.proofs.node.Holding.{good_of}
 use Rattle.bench.specs.declared.Command.{Command}
 use Rattle.bench.specs.declared.Command.TheVariants as command
 use Rattle.bench.specs.declared.Fate.{Fate}

@@ -8,7 +8,7 @@ use Rattle.node_reports.specs.Reports.{Counts, no_reports_at, heard_by}
 use Rattle.node_reports.specs.Inner.{greatest_of}
 use Rattle.node_record.specs.declared.Node.{Node}
 use Rattle.node_record.specs.Held.{setted}
-use Rattle.node_steps.specs.Steps.{is_heard}
+use Rattle.bench_orders.specs.node_steps.Steps.{is_heard}
 use Rattle.node_sending.specs.Sending.{jobs_sent}
 use Rattle.bench.specs.declared.Command.{Command}
 use Rattle.bench.specs.declared.Command.TheVariants as command

@@ -6,7 +6,7 @@ ghost use Rattle.std.specs.Prelude.{◌≡◌, ◌≤◌, length};
 ghost use Rattle.node_record.specs.Held.{setted};
 ghost use Rattle.bench.specs.Ledger.{ledger_fits};
 ghost use Rattle.cable.specs.Cable.{cable_with};
-ghost use Rattle.node_steps.specs.Steps.{is_heard};
+ghost use Rattle.bench_orders.specs.node_steps.Steps.{is_heard};
 ghost use Rattle.bench_work.specs.Work.{date_by, entered_by, reports_fit_by, choices_in, beside_with, hearers_in, hearers_by, jobs_by, is_start, reported_by};
 ghost use Rattle.bench_orders.specs.Orders.{reach_of, outcome_by, pairs_by, reply_by, bytes_told, puts, written_by};
 

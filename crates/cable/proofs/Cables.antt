@@ -6,7 +6,7 @@ use mathlib.Core.List.{List}
 use lib.Dec.{eqb}
 use lib.ListN.{length}
 use borrow.Author.Tests.{eqb-true, eq-eqb}
-use Rattle.nodeset.proofs.Tests.{both, all}
+use Rattle.slot_table.proofs.nodeset.Tests.{both, all}
 use Rattle.slot_table.specs.Order.{same_order}
 use Rattle.slot_table.proofs.Same.{same-order, order_same}
 use Rattle.cable.specs.declared.Cable.{Cable}

@@ -4,7 +4,7 @@ use mathlib.Core.Path.{◌≡◌}
 use mathlib.Core.Bool.{Bool, true, false, cond, ◌&&◌}
 use lib.Dec.{eqb, leb}
 use borrow.Author.Tests.{leb-true}
-use Rattle.nodeset.proofs.Tests.{both, all}
+use Rattle.slot_table.proofs.nodeset.Tests.{both, all}
 use Rattle.slot_table.specs.Order.{is_kept}
 use Rattle.cable.specs.declared.Cable.{Cable}
 use Rattle.cable.specs.Cable.{ring_size, node_number, lag_fits, sponsor_count, job_count, cable_fits, fault_of}

@@ -9,7 +9,7 @@ use lib.ListN.{length, get_or, drop}
 use lib.Seq.{get_or-take, get_or-drop}
 use lib.Dec.{eqb}
 use borrow.Author.Tests.{le-ltb, leb-false}
-use Rattle.cable.specs.Cable.{job_count}
+use Rattle.message.specs.cable.Cable.{job_count}
 use Rattle.message.specs.declared.Received.{Received}
 use Rattle.message.specs.Message.{if_read, in_range, length_of, length_two, part_three, read_of}
 use Rattle.message.proofs.OtherCount.{other-count}

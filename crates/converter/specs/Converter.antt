@@ -1,6 +1,6 @@
 -- Document 02, request i: "A converter brings a message to the three-section form with no jobs, and takes one with no jobs back."
 use Rattle.std.specs.Prelude.{ℕ, ◌-◌, List, Bool, cond, length, get_or, eqb, ltb}
-use Rattle.cable.specs.Cable.{job_count}
+use Rattle.message.specs.cable.Cable.{job_count}
 use Rattle.message.specs.declared.Reading.{Reading}
 use Rattle.message.specs.declared.Reading.TheVariants as reading
 use Rattle.message.specs.declared.Received.{Received}

@@ -2,9 +2,9 @@
 use Rattle.std.specs.Prelude.{ℕ, zero, suc, ◌+◌, ◌-◌, ◌/◌, min, Bool, cond, ◌&&◌, List, ◌++◌, map, eqb, leb, length, get_or, drop}
 use Rattle.refusal.specs.Causes.{cause}
 use Rattle.nodeset.specs.Sets.{has}
-use Rattle.slot_table.specs.Order.{numbers_from}
+use Rattle.cable.specs.slot_table.Order.{numbers_from}
 use Rattle.cable.specs.Cable.{node_number}
-use Rattle.node_reports.specs.Reports.{every_below}
+use Rattle.node.specs.node_reports.Reports.{every_below}
 use Rattle.message.specs.Message.{Outcome, if_written, wrote}
 use Rattle.node_record.specs.declared.Node.{Node}
 use Rattle.node_record.specs.States.{is_member}

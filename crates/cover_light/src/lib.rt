@@ -3,7 +3,7 @@
 // base levels are lent as bytes, that of lamp 1 first.
 #![tactic(auto)]
 ghost use Rattle.std.specs.Prelude.{◌≡◌, true, ◌++◌, map, ◌≤◌, length, drop};
-ghost use Rattle.slot_table.specs.Order.{numbers_from};
+ghost use Rattle.cable.specs.slot_table.Order.{numbers_from};
 ghost use Rattle.node_record.specs.Soundness.{sound};
 ghost use Rattle.node_record.specs.Held.{setted};
 ghost use Rattle.cover_light.specs.Light.{base, half, worked, given_by, bases_fit, level_of, levels_of};

@@ -8,7 +8,7 @@ use lib.Dec.{eqb, leb}
 use lib.ListN.{length, take, drop, length-take, length-drop}
 use lib.Seq.{take_all}
 use borrow.Author.Tests.{eqb-true, leb-true}
-use Rattle.nodeset.proofs.Tests.{both}
+use Rattle.slot_table.proofs.nodeset.Tests.{both}
 use Rattle.slot_table.specs.Order.{kept}
 use Rattle.message.specs.Message.{Outcome, unwritten, if_written}
 use Rattle.node_record.specs.declared.Node.{Node}

@@ -6,55 +6,55 @@ use mathlib.Core.List.{List, [], ◌∷◌, ◌++◌}
 use lib.Dec.{eqb, ltb, leb}
 use lib.ListN.{length, take, drop, take-append-drop}
 use borrow.Author.Tests.{leb-false}
-use Rattle.refusal.specs.Causes.{cause}
-use Rattle.nodeset.specs.Sets.{within}
-use Rattle.nodeset.proofs.Tests.{by_cases}
-use Rattle.cable.specs.declared.Cable.{Cable}
-use Rattle.ring.specs.declared.Speaker.{Speaker}
-use Rattle.ring.specs.declared.Found.{Found}
-use Rattle.ring.specs.declared.Lookup.{Lookup}
-use Rattle.cable.specs.Cable.{fault_of, cable_with, ring_size, node_number, lag_fits, sponsor_count, job_count, cable_fits, may_set_up}
-use Rattle.ring.specs.Answers.{before_of, on_cable}
-use Rattle.cable.proofs.Ranges.{fault-by}
-use Rattle.ring.specs.Ring.{sponsored, decided}
-use Rattle.bench.specs.Reports.{reports_fit, jobs_on}
-use Rattle.node.specs.declared.Answer.{Answer}
-use Rattle.node_reports.specs.Reports.{Counts, counts_within}
-use Rattle.message.specs.declared.Reading.{Reading}
-use Rattle.message.specs.declared.Reading.TheVariants as reading
-use Rattle.message.specs.declared.Received.{Received}
-use Rattle.message.specs.declared.Written.TheVariants as written
-use Rattle.message.specs.Message.{Outcome, unread, if_read, unwritten, if_written, in_range, jobs_within, length_of, length_two, part_one, part_two, part_three, read_of, said_by, section_in, write_of}
-use Rattle.message.specs.TwoSections.{read_two_of, write_two_of}
-use Rattle.converter.specs.Converter.{job_count_in, read_any_of, to_three_of, to_two_of, written_on}
-use Rattle.node_record.specs.Soundness.{sound, limit}
-use Rattle.node_record.specs.States.{is_out}
-use Rattle.node_record.specs.declared.Node.{Node}
-use Rattle.node.specs.declared.Answer.TheVariants as answer
-use Rattle.node.specs.declared.Converted.{Converted}
-use Rattle.node_record.specs.declared.Held.{Held}
-use Rattle.node_record.specs.Held.{setted}
-use Rattle.node.specs.Held.{setted_of}
-use Rattle.node.specs.Calls.{Stepped, its_turn, no_node, set_up_of, step_of, send_of, off_of, restart_of, is_done, refused, with_counts, counts_after, counted_of}
-use Rattle.node.proofs.Sent.{sent-or-short}
+use Rattle.cover_light.specs.refusal.Causes.{cause}
+use Rattle.cover_light.specs.nodeset.Sets.{within}
+use Rattle.cover_light.proofs.nodeset.Tests.{by_cases}
+use Rattle.cover_light.specs.cable.declared.Cable.{Cable}
+use Rattle.cover_light.specs.ring.declared.Speaker.{Speaker}
+use Rattle.cover_light.specs.ring.declared.Found.{Found}
+use Rattle.cover_light.specs.ring.declared.Lookup.{Lookup}
+use Rattle.cover_light.specs.cable.Cable.{fault_of, cable_with, ring_size, node_number, lag_fits, sponsor_count, job_count, cable_fits, may_set_up}
+use Rattle.cover_light.specs.ring.Answers.{before_of, on_cable}
+use Rattle.cover_light.proofs.cable.Ranges.{fault-by}
+use Rattle.cover_light.specs.ring.Ring.{sponsored, decided}
+use Rattle.agreement.specs.bench.Reports.{reports_fit, jobs_on}
+use Rattle.cover_light.specs.node.declared.Answer.{Answer}
+use Rattle.cover_light.specs.node_reports.Reports.{Counts, counts_within}
+use Rattle.cover_light.specs.message.declared.Reading.{Reading}
+use Rattle.cover_light.specs.message.declared.Reading.TheVariants as reading
+use Rattle.cover_light.specs.message.declared.Received.{Received}
+use Rattle.cover_light.specs.message.declared.Written.TheVariants as written
+use Rattle.cover_light.specs.message.Message.{Outcome, unread, if_read, unwritten, if_written, in_range, jobs_within, length_of, length_two, part_one, part_two, part_three, read_of, said_by, section_in, write_of}
+use Rattle.cover_light.specs.message.TwoSections.{read_two_of, write_two_of}
+use Rattle.converter_text.specs.converter.Converter.{job_count_in, read_any_of, to_three_of, to_two_of, written_on}
+use Rattle.cover_light.specs.node_record.Soundness.{sound, limit}
+use Rattle.cover_light.specs.node_record.States.{is_out}
+use Rattle.cover_light.specs.node_record.declared.Node.{Node}
+use Rattle.cover_light.specs.node.declared.Answer.TheVariants as answer
+use Rattle.cover_light.specs.node.declared.Converted.{Converted}
+use Rattle.cover_light.specs.node_record.declared.Held.{Held}
+use Rattle.cover_light.specs.node_record.Held.{setted}
+use Rattle.cover_light.specs.node.Held.{setted_of}
+use Rattle.cover_light.specs.node.Calls.{Stepped, its_turn, no_node, set_up_of, step_of, send_of, off_of, restart_of, is_done, refused, with_counts, counts_after, counted_of}
+use Rattle.cover_light.proofs.node.Sent.{sent-or-short}
 use Rattle.cover_light.specs.declared.Light.{Light}
 use Rattle.cover_light.specs.Light.{bases_fit, level_of, levels_of}
-use Rattle.bench.specs.declared.Command.{Command}
-use Rattle.bench.specs.declared.Command.TheVariants as command
-use Rattle.bench.specs.declared.Outcome as told
-use Rattle.bench.specs.declared.Outcome.TheVariants as outcome
-use Rattle.bench.specs.Held.{HeldTable, kept_held}
-use Rattle.bench_by_value.specs.ByValue.{Rows, table_of, call_with}
-use Rattle.bench.specs.Table.{Table, table_sound, node_count, slots_of, record_of}
-use Rattle.bench.specs.Calls as bench
-use Rattle.bench.specs.Outcomes.{outcome_of, bytes_by, slot_given}
-use Rattle.bench.specs.Ledger.{Ledger, ledger_fits}
-use Rattle.bench.specs.Kept.{slot_with, off_with, called_with, ledger_with, kept_of, set_up_with, reports_with}
-use Rattle.plan_text.specs.Text.{written_of}
-use Rattle.plan_text.specs.declared.Written as text
-use Rattle.plan_program.specs.declared.Plan.{Plan}
-use Rattle.plan_program.specs.declared.Part.{Part}
-use Rattle.plan_program.specs.Calls.{fed_of, finished_of, has_room, plan_sound, printed_in}
+use Rattle.agreement.specs.bench.declared.Command.{Command}
+use Rattle.agreement.specs.bench.declared.Command.TheVariants as command
+use Rattle.agreement.specs.bench.declared.Outcome as told
+use Rattle.agreement.specs.bench.declared.Outcome.TheVariants as outcome
+use Rattle.agreement.specs.bench.Held.{HeldTable, kept_held}
+use Rattle.plan_report.specs.bench_by_value.ByValue.{Rows, table_of, call_with}
+use Rattle.agreement.specs.bench.Table.{Table, table_sound, node_count, slots_of, record_of}
+use Rattle.agreement.specs.bench.Calls as bench
+use Rattle.agreement.specs.bench.Outcomes.{outcome_of, bytes_by, slot_given}
+use Rattle.agreement.specs.bench.Ledger.{Ledger, ledger_fits}
+use Rattle.agreement.specs.bench.Kept.{slot_with, off_with, called_with, ledger_with, kept_of, set_up_with, reports_with}
+use Rattle.converter_text.specs.plan_text.Text.{written_of}
+use Rattle.converter_text.specs.plan_text.declared.Written as text
+use Rattle.plan_report.specs.plan_program.declared.Plan.{Plan}
+use Rattle.plan_report.specs.plan_program.declared.Part.{Part}
+use Rattle.plan_report.specs.plan_program.Calls.{fed_of, finished_of, has_room, plan_sound, printed_in}
 use Rattle.converter_text.specs.declared.Recording.{Recording}
 use Rattle.converter_text.specs.Calls as recorded
 use Rattle.plan_report.specs.declared.Figures.{Figures}

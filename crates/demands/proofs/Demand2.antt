@@ -7,37 +7,37 @@ use native.Mathlib.Omega.{arith}
 use lib.Dec.{eqb, ltb, leb}
 use lib.ListN.{length, take, get_or}
 use borrow.Author.Tests.{lt-leb, le-leb, ltb-true, eq-eqb, eqb-true}
-use Rattle.nodeset.specs.Sets.{within}
-use Rattle.nodeset.proofs.Tests.{all, both, by_cases}
-use Rattle.cable.specs.declared.Cable.{Cable}
-use Rattle.ring.specs.Ring.{sender}
-use Rattle.ring_laws.proofs.Senders.{turns-of, sender-range}
-use Rattle.node_record.proofs.Facts.{clauses}
-use Rattle.bench.proofs.Reports.{counts-at}
-use Rattle.bench.specs.Outcomes.{slot_given}
-use Rattle.bench.specs.Reports.{reports_fit, jobs_on, received_by}
-use Rattle.node_reports.proofs.Laws.{nodes-each}
-use Rattle.node_reports.specs.Reports.{Counts, counts_within, all_within}
-use Rattle.message.specs.declared.Reading.{Reading}
-use Rattle.message.specs.declared.Received.{Received}
-use Rattle.message.specs.declared.Written.TheVariants.{Bytes}
-use Rattle.message.specs.Message.{read_of, jobs_within}
-use Rattle.message.proofs.RoundTrip.{read_back, written_read}
-use Rattle.node_record.specs.declared.Node.{Node}
-use Rattle.node_record.specs.Soundness.{sound, limit}
-use Rattle.node_changes.specs.Changes.{counted}
-use Rattle.node_sending.specs.Sending.{sends, jobs_sent}
-use Rattle.node_slot.specs.Slot.{slot_in, after_slot}
-use Rattle.node.specs.declared.Answer.TheVariants.{Done}
-use Rattle.node.specs.Calls.{Stepped, done, refused, unsent, send_of, step_of, with_counts, counts_after, counted_of}
-use Rattle.node.proofs.Sent.{sent-by, sent-read, not-its-turn}
-use Rattle.bench.specs.declared.Command.TheVariants.{Slot}
-use Rattle.bench.specs.Table.{Table, record_of, node_count, slots_of, speaker, table_sound}
-use Rattle.bench.specs.Calls as bench
-use Rattle.bench.specs.Ledger.{Ledger, ledger_fits}
-use Rattle.bench.specs.Kept.{slot_with, kept_of, reports_with}
-use Rattle.bench.proofs.Places.{sound-placed}
-use Rattle.bench.proofs.Runs.{after-slot-record}
+use Rattle.cover_light.specs.nodeset.Sets.{within}
+use Rattle.cover_light.proofs.nodeset.Tests.{all, both, by_cases}
+use Rattle.cover_light.specs.cable.declared.Cable.{Cable}
+use Rattle.cover_light.specs.ring.Ring.{sender}
+use Rattle.cover_light.proofs.ring_laws.Senders.{turns-of, sender-range}
+use Rattle.cover_light.proofs.node_record.Facts.{clauses}
+use Rattle.agreement.proofs.bench.Reports.{counts-at}
+use Rattle.agreement.specs.bench.Outcomes.{slot_given}
+use Rattle.agreement.specs.bench.Reports.{reports_fit, jobs_on, received_by}
+use Rattle.cover_light.proofs.node_reports.Laws.{nodes-each}
+use Rattle.cover_light.specs.node_reports.Reports.{Counts, counts_within, all_within}
+use Rattle.cover_light.specs.message.declared.Reading.{Reading}
+use Rattle.cover_light.specs.message.declared.Received.{Received}
+use Rattle.cover_light.specs.message.declared.Written.TheVariants.{Bytes}
+use Rattle.cover_light.specs.message.Message.{read_of, jobs_within}
+use Rattle.cover_light.proofs.message.RoundTrip.{read_back, written_read}
+use Rattle.cover_light.specs.node_record.declared.Node.{Node}
+use Rattle.cover_light.specs.node_record.Soundness.{sound, limit}
+use Rattle.cover_light.specs.node_changes.Changes.{counted}
+use Rattle.cover_light.specs.node_sending.Sending.{sends, jobs_sent}
+use Rattle.cover_light.specs.node_slot.Slot.{slot_in, after_slot}
+use Rattle.cover_light.specs.node.declared.Answer.TheVariants.{Done}
+use Rattle.cover_light.specs.node.Calls.{Stepped, done, refused, unsent, send_of, step_of, with_counts, counts_after, counted_of}
+use Rattle.cover_light.proofs.node.Sent.{sent-by, sent-read, not-its-turn}
+use Rattle.agreement.specs.bench.declared.Command.TheVariants.{Slot}
+use Rattle.agreement.specs.bench.Table.{Table, record_of, node_count, slots_of, speaker, table_sound}
+use Rattle.agreement.specs.bench.Calls as bench
+use Rattle.agreement.specs.bench.Ledger.{Ledger, ledger_fits}
+use Rattle.agreement.specs.bench.Kept.{slot_with, kept_of, reports_with}
+use Rattle.agreement.proofs.bench.Places.{sound-placed}
+use Rattle.agreement.proofs.bench.Runs.{after-slot-record}
 use Rattle.demands.specs.Demand2.{Demand2, next_sender}
 
 -- ---- a record

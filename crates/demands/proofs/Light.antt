@@ -3,17 +3,17 @@ use Prim.Native.Nat.{ℕ, ◌^◌, ◌≤◌, ◌<◌}
 use mathlib.Core.Path.{◌≡◌, sym, ap, ◌∙◌}
 use mathlib.Core.List.{List, [], ◌∷◌}
 use native.Mathlib.Omega.{arith}
-use Rattle.nodeset.proofs.Counts.{distance-zero}
-use Rattle.cable.specs.declared.Cable.{Cable}
-use Rattle.cable.specs.Cable.{node_number}
-use Rattle.cable.proofs.Ranges.{ring-size, fitting}
-use Rattle.node_record.specs.declared.Node.{Node}
-use Rattle.node_record.proofs.Holding.{set-small}
-use Rattle.bench.specs.Table.{Table, record_of, slots_of}
-use Rattle.bench.specs.Calls.{set_up_of}
-use Rattle.bench.specs.Runs.{Call, table_after}
-use Rattle.bench.proofs.Places.{Placed, InPlace}
-use Rattle.bench.proofs.Runs.{start-placed, placed-run}
+use Rattle.cover_light.proofs.nodeset.Counts.{distance-zero}
+use Rattle.cover_light.specs.cable.declared.Cable.{Cable}
+use Rattle.cover_light.specs.cable.Cable.{node_number}
+use Rattle.cover_light.proofs.cable.Ranges.{ring-size, fitting}
+use Rattle.cover_light.specs.node_record.declared.Node.{Node}
+use Rattle.cover_light.proofs.node_record.Holding.{set-small}
+use Rattle.agreement.specs.bench.Table.{Table, record_of, slots_of}
+use Rattle.agreement.specs.bench.Calls.{set_up_of}
+use Rattle.agreement.specs.bench.Runs.{Call, table_after}
+use Rattle.agreement.proofs.bench.Places.{Placed, InPlace}
+use Rattle.agreement.proofs.bench.Runs.{start-placed, placed-run}
 use Rattle.agreement.specs.Demand.{AtEach, AfterEach, MemberAt, Agree, EverySequence}
 use Rattle.agreement.proofs.Beginnings.{after-each}
 use Rattle.agreement.proofs.Demanded.{demand3}

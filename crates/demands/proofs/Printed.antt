@@ -5,36 +5,36 @@ use mathlib.Core.Bool.{Bool, true, false, cond}
 use mathlib.Core.List.{List, [], ◌∷◌, ◌++◌}
 use native.Mathlib.Omega.{arith}
 use lib.ListN.{length, take, length-replicate, length-take}
-use Rattle.nodeset.proofs.Tests.{by_cases}
-use Rattle.slot_table.specs.Order.{numbers_from}
-use Rattle.cable.specs.declared.Cable.{Cable}
-use Rattle.cable.specs.Cable.{cable_of}
-use Rattle.cable.proofs.Ranges.{ring-size, fitting}
-use Rattle.node_record.specs.Held.{rowed}
-use Rattle.bench.proofs.Standing.{length-setted}
-use Rattle.node.specs.Calls.{no_node, is_done}
-use Rattle.node.specs.declared.Answer.{Answer}
-use Rattle.node.specs.declared.Answer.TheVariants.{Done, Refused}
-use Rattle.bench.specs.Table.{Table}
-use Rattle.bench.specs.declared.Command.TheVariants.{Slot}
-use Rattle.bench.specs.Calls.{off_of, restart_of, set_up_given}
-use Rattle.bench.specs.Outcomes.{ended_of, quiet_outcome, slot_outcome, slot_given}
-use Rattle.bench.specs.Runs.{Call}
+use Rattle.cover_light.proofs.nodeset.Tests.{by_cases}
+use Rattle.cover_light.specs.slot_table.Order.{numbers_from}
+use Rattle.cover_light.specs.cable.declared.Cable.{Cable}
+use Rattle.cover_light.specs.cable.Cable.{cable_of}
+use Rattle.cover_light.proofs.cable.Ranges.{ring-size, fitting}
+use Rattle.cover_light.specs.node_record.Held.{rowed}
+use Rattle.agreement.proofs.bench.Standing.{length-setted}
+use Rattle.cover_light.specs.node.Calls.{no_node, is_done}
+use Rattle.cover_light.specs.node.declared.Answer.{Answer}
+use Rattle.cover_light.specs.node.declared.Answer.TheVariants.{Done, Refused}
+use Rattle.agreement.specs.bench.Table.{Table}
+use Rattle.agreement.specs.bench.declared.Command.TheVariants.{Slot}
+use Rattle.agreement.specs.bench.Calls.{off_of, restart_of, set_up_given}
+use Rattle.agreement.specs.bench.Outcomes.{ended_of, quiet_outcome, slot_outcome, slot_given}
+use Rattle.agreement.specs.bench.Runs.{Call}
 use Rattle.agreement.specs.Demand.{AtEach, EverySequence}
 use Rattle.agreement.specs.Distance as calls
 use Rattle.agreement.specs.Distance.{SlotTells}
 use Rattle.agreement.proofs.Throughout.{distance-throughout}
-use Rattle.bench_by_value.specs.ByValue as by_value
-use Rattle.bench_by_value.specs.ByValue.{table_of}
-use Rattle.plan_line.specs.declared.Line.{Line}
-use Rattle.plan_line.specs.declared.Line.TheVariants as lines
-use Rattle.plan_line.specs.Plan.{line_of}
-use Rattle.plan_run.specs.Run.{act_of, choices_of, no_rows, ran_by}
-use Rattle.plan_program.specs.declared.Plan.{Plan}
-use Rattle.plan_program.specs.Program.{after_line, no_plan}
-use Rattle.plan_program.specs.Tables.{calls_in, calls_of, made_by, start_of, Opens}
-use Rattle.plan_program.proofs.Sound.{over-line, ran_line}
-use Rattle.plan_program.proofs.Tables.{Reached, next, ring, begun, reached-first}
+use Rattle.plan_report.specs.bench_by_value.ByValue as by_value
+use Rattle.plan_report.specs.bench_by_value.ByValue.{table_of}
+use Rattle.converter_text.specs.plan_line.declared.Line.{Line}
+use Rattle.converter_text.specs.plan_line.declared.Line.TheVariants as lines
+use Rattle.converter_text.specs.plan_line.Plan.{line_of}
+use Rattle.plan_report.specs.plan_run.Run.{act_of, choices_of, no_rows, ran_by}
+use Rattle.plan_report.specs.plan_program.declared.Plan.{Plan}
+use Rattle.plan_report.specs.plan_program.Program.{after_line, no_plan}
+use Rattle.plan_report.specs.plan_program.Tables.{calls_in, calls_of, made_by, start_of, Opens}
+use Rattle.plan_report.proofs.plan_program.Sound.{over-line, ran_line}
+use Rattle.plan_report.proofs.plan_program.Tables.{Reached, next, ring, begun, reached-first}
 use Rattle.demands.specs.Printed.{AtEachLine, NoOtherDistance, NoDistancePrinted}
 
 quiet-tells : (a : Answer) → NoOtherDistance (quiet_outcome a)

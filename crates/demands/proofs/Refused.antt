@@ -3,16 +3,16 @@ use Prim.Native.Nat.{ℕ}
 use mathlib.Core.Path.{refl}
 use mathlib.Core.Bool.{Bool}
 use mathlib.Core.List.{List}
-use Rattle.node_reports.specs.Reports.{Counts}
-use Rattle.node.specs.declared.Answer.{Answer}
-use Rattle.node.specs.declared.Answer.TheVariants as answer
-use Rattle.bench.specs.declared.Command.{Command}
-use Rattle.bench.specs.declared.Command.TheVariants as command
-use Rattle.bench.specs.Table.{Table}
-use Rattle.bench.specs.Ledger.{Ledger}
-use Rattle.bench.specs.Outcomes.{slot_outcome, quiet_outcome}
-use Rattle.bench.specs.Kept.{if_done, called_with, kept_of}
-use Rattle.bench.specs.Held.{HeldTable, setted_all, kept_held}
+use Rattle.cover_light.specs.node_reports.Reports.{Counts}
+use Rattle.cover_light.specs.node.declared.Answer.{Answer}
+use Rattle.cover_light.specs.node.declared.Answer.TheVariants as answer
+use Rattle.agreement.specs.bench.declared.Command.{Command}
+use Rattle.agreement.specs.bench.declared.Command.TheVariants as command
+use Rattle.agreement.specs.bench.Table.{Table}
+use Rattle.agreement.specs.bench.Ledger.{Ledger}
+use Rattle.agreement.specs.bench.Outcomes.{slot_outcome, quiet_outcome}
+use Rattle.agreement.specs.bench.Kept.{if_done, called_with, kept_of}
+use Rattle.agreement.specs.bench.Held.{HeldTable, setted_all, kept_held}
 use Rattle.demands.specs.Demand1.{Keeps, of_outcome}
 
 quiet-refused : (a : Answer) (t x : HeldTable) → Keeps (of_outcome (quiet_outcome a)) t (if_done a x t)

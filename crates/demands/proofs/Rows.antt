@@ -5,35 +5,35 @@ use mathlib.Core.Bool.{true, false, cond, false≢true}
 use mathlib.Core.List.{List, [], ◌∷◌}
 use lib.Dec.{eqb}
 use lib.ListN.{length}
-use Rattle.nodeset.specs.Sets.{within}
-use Rattle.nodeset.proofs.Tests.{by_cases, both}
-use Rattle.cable.specs.declared.Choices.{Choices}
-use Rattle.cable.specs.Cable.{cable_with, may_set_up}
-use Rattle.row.specs.Rows.{sound_row}
-use Rattle.row_laws.proofs.Laws.{set-within}
-use Rattle.node_reports.specs.Reports.{Counts}
-use Rattle.node_record.specs.declared.Held.{Held}
-use Rattle.node_record.specs.Soundness.{sound}
-use Rattle.node_record.specs.Held.{rowed, setted}
-use Rattle.node_record.proofs.Facts.{clauses}
-use Rattle.node_record.proofs.Holding.{node-back, held_back}
-use Rattle.node.specs.declared.Answer.{Answer}
-use Rattle.node.specs.declared.Answer.TheVariants as answer
-use Rattle.node.specs.Calls.{Stepped, is_done, slot_of, counted_of, off_of, restart_of}
-use Rattle.node.specs.Held.{held_as}
-use Rattle.node.proofs.Standing.{start-stands, slot-stands, counted-stands, off-stands, restart-stands}
-use Rattle.bench.specs.declared.Command.{Command}
-use Rattle.bench.specs.declared.Command.TheVariants as command
-use Rattle.bench.specs.Table.{Table}
-use Rattle.bench.specs.Calls.{Called, set_up_of, set_up_given}
-use Rattle.bench.specs.Ledger.{Ledger}
-use Rattle.bench.specs.Kept.{set_up_with, called_with, kept_of}
-use Rattle.bench.specs.Held.{HeldTable, setted_all, kept_held}
-use Rattle.bench.proofs.Ledgers.{past, after}
-use Rattle.bench.proofs.Standing.{call-stands}
-use Rattle.ledger.specs.Runs.{Lent, kept_by, table_lent}
-use Rattle.ledger.proofs.AnyLent.{any_lent}
-use Rattle.plan_program.proofs.OnSets.{shown-as-before}
+use Rattle.cover_light.specs.nodeset.Sets.{within}
+use Rattle.cover_light.proofs.nodeset.Tests.{by_cases, both}
+use Rattle.cover_light.specs.cable.declared.Choices.{Choices}
+use Rattle.cover_light.specs.cable.Cable.{cable_with, may_set_up}
+use Rattle.cover_light.specs.row.Rows.{sound_row}
+use Rattle.cover_light.proofs.row_laws.Laws.{set-within}
+use Rattle.cover_light.specs.node_reports.Reports.{Counts}
+use Rattle.cover_light.specs.node_record.declared.Held.{Held}
+use Rattle.cover_light.specs.node_record.Soundness.{sound}
+use Rattle.cover_light.specs.node_record.Held.{rowed, setted}
+use Rattle.cover_light.proofs.node_record.Facts.{clauses}
+use Rattle.cover_light.proofs.node_record.Holding.{node-back, held_back}
+use Rattle.cover_light.specs.node.declared.Answer.{Answer}
+use Rattle.cover_light.specs.node.declared.Answer.TheVariants as answer
+use Rattle.cover_light.specs.node.Calls.{Stepped, is_done, slot_of, counted_of, off_of, restart_of}
+use Rattle.cover_light.specs.node.Held.{held_as}
+use Rattle.cover_light.proofs.node.Standing.{start-stands, slot-stands, counted-stands, off-stands, restart-stands}
+use Rattle.agreement.specs.bench.declared.Command.{Command}
+use Rattle.agreement.specs.bench.declared.Command.TheVariants as command
+use Rattle.agreement.specs.bench.Table.{Table}
+use Rattle.agreement.specs.bench.Calls.{Called, set_up_of, set_up_given}
+use Rattle.agreement.specs.bench.Ledger.{Ledger}
+use Rattle.agreement.specs.bench.Kept.{set_up_with, called_with, kept_of}
+use Rattle.agreement.specs.bench.Held.{HeldTable, setted_all, kept_held}
+use Rattle.agreement.proofs.bench.Ledgers.{past, after}
+use Rattle.agreement.proofs.bench.Standing.{call-stands}
+use Rattle.plan_report.specs.ledger.Runs.{Lent, kept_by, table_lent}
+use Rattle.plan_report.proofs.ledger.AnyLent.{any_lent}
+use Rattle.plan_report.proofs.plan_program.OnSets.{shown-as-before}
 use Rattle.demands.specs.Demand1.{Keeps, of_answer}
 use Rattle.demands.specs.Rows.{held_lent, AsRows}
 use Rattle.demands.proofs.Refused.{refused-call}

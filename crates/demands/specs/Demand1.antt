@@ -2,46 +2,46 @@
 -- byte. There is a clause for each call, over the definition that its contract cites and for all numbers, bytes, records, tables, ledgers and plans; so it holds of each
 -- call of every sequence, whatever the calls before it left. What is printed of a plan text, its refused line included, is `printed` (plan_program's specs/Program), of a text of recorded messages `converted` (converter_text's specs/Recorded), and of a text of many plans `reported` (plan_report's specs/Report).
 use Rattle.std.specs.Prelude.{ℕ, ◌≡◌, Bool, true, false, ◌||◌, List, [], ◌∷◌, eqb, length}
-use Rattle.refusal.specs.declared.Refusal.{Refusal}
-use Rattle.refusal.specs.Causes.{number_of}
-use Rattle.cable.specs.declared.Cable.{Cable}
-use Rattle.cable.specs.declared.Choices.{Choices}
-use Rattle.ring.specs.declared.Speaker.{Speaker}
-use Rattle.ring.specs.declared.Speaker.TheVariants as speaker
-use Rattle.ring.specs.declared.Lookup.{Lookup}
-use Rattle.ring.specs.declared.Lookup.TheVariants as lookup
-use Rattle.ring.specs.Answers.{sender_of, before_of, sponsored_of, decided_of}
-use Rattle.node_reports.specs.Reports.{Counts}
-use Rattle.message.specs.declared.Reading.{Reading}
-use Rattle.message.specs.declared.Reading.TheVariants as reading
-use Rattle.message.specs.declared.Received.{Received}
-use Rattle.message.specs.declared.Written.{Written}
-use Rattle.message.specs.declared.Written.TheVariants as written
-use Rattle.message.specs.Message.{read_of, write_of}
-use Rattle.message.specs.TwoSections.{read_two_of, write_two_of}
-use Rattle.converter.specs.Converter.{to_three_of, to_two_of}
-use Rattle.node_record.specs.declared.Node.{Node}
-use Rattle.node.specs.declared.Answer.{Answer}
-use Rattle.node.specs.declared.Answer.TheVariants as answer
-use Rattle.node_record.specs.declared.Held.{Held}
-use Rattle.node.specs.Held.{setted_of}
-use Rattle.node.specs.Calls.{Stepped, Counted, start_of, slot_of, counted_of, send_of, off_of, restart_of}
+use Rattle.cover_light.specs.refusal.declared.Refusal.{Refusal}
+use Rattle.cover_light.specs.refusal.Causes.{number_of}
+use Rattle.cover_light.specs.cable.declared.Cable.{Cable}
+use Rattle.cover_light.specs.cable.declared.Choices.{Choices}
+use Rattle.cover_light.specs.ring.declared.Speaker.{Speaker}
+use Rattle.cover_light.specs.ring.declared.Speaker.TheVariants as speaker
+use Rattle.cover_light.specs.ring.declared.Lookup.{Lookup}
+use Rattle.cover_light.specs.ring.declared.Lookup.TheVariants as lookup
+use Rattle.cover_light.specs.ring.Answers.{sender_of, before_of, sponsored_of, decided_of}
+use Rattle.cover_light.specs.node_reports.Reports.{Counts}
+use Rattle.cover_light.specs.message.declared.Reading.{Reading}
+use Rattle.cover_light.specs.message.declared.Reading.TheVariants as reading
+use Rattle.cover_light.specs.message.declared.Received.{Received}
+use Rattle.cover_light.specs.message.declared.Written.{Written}
+use Rattle.cover_light.specs.message.declared.Written.TheVariants as written
+use Rattle.cover_light.specs.message.Message.{read_of, write_of}
+use Rattle.cover_light.specs.message.TwoSections.{read_two_of, write_two_of}
+use Rattle.converter_text.specs.converter.Converter.{to_three_of, to_two_of}
+use Rattle.cover_light.specs.node_record.declared.Node.{Node}
+use Rattle.cover_light.specs.node.declared.Answer.{Answer}
+use Rattle.cover_light.specs.node.declared.Answer.TheVariants as answer
+use Rattle.cover_light.specs.node_record.declared.Held.{Held}
+use Rattle.cover_light.specs.node.Held.{setted_of}
+use Rattle.cover_light.specs.node.Calls.{Stepped, Counted, start_of, slot_of, counted_of, send_of, off_of, restart_of}
 use Rattle.cover_light.specs.declared.Light.{Light}
 use Rattle.cover_light.specs.declared.Light.TheVariants as light
 use Rattle.cover_light.specs.Light.{level_of, levels_of}
-use Rattle.bench.specs.declared.Command.{Command}
-use Rattle.bench.specs.declared.Command.TheVariants as command
-use Rattle.bench.specs.declared.Outcome.{Outcome}
-use Rattle.bench.specs.declared.Outcome.TheVariants as outcome
-use Rattle.bench.specs.Table.{Table}
-use Rattle.bench.specs.Ledger.{Ledger}
-use Rattle.bench.specs.Kept.{kept_of, bytes_with}
-use Rattle.bench_by_value.specs.ByValue.{Rows, table_of, call_with}
-use Rattle.plan_text.specs.declared.Written as text
-use Rattle.plan_text.specs.declared.Written.TheVariants as printed
-use Rattle.plan_program.specs.declared.Plan.{Plan}
-use Rattle.plan_program.specs.declared.Part.{Part}
-use Rattle.plan_program.specs.Calls.{Fed, fed_of, finished_of, printed_in}
+use Rattle.agreement.specs.bench.declared.Command.{Command}
+use Rattle.agreement.specs.bench.declared.Command.TheVariants as command
+use Rattle.agreement.specs.bench.declared.Outcome.{Outcome}
+use Rattle.agreement.specs.bench.declared.Outcome.TheVariants as outcome
+use Rattle.agreement.specs.bench.Table.{Table}
+use Rattle.agreement.specs.bench.Ledger.{Ledger}
+use Rattle.agreement.specs.bench.Kept.{kept_of, bytes_with}
+use Rattle.plan_report.specs.bench_by_value.ByValue.{Rows, table_of, call_with}
+use Rattle.converter_text.specs.plan_text.declared.Written as text
+use Rattle.converter_text.specs.plan_text.declared.Written.TheVariants as printed
+use Rattle.plan_report.specs.plan_program.declared.Plan.{Plan}
+use Rattle.plan_report.specs.plan_program.declared.Part.{Part}
+use Rattle.plan_report.specs.plan_program.Calls.{Fed, fed_of, finished_of, printed_in}
 use Rattle.converter_text.specs.declared.Recording.{Recording}
 use Rattle.converter_text.specs.Calls as recorded
 use Rattle.plan_report.specs.declared.Figures.{Figures}

@@ -1,25 +1,25 @@
 -- Demand 2: every slot changes a node's record exactly as document 01 says, with requests e, f, h, j and k in it; a message written is read back as the same, and each readable message is the one
 -- that would be written.
 use Rattle.std.specs.Prelude.{ℕ, ◌+◌, ◌≤◌, ◌<◌, ◌-◌, ◌≡◌, Bool, true, false, List, ◌++◌, [], length, get_or, take, drop}
-use Rattle.ring.specs.Ring.{sender}
-use Rattle.bench.specs.Reports.{received_by}
-use Rattle.node_sending.specs.Sending.{jobs_sent}
-use Rattle.node_reports.specs.Reports.{Counts, counts_within}
-use Rattle.message.specs.declared.Reading.{Reading}
-use Rattle.message.specs.declared.Received.{Received}
-use Rattle.message.specs.declared.Written.TheVariants.{Bytes}
-use Rattle.message.specs.Message.{AreBytes, heard, read_of, write_of}
-use Rattle.node_record.specs.declared.Node.{Node}
-use Rattle.node_record.specs.Soundness.{sound, limit}
-use Rattle.node_changes.specs.Changes.{counted}
-use Rattle.node_slot.specs.Slot.{slot_in}
-use Rattle.node.specs.declared.Answer.TheVariants.{Done}
-use Rattle.node.specs.Calls.{done, refused, unsent, with_counts, step_of, counts_after, counted_of, slot_of, send_of}
-use Rattle.bench.specs.declared.Command.TheVariants.{Slot}
-use Rattle.bench.specs.Table.{Table, record_of, node_count, speaker, table_sound}
-use Rattle.bench.specs.Calls as bench
-use Rattle.bench.specs.Ledger.{Ledger}
-use Rattle.bench.specs.Kept.{slot_with, kept_of}
+use Rattle.cover_light.specs.ring.Ring.{sender}
+use Rattle.agreement.specs.bench.Reports.{received_by}
+use Rattle.cover_light.specs.node_sending.Sending.{jobs_sent}
+use Rattle.cover_light.specs.node_reports.Reports.{Counts, counts_within}
+use Rattle.cover_light.specs.message.declared.Reading.{Reading}
+use Rattle.cover_light.specs.message.declared.Received.{Received}
+use Rattle.cover_light.specs.message.declared.Written.TheVariants.{Bytes}
+use Rattle.cover_light.specs.message.Message.{AreBytes, heard, read_of, write_of}
+use Rattle.cover_light.specs.node_record.declared.Node.{Node}
+use Rattle.cover_light.specs.node_record.Soundness.{sound, limit}
+use Rattle.cover_light.specs.node_changes.Changes.{counted}
+use Rattle.cover_light.specs.node_slot.Slot.{slot_in}
+use Rattle.cover_light.specs.node.declared.Answer.TheVariants.{Done}
+use Rattle.cover_light.specs.node.Calls.{done, refused, unsent, with_counts, step_of, counts_after, counted_of, slot_of, send_of}
+use Rattle.agreement.specs.bench.declared.Command.TheVariants.{Slot}
+use Rattle.agreement.specs.bench.Table.{Table, record_of, node_count, speaker, table_sound}
+use Rattle.agreement.specs.bench.Calls as bench
+use Rattle.agreement.specs.bench.Ledger.{Ledger}
+use Rattle.agreement.specs.bench.Kept.{slot_with, kept_of}
 
 -- The sender of a record's next slot.
 abbrev pub next_sender : Node → ℕ

@@ -1,9 +1,9 @@
 -- Document 02, request n, with demand 3: over every sequence of calls that keeps the premises all member-state nodes work out the same levels from the same bases, after each call.
 use Rattle.std.specs.Prelude.{ℕ, ◌≡◌, true, List}
-use Rattle.cable.specs.declared.Cable.{Cable}
-use Rattle.cable.specs.Cable.{node_number}
-use Rattle.bench.specs.Table.{Table, record_of}
-use Rattle.bench.specs.Runs.{Call, table_after}
+use Rattle.cover_light.specs.cable.declared.Cable.{Cable}
+use Rattle.cover_light.specs.cable.Cable.{node_number}
+use Rattle.agreement.specs.bench.Table.{Table, record_of}
+use Rattle.agreement.specs.bench.Runs.{Call, table_after}
 use Rattle.agreement.specs.Demand.{AfterEach, MemberAt, Premises, EverySequence}
 use Rattle.cover_light.specs.declared.Light.TheVariants.{Level}
 use Rattle.cover_light.specs.Light.{worked, bases_fit, level_of, levels_of}

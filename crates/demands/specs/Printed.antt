@@ -1,12 +1,12 @@
 -- On a plan whose calls keep the premises of demand 3 every printed distance is 0.
 use Rattle.std.specs.Prelude.{ℕ, ◌≡◌, List, [], ◌∷◌}
-use Rattle.cable.specs.Cable.{cable_of}
-use Rattle.bench.specs.declared.Outcome.{Outcome}
-use Rattle.bench.specs.declared.Outcome.TheVariants as outcome
+use Rattle.cover_light.specs.cable.Cable.{cable_of}
+use Rattle.agreement.specs.bench.declared.Outcome.{Outcome}
+use Rattle.agreement.specs.bench.declared.Outcome.TheVariants as outcome
 use Rattle.agreement.specs.Demand.{Premises}
-use Rattle.plan_program.specs.declared.Plan.{Plan}
-use Rattle.plan_program.specs.Program.{after_line, lines_in, no_plan}
-use Rattle.plan_program.specs.Tables.{calls_of, start_of, whole, Opens}
+use Rattle.plan_report.specs.plan_program.declared.Plan.{Plan}
+use Rattle.plan_report.specs.plan_program.Program.{after_line, lines_in, no_plan}
+use Rattle.plan_report.specs.plan_program.Tables.{calls_of, start_of, whole, Opens}
 
 -- What is printed of a line tells no distance but 0.
 abbrev pub NoOtherDistance : Outcome → Type 0

@@ -1,26 +1,26 @@
 -- Document 02, request l, "Members as a row": what is promised of it. The demands speak of the records and tables of the rules; a record is held with a row, and through the conversion each call is the one that it was, so what the demands say
 -- is said of records and tables as they are held. A sequence of calls has THE LATEST FIRST.
 use Rattle.std.specs.Prelude.{ℕ, ◌≡◌, true, false, List, [], ◌∷◌}
-use Rattle.cable.specs.declared.Choices.{Choices}
-use Rattle.cable.specs.Cable.{cable_with}
-use Rattle.row.specs.Rows.{sound_row}
-use Rattle.message.specs.declared.Received.{Received}
-use Rattle.node_reports.specs.Reports.{Counts}
-use Rattle.node_record.specs.declared.Node.{Node}
-use Rattle.node_record.specs.declared.Held.{Held}
-use Rattle.node_record.specs.Soundness.{sound}
-use Rattle.node_record.specs.Held.{rowed, setted}
-use Rattle.node.specs.Calls.{is_done, start_of, slot_of, counted_of, off_of, restart_of}
-use Rattle.node.specs.Held.{start_held, slot_held, counted_held, off_held, restart_held}
-use Rattle.bench.specs.declared.Command.{Command}
-use Rattle.bench.specs.declared.Command.TheVariants as command
-use Rattle.bench.specs.Calls.{set_up_of}
-use Rattle.bench.specs.Ledger.{Ledger}
-use Rattle.bench.specs.Kept.{set_up_with}
-use Rattle.bench.specs.Held.{HeldTable, setted_all, kept_held, CallStands}
-use Rattle.bench.specs.Runs.{table_after}
-use Rattle.ledger.specs.Runs.{Lent, commanded, room_of, taken}
-use Rattle.plan_program.specs.OnSets.{ShownAsBefore}
+use Rattle.cover_light.specs.cable.declared.Choices.{Choices}
+use Rattle.cover_light.specs.cable.Cable.{cable_with}
+use Rattle.cover_light.specs.row.Rows.{sound_row}
+use Rattle.cover_light.specs.message.declared.Received.{Received}
+use Rattle.cover_light.specs.node_reports.Reports.{Counts}
+use Rattle.cover_light.specs.node_record.declared.Node.{Node}
+use Rattle.cover_light.specs.node_record.declared.Held.{Held}
+use Rattle.cover_light.specs.node_record.Soundness.{sound}
+use Rattle.cover_light.specs.node_record.Held.{rowed, setted}
+use Rattle.cover_light.specs.node.Calls.{is_done, start_of, slot_of, counted_of, off_of, restart_of}
+use Rattle.cover_light.specs.node.Held.{start_held, slot_held, counted_held, off_held, restart_held}
+use Rattle.agreement.specs.bench.declared.Command.{Command}
+use Rattle.agreement.specs.bench.declared.Command.TheVariants as command
+use Rattle.agreement.specs.bench.Calls.{set_up_of}
+use Rattle.agreement.specs.bench.Ledger.{Ledger}
+use Rattle.agreement.specs.bench.Kept.{set_up_with}
+use Rattle.agreement.specs.bench.Held.{HeldTable, setted_all, kept_held, CallStands}
+use Rattle.agreement.specs.bench.Runs.{table_after}
+use Rattle.plan_report.specs.ledger.Runs.{Lent, commanded, room_of, taken}
+use Rattle.plan_report.specs.plan_program.OnSets.{ShownAsBefore}
 use Rattle.demands.specs.Demand1.{Keeps, of_answer, of_outcome}
 
 -- The table after some calls, each made on the table that the one before it left, with any ledger, counts, job byte and slot table.

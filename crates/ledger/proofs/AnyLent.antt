@@ -2,7 +2,7 @@
 use mathlib.Core.Path.{◌≡◌, refl, sym, ap, ◌∙◌}
 use mathlib.Core.List.{[], ◌∷◌}
 use Rattle.nodeset.proofs.Tests.{by_cases, chosen, otherwise}
-use Rattle.node.specs.Calls.{is_done}
+use Rattle.bench.specs.node.Calls.{is_done}
 use Rattle.bench.specs.Table.{Table}
 use Rattle.bench.specs.Calls.{Called}
 use Rattle.bench.specs.Ledger.{Ledger}

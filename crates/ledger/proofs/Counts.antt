@@ -14,8 +14,8 @@ use lib.Pow.{shr-shr}
 use borrow.Author.Tests.{eq-eqb, ne_eqb}
 use Rattle.nodeset.specs.Sums.{num}
 use Rattle.nodeset.specs.Sets.{has}
-use Rattle.node_reports.specs.Reports.{Row, Counts, no_reports, one_more, row_with, counts_with}
-use Rattle.node_reports.proofs.Laws.{plain_more, own_row, row-length, counts-length}
+use Rattle.bench.specs.node_reports.Reports.{Row, Counts, no_reports, one_more, row_with, counts_with}
+use Rattle.bench.proofs.node_reports.Laws.{plain_more, own_row, row-length, counts-length}
 
 -- 32 rows of 8
 pub record Shaped (counts : Counts) : Type 0 where

@@ -4,11 +4,11 @@ use mathlib.Core.Path.{◌≡◌, refl, ◌∙◌}
 use mathlib.Core.Bool.{Bool, true, false, true≢false}
 use lib.Dec.{leb, ltb}
 use Rattle.nodeset.specs.Sets.{within}
-use Rattle.cable.specs.Cable.{node_number}
-use Rattle.message.specs.Message.{jobs_within}
-use Rattle.node_record.specs.States.{is_out}
-use Rattle.node_record.specs.Soundness.{limit}
-use Rattle.node.specs.Calls.{is_done}
+use Rattle.bench.specs.cable.Cable.{node_number}
+use Rattle.bench.specs.message.Message.{jobs_within}
+use Rattle.bench.specs.node_record.States.{is_out}
+use Rattle.bench.specs.node_record.Soundness.{limit}
+use Rattle.bench.specs.node.Calls.{is_done}
 use Rattle.bench.specs.Table.{Table, record_of, node_count, slots_of, table_sound}
 use Rattle.bench.specs.Calls.{Called, done, if_passed, table_after_slot, slot_of, table_after_off, off_of, table_after_restart, restart_of}
 use Rattle.bench.specs.Reports.{reports_fit, jobs_on}

@@ -5,9 +5,9 @@ use mathlib.Core.Logic.{◌≢◌}
 use mathlib.Core.Bool.{Bool, true, false}
 use lib.Dec.{eqb}
 use borrow.Author.Tests.{eqb-false}
-use Rattle.refusal.specs.Causes.{cause, number_of}
-use Rattle.node.specs.declared.Answer.{Answer}
-use Rattle.node.specs.declared.Answer.TheVariants.{Done, Refused}
+use Rattle.bench.specs.refusal.Causes.{cause, number_of}
+use Rattle.bench.specs.node.declared.Answer.{Answer}
+use Rattle.bench.specs.node.declared.Answer.TheVariants.{Done, Refused}
 use Rattle.bench.specs.declared.Command.{Command}
 use Rattle.bench.specs.declared.Command.TheVariants as command
 use Rattle.bench.specs.declared.Outcome.{Outcome}

@@ -13,22 +13,22 @@ use borrow.Author.Tests.{eq-eqb, leb-true}
 use Rattle.nodeset.specs.Sums.{num}
 use Rattle.nodeset.specs.Sets.{has, within}
 use Rattle.nodeset.proofs.Tests.{by_cases, chosen, otherwise, all}
-use Rattle.cable.specs.declared.Cable.{Cable}
-use Rattle.cable.specs.Cable.{node_number, cable_fits}
-use Rattle.ring.specs.Ring.{sender}
-use Rattle.cable.proofs.Ranges.{Fits, ring-size, fitting}
-use Rattle.ring_laws.proofs.Senders.{turns-of, sender-range}
-use Rattle.node_reports.specs.Reports.{Row, Counts, no_reports, no_reports_at, counts_within, all_within, counts_with}
-use Rattle.node_reports.proofs.Laws.{counts_each, nodes-each, nodes-all, within_more, none-within-all, heard-within}
-use Rattle.message.specs.declared.Received.{Received}
-use Rattle.message.specs.Message.{jobs_within}
-use Rattle.node_record.specs.declared.Node.{Node}
-use Rattle.node_record.specs.States.{is_out}
-use Rattle.node_record.specs.Soundness.{limit}
-use Rattle.node_record.proofs.Facts.{clauses}
-use Rattle.node.specs.declared.Answer.{Answer}
-use Rattle.node.specs.declared.Answer.TheVariants.{Done, Refused}
-use Rattle.node.specs.Calls.{is_done, hears_report, counts_after}
+use Rattle.bench.specs.cable.declared.Cable.{Cable}
+use Rattle.bench.specs.cable.Cable.{node_number, cable_fits}
+use Rattle.bench.specs.ring.Ring.{sender}
+use Rattle.bench.proofs.cable.Ranges.{Fits, ring-size, fitting}
+use Rattle.bench.proofs.ring_laws.Senders.{turns-of, sender-range}
+use Rattle.bench.specs.node_reports.Reports.{Row, Counts, no_reports, no_reports_at, counts_within, all_within, counts_with}
+use Rattle.bench.proofs.node_reports.Laws.{counts_each, nodes-each, nodes-all, within_more, none-within-all, heard-within}
+use Rattle.bench.specs.message.declared.Received.{Received}
+use Rattle.bench.specs.message.Message.{jobs_within}
+use Rattle.bench.specs.node_record.declared.Node.{Node}
+use Rattle.bench.specs.node_record.States.{is_out}
+use Rattle.bench.specs.node_record.Soundness.{limit}
+use Rattle.bench.proofs.node_record.Facts.{clauses}
+use Rattle.bench.specs.node.declared.Answer.{Answer}
+use Rattle.bench.specs.node.declared.Answer.TheVariants.{Done, Refused}
+use Rattle.bench.specs.node.Calls.{is_done, hears_report, counts_after}
 use Rattle.bench.specs.Table.{Table, record_of, node_count, slots_of, table_sound, speaker}
 use Rattle.bench.specs.Calls.{Called, set_up_of, slot_of, off_of, restart_of}
 use Rattle.bench.specs.Reports.{reports_fit, jobs_on, received_by, reports_after_slot}

@@ -10,23 +10,23 @@ use native.Mathlib.Nat.{add-zero}
 use lib.Dec.{eqb, leb, ltb}
 use lib.ListN.{length, get_or, length-replicate, get_or-replicate}
 use borrow.Author.Tests.{le-leb, eq-eqb}
-use Rattle.refusal.specs.Causes.{cause}
+use Rattle.bench.specs.refusal.Causes.{cause}
 use Rattle.nodeset.specs.Sums.{num}
 use Rattle.nodeset.specs.Sets.{within}
 use Rattle.nodeset.proofs.Tests.{by_cases, chosen, otherwise, both, all}
-use Rattle.cable.specs.declared.Cable.{Cable}
-use Rattle.cable.specs.Cable.{node_number, cable_fits}
-use Rattle.cable.proofs.Ranges.{ring-size, fitting}
-use Rattle.node.specs.Calls.{is_done}
-use Rattle.node_record.specs.declared.Node.{Node}
-use Rattle.node_record.specs.declared.State.{State}
-use Rattle.node_record.specs.declared.State.TheVariants.{Member, Listening, Following, Knocking, Out}
-use Rattle.node_record.specs.States.{is_member, is_out}
-use Rattle.node_record.specs.Soundness.{sound, limit}
-use Rattle.message.specs.Message.{jobs_within}
-use Rattle.node.specs.declared.Answer.{Answer}
-use Rattle.node.specs.declared.Answer.TheVariants.{Done, Refused}
-use Rattle.node.specs.Calls as node
+use Rattle.bench.specs.cable.declared.Cable.{Cable}
+use Rattle.bench.specs.cable.Cable.{node_number, cable_fits}
+use Rattle.bench.proofs.cable.Ranges.{ring-size, fitting}
+use Rattle.bench.specs.node.Calls.{is_done}
+use Rattle.bench.specs.node_record.declared.Node.{Node}
+use Rattle.bench.specs.node_record.declared.State.{State}
+use Rattle.bench.specs.node_record.declared.State.TheVariants.{Member, Listening, Following, Knocking, Out}
+use Rattle.bench.specs.node_record.States.{is_member, is_out}
+use Rattle.bench.specs.node_record.Soundness.{sound, limit}
+use Rattle.bench.specs.message.Message.{jobs_within}
+use Rattle.bench.specs.node.declared.Answer.{Answer}
+use Rattle.bench.specs.node.declared.Answer.TheVariants.{Done, Refused}
+use Rattle.bench.specs.node.Calls as node
 use Rattle.bench.specs.Table.{Table, record_of, node_count, slots_of, table_sound}
 use Rattle.bench.specs.Calls.{Called, set_up_of, slot_of, off_of, restart_of}
 use Rattle.bench.specs.Ledger.{Ledger, Figures, figures, counts_fit, all_fit, ledger_fits, is_leaving, is_joining, figures_after, entries_from, ledger_after}

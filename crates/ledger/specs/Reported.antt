@@ -1,14 +1,14 @@
 -- "Each node keeps, for every node and every job, the number of reports heard from senders in its set as the slot begins, even if that message makes it leave; only set-up clears them" (document 02,
 -- request h). The tally is told by the calls and their tables (bench's specs/Runs), not by the counts. A sequence of calls has THE LATEST FIRST.
 use Rattle.std.specs.Prelude.{ℕ, ◌+◌, ◌-◌, ◌≤◌, ◌≡◌, ◌≢◌, Bool, true, false, cond, ◌&&◌, List, [], ◌∷◌, map, eqb, length, get_or}
-use Rattle.refusal.specs.Causes.{cause}
+use Rattle.bench.specs.refusal.Causes.{cause}
 use Rattle.nodeset.specs.Sums.{num}
 use Rattle.nodeset.specs.Sets.{has}
-use Rattle.cable.specs.declared.Cable.{Cable}
-use Rattle.cable.specs.Cable.{cable_fits}
-use Rattle.node_reports.specs.Reports.{Counts, no_reports_at}
-use Rattle.node_sending.specs.Sending.{jobs_sent}
-use Rattle.node.specs.Calls.{is_done, hears_report}
+use Rattle.bench.specs.cable.declared.Cable.{Cable}
+use Rattle.bench.specs.cable.Cable.{cable_fits}
+use Rattle.bench.specs.node_reports.Reports.{Counts, no_reports_at}
+use Rattle.bench.specs.node_sending.Sending.{jobs_sent}
+use Rattle.bench.specs.node.Calls.{is_done, hears_report}
 use Rattle.bench.specs.declared.Outcome.TheVariants.{Refused}
 use Rattle.bench.specs.Table.{Table, record_of, speaker}
 use Rattle.bench.specs.Calls.{set_up_of, heard_by}

@@ -1,8 +1,8 @@
 -- Sequences of bench calls that keep a ledger (document 02, request a), folded over the definition that the call's contract cites (bench's specs/Kept). A sequence of calls is a list with
 -- THE LATEST FIRST.
 use Rattle.std.specs.Prelude.{ℕ, ◌≡◌, Bool, cond, List, [], ◌∷◌, replicate}
-use Rattle.node_reports.specs.Reports.{Counts}
-use Rattle.node.specs.Calls.{is_done}
+use Rattle.bench.specs.node_reports.Reports.{Counts}
+use Rattle.bench.specs.node.Calls.{is_done}
 use Rattle.bench.specs.declared.Command.{Command}
 use Rattle.bench.specs.declared.Command.TheVariants as command
 use Rattle.bench.specs.Table.{Table}

@@ -1,9 +1,9 @@
 -- "Each figure must equal the tally over the whole history of slots and switchings" (document 02, request a). The tally is told by the calls and their tables (bench's specs/Runs), not by the ledger.
 use Rattle.std.specs.Prelude.{ℕ, ◌+◌, ◌-◌, ◌≤◌, ◌≡◌, ◌≢◌, Bool, true, cond, List, [], ◌∷◌, length, get_or}
 use Rattle.nodeset.specs.Sums.{num}
-use Rattle.refusal.specs.Causes.{cause}
-use Rattle.cable.specs.declared.Cable.{Cable}
-use Rattle.cable.specs.Cable.{cable_fits}
+use Rattle.bench.specs.refusal.Causes.{cause}
+use Rattle.bench.specs.cable.declared.Cable.{Cable}
+use Rattle.bench.specs.cable.Cable.{cable_fits}
 use Rattle.bench.specs.declared.Outcome.TheVariants.{Refused}
 use Rattle.bench.specs.Table.{Table, record_of}
 use Rattle.bench.specs.Calls.{set_up_of}

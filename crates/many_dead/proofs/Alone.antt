@@ -8,22 +8,22 @@ use native.Mathlib.Omega.{arith}
 use lib.Dec.{eqb, lit≤}
 use borrow.Author.Tests as tests
 use borrow.Author.Tests.{eqb-true, eqb-false}
-use Rattle.nodeset.specs.Sets.{has}
-use Rattle.nodeset.proofs.Bits.{has-none}
-use Rattle.nodeset.proofs.Tests.{both}
-use Rattle.cable.specs.declared.Cable.{Cable}
-use Rattle.cable.specs.Cable.{cable_of, lagging_cable, cable_fits}
-use Rattle.ring.specs.Ring.{sender}
-use Rattle.node_record.specs.declared.Node.{Node}
-use Rattle.node_record.specs.declared.State.{State}
-use Rattle.node_record.specs.declared.State.TheVariants.{Member, Out}
-use Rattle.node_record.specs.declared.Cause.TheVariants.{SwitchedOff}
-use Rattle.node_record.specs.States.{is_member}
-use Rattle.node.specs.Calls.{no_node}
-use Rattle.bench.specs.Table.{Table, record_of, slots_of, speaker}
-use Rattle.bench.specs.Calls.{set_up_of, transmits}
-use Rattle.bench.specs.Runs.{Call, slot, off, restart, misses, table_after, entry_on}
-use Rattle.bench.proofs.Computed.{computed}
+use Rattle.agreement.specs.nodeset.Sets.{has}
+use Rattle.agreement.proofs.nodeset.Bits.{has-none}
+use Rattle.agreement.proofs.nodeset.Tests.{both}
+use Rattle.agreement.specs.cable.declared.Cable.{Cable}
+use Rattle.agreement.specs.cable.Cable.{cable_of, lagging_cable, cable_fits}
+use Rattle.agreement.specs.ring.Ring.{sender}
+use Rattle.agreement.specs.node_record.declared.Node.{Node}
+use Rattle.agreement.specs.node_record.declared.State.{State}
+use Rattle.agreement.specs.node_record.declared.State.TheVariants.{Member, Out}
+use Rattle.agreement.specs.node_record.declared.Cause.TheVariants.{SwitchedOff}
+use Rattle.agreement.specs.node_record.States.{is_member}
+use Rattle.agreement.specs.node.Calls.{no_node}
+use Rattle.agreement.specs.bench.Table.{Table, record_of, slots_of, speaker}
+use Rattle.agreement.specs.bench.Calls.{set_up_of, transmits}
+use Rattle.agreement.specs.bench.Runs.{Call, slot, off, restart, misses, table_after, entry_on}
+use Rattle.agreement.proofs.bench.Computed.{computed}
 use Rattle.agreement.specs.Demand.{AtEach, EverySequence}
 use Rattle.agreement.specs.Repeated.{run_by, run_before}
 use Rattle.agreement.proofs.Beginnings.{at-end}

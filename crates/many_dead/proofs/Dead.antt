@@ -9,40 +9,40 @@ use native.Mathlib.Decide.{ℕ_discrete, dec_le, dec_lt}
 use lib.Dec.{eqb}
 use lib.ListN.{length}
 use borrow.Author.Tests.{eq-eqb, ne_eqb}
-use Rattle.nodeset.specs.Sets.{has, full, size}
-use Rattle.nodeset.proofs.Tests.{by_cases, chosen, otherwise}
-use Rattle.nodeset.proofs.Laws.{has-full}
-use Rattle.nodeset.proofs.Counts.{size-le}
-use Rattle.cable.specs.declared.Cable.{Cable}
-use Rattle.cable.specs.Cable.{node_number, cable_fits}
-use Rattle.ring.specs.Ring.{sender, sponsors, sponsored}
-use Rattle.cable.proofs.Ranges.{ring-size, lag-fits, sponsor-count, fitting}
-use Rattle.ring_laws.proofs.Senders.{Turns, turns-of, sender-range, sender-period, its-slot}
-use Rattle.node.specs.Calls.{Stepped, is_done}
-use Rattle.message.specs.declared.Reading.{Reading}
-use Rattle.message.specs.declared.Reading.TheVariants as reading
-use Rattle.node_record.specs.declared.Node.{Node}
-use Rattle.node_record.specs.declared.State.{State}
-use Rattle.node_record.specs.declared.State.TheVariants.{Member, Listening, Following, Knocking, Out}
-use Rattle.node_record.specs.States.{is_member, is_following, is_out}
-use Rattle.node_record.specs.Soundness.{sound, limit}
-use Rattle.node_record.specs.declared.Cause.TheVariants.{SwitchedOff}
-use Rattle.node_changes.specs.Changes.{starting, out_for, counted}
-use Rattle.node_steps.specs.Steps.{is_heard, return_in}
-use Rattle.node_steps.specs.Inner.{inside_slot, outside_slot, slot_by_cases}
-use Rattle.node_steps.specs.Digests.{bits_heard}
-use Rattle.node_steps.proofs.Answers.{At}
-use Rattle.node_steps.proofs.Cases.{slot-inside, slot-outside}
-use Rattle.node_sending.specs.Sending.{sends, bits_sent, return_sent}
-use Rattle.node_slot.specs.Inner.{read_in}
-use Rattle.node.specs.Calls as node
-use Rattle.bench.specs.Table.{Table, record_of, table_sound, node_count, slots_of, speaker}
-use Rattle.bench.specs.Calls.{Called, done, if_passed, set_up_of, transmits, table_after_slot, table_after_off, table_after_restart, restart_of}
-use Rattle.bench.specs.Runs.{Call, slot, off, restart, call_of, is_slot, misses, table_after, Entry, entry}
-use Rattle.bench.proofs.Accepted.{slot-done, slot-refused, off-done, off-refused, off-no-slot, restart-no-slot}
-use Rattle.bench.proofs.Places.{Placed, length-each, slots-of-placed}
-use Rattle.bench.proofs.Choices.{choose}
-use Rattle.bench.proofs.Runs.{after-slot-length, after-off-record, start-placed, start-record, placed-run, never-unsound, run_length, below-limit, slots_next}
+use Rattle.agreement.specs.nodeset.Sets.{has, full, size}
+use Rattle.agreement.proofs.nodeset.Tests.{by_cases, chosen, otherwise}
+use Rattle.agreement.proofs.nodeset.Laws.{has-full}
+use Rattle.agreement.proofs.nodeset.Counts.{size-le}
+use Rattle.agreement.specs.cable.declared.Cable.{Cable}
+use Rattle.agreement.specs.cable.Cable.{node_number, cable_fits}
+use Rattle.agreement.specs.ring.Ring.{sender, sponsors, sponsored}
+use Rattle.agreement.proofs.cable.Ranges.{ring-size, lag-fits, sponsor-count, fitting}
+use Rattle.agreement.proofs.ring_laws.Senders.{Turns, turns-of, sender-range, sender-period, its-slot}
+use Rattle.agreement.specs.node.Calls.{Stepped, is_done}
+use Rattle.agreement.specs.message.declared.Reading.{Reading}
+use Rattle.agreement.specs.message.declared.Reading.TheVariants as reading
+use Rattle.agreement.specs.node_record.declared.Node.{Node}
+use Rattle.agreement.specs.node_record.declared.State.{State}
+use Rattle.agreement.specs.node_record.declared.State.TheVariants.{Member, Listening, Following, Knocking, Out}
+use Rattle.agreement.specs.node_record.States.{is_member, is_following, is_out}
+use Rattle.agreement.specs.node_record.Soundness.{sound, limit}
+use Rattle.agreement.specs.node_record.declared.Cause.TheVariants.{SwitchedOff}
+use Rattle.agreement.specs.node_changes.Changes.{starting, out_for, counted}
+use Rattle.agreement.specs.node_steps.Steps.{is_heard, return_in}
+use Rattle.agreement.specs.node_steps.Inner.{inside_slot, outside_slot, slot_by_cases}
+use Rattle.agreement.specs.node_steps.Digests.{bits_heard}
+use Rattle.agreement.proofs.node_steps.Answers.{At}
+use Rattle.agreement.proofs.node_steps.Cases.{slot-inside, slot-outside}
+use Rattle.agreement.specs.node_sending.Sending.{sends, bits_sent, return_sent}
+use Rattle.agreement.specs.node_slot.Inner.{read_in}
+use Rattle.agreement.specs.node.Calls as node
+use Rattle.agreement.specs.bench.Table.{Table, record_of, table_sound, node_count, slots_of, speaker}
+use Rattle.agreement.specs.bench.Calls.{Called, done, if_passed, set_up_of, transmits, table_after_slot, table_after_off, table_after_restart, restart_of}
+use Rattle.agreement.specs.bench.Runs.{Call, slot, off, restart, call_of, is_slot, misses, table_after, Entry, entry}
+use Rattle.agreement.proofs.bench.Accepted.{slot-done, slot-refused, off-done, off-refused, off-no-slot, restart-no-slot}
+use Rattle.agreement.proofs.bench.Places.{Placed, length-each, slots-of-placed}
+use Rattle.agreement.proofs.bench.Choices.{choose}
+use Rattle.agreement.proofs.bench.Runs.{after-slot-length, after-off-record, start-placed, start-record, placed-run, never-unsound, run_length, below-limit, slots_next}
 use Rattle.agreement.specs.Demand.{AtEach, EverySequence}
 use Rattle.agreement.proofs.Past.{Past, past, entry-is}
 use Rattle.agreement.proofs.Entries.{past-zero, past-old, past-new}

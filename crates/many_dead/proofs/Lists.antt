@@ -6,15 +6,15 @@ use mathlib.Core.Logic.{◌≢◌, ◌⊎◌, inl, inr}
 use mathlib.Core.Bool.{Bool, true, false, cond}
 use native.Mathlib.Omega.{arith}
 use native.Mathlib.Decide.{ℕ_discrete, dec_lt}
-use Rattle.nodeset.specs.Sums.{sum}
-use Rattle.nodeset.specs.Sets.{has, with, without, full, size}
-use Rattle.nodeset.proofs.Tests.{by_cases}
-use Rattle.nodeset.proofs.Sums.{sum-le, sum_first, sum-next, sum-none}
-use Rattle.nodeset.proofs.Laws.{has-full, has-with, has-with-other, has-without, has-without-other}
-use Rattle.cable.specs.declared.Cable.{Cable}
-use Rattle.ring.specs.Ring.{sender, sponsors}
-use Rattle.ring_laws.proofs.Senders.{Turns, sender-range, sender-once, sender-period}
-use Rattle.ring_laws.proofs.Walks as walks
+use Rattle.agreement.specs.nodeset.Sums.{sum}
+use Rattle.agreement.specs.nodeset.Sets.{has, with, without, full, size}
+use Rattle.agreement.proofs.nodeset.Tests.{by_cases}
+use Rattle.agreement.proofs.nodeset.Sums.{sum-le, sum_first, sum-next, sum-none}
+use Rattle.agreement.proofs.nodeset.Laws.{has-full, has-with, has-with-other, has-without, has-without-other}
+use Rattle.agreement.specs.cable.declared.Cable.{Cable}
+use Rattle.agreement.specs.ring.Ring.{sender, sponsors}
+use Rattle.agreement.proofs.ring_laws.Senders.{Turns, sender-range, sender-once, sender-period}
+use Rattle.agreement.proofs.ring_laws.Walks as walks
 use Rattle.agreement.proofs.Backwards.{size-from}
 use Rattle.agreement.proofs.History.{sum_more, num-is, num-isnt}
 use Rattle.agreement.proofs.Marks.{no_both, not-true}

@@ -8,23 +8,23 @@ use native.Mathlib.Decide.{ℕ_discrete}
 use lib.Dec.{eqb, ltb}
 use borrow.Author.Tests as tests
 use borrow.Author.Tests.{eqb-true, eq-eqb, ne_eqb}
-use Rattle.nodeset.specs.Sets.{has, without, size}
-use Rattle.nodeset.proofs.Tests.{by_cases, both, chosen, otherwise}
-use Rattle.nodeset.proofs.Laws.{has-with, has-with-other, has-without, has-without-other}
-use Rattle.nodeset.proofs.Counts.{size-without}
-use Rattle.cable.specs.declared.Cable.{Cable}
-use Rattle.ring.specs.Ring.{sender, member_before, sponsors, sponsored, decided, member_in, is_found}
-use Rattle.ring_laws.proofs.Senders.{Turns, sender-range}
-use Rattle.message.specs.declared.Reading.{Reading}
-use Rattle.node_record.specs.declared.Node.{Node}
-use Rattle.node_record.specs.declared.Cause.TheVariants.{MissedReturn}
-use Rattle.node_record.specs.States.{is_member}
-use Rattle.node_record.specs.Sponsoring.{sponsors_in, decided_in}
-use Rattle.node_changes.specs.Changes.{leave, with_set}
-use Rattle.node_steps.specs.Steps.{is_heard, return_in, marks_after, noted, leaves, too_few, nothing_heard, joins, settle}
-use Rattle.node_steps.specs.Inner.{read_return, read_marked, departing, inside_slot, outside_slot}
-use Rattle.node_steps.specs.Digests.{bits_heard}
-use Rattle.node_steps.proofs.Answers.{At, Told}
+use Rattle.agreement.specs.nodeset.Sets.{has, without, size}
+use Rattle.agreement.proofs.nodeset.Tests.{by_cases, both, chosen, otherwise}
+use Rattle.agreement.proofs.nodeset.Laws.{has-with, has-with-other, has-without, has-without-other}
+use Rattle.agreement.proofs.nodeset.Counts.{size-without}
+use Rattle.agreement.specs.cable.declared.Cable.{Cable}
+use Rattle.agreement.specs.ring.Ring.{sender, member_before, sponsors, sponsored, decided, member_in, is_found}
+use Rattle.agreement.proofs.ring_laws.Senders.{Turns, sender-range}
+use Rattle.agreement.specs.message.declared.Reading.{Reading}
+use Rattle.agreement.specs.node_record.declared.Node.{Node}
+use Rattle.agreement.specs.node_record.declared.Cause.TheVariants.{MissedReturn}
+use Rattle.agreement.specs.node_record.States.{is_member}
+use Rattle.agreement.specs.node_record.Sponsoring.{sponsors_in, decided_in}
+use Rattle.agreement.specs.node_changes.Changes.{leave, with_set}
+use Rattle.agreement.specs.node_steps.Steps.{is_heard, return_in, marks_after, noted, leaves, too_few, nothing_heard, joins, settle}
+use Rattle.agreement.specs.node_steps.Inner.{read_return, read_marked, departing, inside_slot, outside_slot}
+use Rattle.agreement.specs.node_steps.Digests.{bits_heard}
+use Rattle.agreement.proofs.node_steps.Answers.{At, Told}
 use Rattle.agreement.proofs.Marks.{no_both, not-true, WasOff, unmarked, denied, mark-own, mark-of-sender, off-before, on-before}
 use Rattle.many_dead.proofs.Shrinking.{goes, shrunk, shrunk-alike, shrunk-keeps}
 use Rattle.many_dead.proofs.Lists.{marks_next}

@@ -7,21 +7,21 @@ use native.Mathlib.Omega.{arith}
 use native.Mathlib.Decide.{dec_le}
 use borrow.Author.Tests as tests
 use borrow.Author.Tests.{eq-eqb}
-use Rattle.nodeset.specs.Sums.{sum}
-use Rattle.nodeset.specs.Sets.{has, without, size}
-use Rattle.nodeset.proofs.Tests.{by_cases, both}
-use Rattle.nodeset.proofs.Sums.{sum_first, one_place}
-use Rattle.nodeset.proofs.Laws.{has-without-other, without-part}
-use Rattle.nodeset.proofs.Counts.{size-without}
-use Rattle.cable.specs.declared.Cable.{Cable}
-use Rattle.ring.specs.declared.Found.{Found}
-use Rattle.ring.specs.declared.Found.TheVariants as found
-use Rattle.ring.specs.Ring.{sender, sponsors, sponsored, decided, member_in, is_found}
-use Rattle.ring_laws.proofs.Senders.{Turns, sender-range, sender-once}
-use Rattle.ring_laws.proofs.Walks as walks
-use Rattle.ring.proofs.Members.{same-member, sponsored-before, decided-before}
-use Rattle.node_steps.proofs.Answers.{At}
-use Rattle.bench.proofs.Choices.{choose}
+use Rattle.agreement.specs.nodeset.Sums.{sum}
+use Rattle.agreement.specs.nodeset.Sets.{has, without, size}
+use Rattle.agreement.proofs.nodeset.Tests.{by_cases, both}
+use Rattle.agreement.proofs.nodeset.Sums.{sum_first, one_place}
+use Rattle.agreement.proofs.nodeset.Laws.{has-without-other, without-part}
+use Rattle.agreement.proofs.nodeset.Counts.{size-without}
+use Rattle.agreement.specs.cable.declared.Cable.{Cable}
+use Rattle.agreement.specs.ring.declared.Found.{Found}
+use Rattle.agreement.specs.ring.declared.Found.TheVariants as found
+use Rattle.agreement.specs.ring.Ring.{sender, sponsors, sponsored, decided, member_in, is_found}
+use Rattle.agreement.proofs.ring_laws.Senders.{Turns, sender-range, sender-once}
+use Rattle.agreement.proofs.ring_laws.Walks as walks
+use Rattle.agreement.proofs.ring.Members.{same-member, sponsored-before, decided-before}
+use Rattle.agreement.proofs.node_steps.Answers.{At}
+use Rattle.agreement.proofs.bench.Choices.{choose}
 use Rattle.agreement.proofs.Backwards.{Before, before}
 use Rattle.agreement.proofs.History.{num-is}
 use Rattle.agreement.proofs.Marks.{no_both}

@@ -1,15 +1,15 @@
 -- Request g wants "e) and f) together". Here each is taken back alone: f's run is agreement's `run_before`, with one departure step in a slot; e's is this one. And plans, the first line first.
 use Rattle.std.specs.Prelude.{ℕ, false, cond, List, [], ◌∷◌, replicate}
-use Rattle.nodeset.specs.Sets.{has, without}
-use Rattle.message.specs.declared.Reading.{Reading}
-use Rattle.message.specs.declared.Reading.TheVariants as reading
-use Rattle.node_record.specs.declared.Node.{Node}
-use Rattle.node_record.specs.Sponsoring.{sponsors_in}
-use Rattle.node_changes.specs.Changes.{with_marks}
-use Rattle.node_steps.specs.Steps.{is_own, confirmed, heard_return, noted, slot_from}
-use Rattle.bench.specs.Table.{Table}
-use Rattle.bench.specs.Runs.{Call, off}
-use Rattle.bench.specs.Plans.{ok}
+use Rattle.agreement.specs.nodeset.Sets.{has, without}
+use Rattle.agreement.specs.message.declared.Reading.{Reading}
+use Rattle.agreement.specs.message.declared.Reading.TheVariants as reading
+use Rattle.agreement.specs.node_record.declared.Node.{Node}
+use Rattle.agreement.specs.node_record.Sponsoring.{sponsors_in}
+use Rattle.agreement.specs.node_changes.Changes.{with_marks}
+use Rattle.agreement.specs.node_steps.Steps.{is_own, confirmed, heard_return, noted, slot_from}
+use Rattle.agreement.specs.bench.Table.{Table}
+use Rattle.agreement.specs.bench.Runs.{Call, off}
+use Rattle.agreement.specs.bench.Plans.{ok}
 use Rattle.agreement.specs.Repeated.{run_by}
 
 -- ---- the run without request e

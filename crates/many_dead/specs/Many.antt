@@ -1,14 +1,14 @@
 -- Request g: "From a common start let the only failures be nodes that fall silent for good, in any number, with nothing lost or missed and no restart. Let at least two
 -- nodes stay on." A sequence of calls has THE LATEST FIRST.
 use Rattle.std.specs.Prelude.{ℕ, ◌+◌, ◌-◌, ◌≤◌, ◌<◌, ◌≡◌, ◌≢◌, true, false, List}
-use Rattle.nodeset.specs.Sets.{has}
-use Rattle.cable.specs.declared.Cable.{Cable}
-use Rattle.ring.specs.Ring.{sender}
-use Rattle.node.specs.Calls.{is_done}
-use Rattle.node_record.specs.States.{is_member}
-use Rattle.bench.specs.Table.{Table, record_of, slots_of}
-use Rattle.bench.specs.Calls.{transmits}
-use Rattle.bench.specs.Runs.{Call, slot, off, restart, call_of, is_slot, misses, table_after, entry_on}
+use Rattle.agreement.specs.nodeset.Sets.{has}
+use Rattle.agreement.specs.cable.declared.Cable.{Cable}
+use Rattle.agreement.specs.ring.Ring.{sender}
+use Rattle.agreement.specs.node.Calls.{is_done}
+use Rattle.agreement.specs.node_record.States.{is_member}
+use Rattle.agreement.specs.bench.Table.{Table, record_of, slots_of}
+use Rattle.agreement.specs.bench.Calls.{transmits}
+use Rattle.agreement.specs.bench.Runs.{Call, slot, off, restart, call_of, is_slot, misses, table_after, entry_on}
 use Rattle.agreement.specs.Demand.{AtEach, AfterEach, EverySequence}
 
 -- ---- what is assumed

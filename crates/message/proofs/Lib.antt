@@ -7,3 +7,4 @@ pub mod TwoSections
 pub mod OtherCount
 pub mod Places
 pub mod From
+pub use Rattle.cable.proofs as cable

@@ -6,7 +6,7 @@ use mathlib.Core.Bool.{Bool, true, false, ◌&&◌}
 use native.Mathlib.Omega.{arith}
 use lib.ListN.{length}
 use lib.Dec.{eqb, leb, ltb}
-use Rattle.cable.specs.Cable.{job_count}
+use Rattle.message.specs.cable.Cable.{job_count}
 use Rattle.message.specs.declared.Reading.{Reading}
 use Rattle.message.specs.declared.Reading.TheVariants as reading
 use Rattle.message.specs.Message.{Outcome, if_written, in_range, jobs_within, length_of, length_two, write_of}

@@ -6,15 +6,15 @@ use mathlib.Core.Bool.{Bool, true, cond, not, ◌&&◌}
 use mathlib.Core.List.{[]}
 use lib.Dec.{eqb, leb}
 use borrow.Author.Tests.{leb-true}
-use Rattle.nodeset.specs.Sets.{has}
-use Rattle.nodeset.proofs.Tests.{both}
+use Rattle.ring.specs.nodeset.Sets.{has}
+use Rattle.ring.proofs.nodeset.Tests.{both}
 use Rattle.ring.specs.Ring.{sender}
 use Rattle.cable.proofs.Ranges.{node-number}
-use Rattle.ring_laws.proofs.Senders.{turns-of, sender-range}
+use Rattle.node_record.proofs.ring_laws.Senders.{turns-of, sender-range}
 use Rattle.row.specs.declared.Row.{Row}
 use Rattle.row.specs.Rows.{row_for, nodes_in}
 use Rattle.row.specs.Inner.{has_row}
-use Rattle.row_laws.proofs.Laws.{empty-row}
+use Rattle.node_record.proofs.row_laws.Laws.{empty-row}
 use Rattle.message.specs.declared.Reading.{Reading}
 use Rattle.node_record.specs.declared.Node.{Node}
 use Rattle.node_record.specs.declared.Held.{Held}

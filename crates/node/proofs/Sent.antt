@@ -11,7 +11,7 @@ use borrow.Author.Tests.{le-leb, lt-leb, lt-ltb, leb-false}
 use Rattle.refusal.specs.declared.Refusal.{Refusal}
 use Rattle.refusal.specs.declared.Refusal.TheVariants.{Unsound, SlotLimit, SpareBit, NotItsSlot}
 use Rattle.refusal.specs.Causes.{number_of}
-use Rattle.nodeset.proofs.Tests.{all, by_cases}
+use Rattle.ring.proofs.nodeset.Tests.{all, by_cases}
 use Rattle.cable.proofs.Ranges.{ring-size, sponsor-count}
 use Rattle.message.specs.declared.Written.{Written}
 use Rattle.message.specs.declared.Written.TheVariants.{Bytes, Refused}

@@ -10,12 +10,12 @@ use borrow.Author.Tests.{le-leb, leb-false}
 use Rattle.refusal.specs.declared.Refusal.{Refusal}
 use Rattle.refusal.specs.declared.Refusal.TheVariants.{NodeNumber}
 use Rattle.refusal.specs.Causes.{cause}
-use Rattle.nodeset.proofs.Tests.{by_cases, both}
+use Rattle.ring.proofs.nodeset.Tests.{by_cases, both}
 use Rattle.cable.specs.declared.Cable.{Cable}
 use Rattle.cable.specs.Cable.{cable_fits, may_set_up, node_number, fault_of}
 use Rattle.ring.specs.Ring.{sender}
 use Rattle.cable.proofs.Ranges.{fitting}
-use Rattle.ring_laws.proofs.Senders.{turns-of, sender-range}
+use Rattle.node_record.proofs.ring_laws.Senders.{turns-of, sender-range}
 use Rattle.message.specs.declared.Received.{Received}
 use Rattle.node_reports.specs.Reports.{Counts, counts_within}
 use Rattle.message.specs.declared.Reading.{Reading}

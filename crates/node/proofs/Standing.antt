@@ -6,8 +6,8 @@ use native.Mathlib.Omega.{arith}
 use mathlib.Core.List.{List}
 use lib.Dec.{leb}
 use lib.ListN.{length}
-use Rattle.nodeset.proofs.Tests.{by_cases, chosen, otherwise}
-use Rattle.slot_table.proofs.Numbers.{plain-kept}
+use Rattle.ring.proofs.nodeset.Tests.{by_cases, chosen, otherwise}
+use Rattle.cable.proofs.slot_table.Numbers.{plain-kept}
 use Rattle.cable.specs.declared.Choices.{Choices}
 use Rattle.cable.specs.declared.Cable.{Cable}
 use Rattle.cable.specs.Cable.{cable_with, node_number, may_set_up, fault_of}

@@ -3,7 +3,7 @@
 -- it, and leaves the bytes, as they came.
 use Rattle.std.specs.Prelude.{ℕ, ◌+◌, List, Bool, true, false, cond, not, ◌&&◌, eqb, leb, length}
 use Rattle.refusal.specs.Causes.{cause}
-use Rattle.nodeset.specs.Sets.{has}
+use Rattle.ring.specs.nodeset.Sets.{has}
 use Rattle.cable.specs.declared.Choices.{Choices}
 use Rattle.cable.specs.declared.Cable.{Cable}
 use Rattle.cable.specs.Cable.{cable_of, cable_with, may_set_up, node_number, fault_of}

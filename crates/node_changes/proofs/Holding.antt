@@ -4,7 +4,7 @@ use mathlib.Core.Path.{◌≡◌, refl, sym, ap, ◌∙◌}
 use mathlib.Core.Bool.{Bool, true, false, cond}
 use Rattle.cable.specs.declared.Cable.{Cable}
 use Rattle.row.specs.declared.Row.{Row}
-use Rattle.row_laws.proofs.Laws.{empty-row}
+use Rattle.node_record.proofs.row_laws.Laws.{empty-row}
 use Rattle.node_record.specs.declared.Node.{Node}
 use Rattle.node_record.specs.declared.Held.{Held}
 use Rattle.node_record.specs.declared.Cause.{Cause}

@@ -9,7 +9,7 @@ use borrow.Author.Tests.{eqb-true, eqb-false, eq-eqb, ne_eqb, ltb-true}
 use Rattle.nodeset.specs.Sets.{has, within, subset, size}
 use Rattle.nodeset.proofs.Tests.{by_cases, both, chosen}
 use Rattle.nodeset.proofs.Counts.{size_none, size-zero}
-use Rattle.slot_table.specs.Order.{is_kept}
+use Rattle.cable.specs.slot_table.Order.{is_kept}
 use Rattle.cable.specs.declared.Cable.{Cable}
 use Rattle.cable.specs.Cable.{cable_fits}
 use Rattle.cable.proofs.Ranges.{fitting}

@@ -1,7 +1,7 @@
 -- What the rules ask of the ring (ring's specs/Ring), by a record's cable and set.
 use Rattle.std.specs.Prelude.{ℕ}
-use Rattle.ring.specs.declared.Found.{Found}
-use Rattle.ring.specs.Ring.{sponsors, sponsored, decided}
+use Rattle.row.specs.ring.declared.Found.{Found}
+use Rattle.row.specs.ring.Ring.{sponsors, sponsored, decided}
 use Rattle.node_record.specs.declared.Node.{Node}
 
 -- How many others a member sponsors: document 01's ks.

@@ -4,8 +4,8 @@ use mathlib.Core.Path.{◌≡◌, refl, ap, ap₂, ◌∙◌}
 use mathlib.Core.Bool.{true, cond}
 use native.Mathlib.Omega.{arith}
 use Rattle.nodeset.specs.Sets.{has, with_if}
-use Rattle.slot_table.specs.Order.{is_kept}
-use Rattle.row_laws.proofs.Sponsored.{sponsors-row, sponsored-row}
+use Rattle.row.specs.slot_table.Order.{is_kept}
+use Rattle.node_record.proofs.row_laws.Sponsored.{sponsors-row, sponsored-row}
 use Rattle.node_record.specs.declared.Node.{Node}
 use Rattle.node_record.specs.Held.{rowed}
 use Rattle.node_record.specs.Sponsoring.{sponsors_in}

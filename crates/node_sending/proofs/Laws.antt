@@ -10,7 +10,7 @@ use Rattle.nodeset.specs.Sets.{has, with}
 use Rattle.nodeset.proofs.Tests.{by_cases, chosen, otherwise}
 use Rattle.nodeset.proofs.Bits.{has-beyond}
 use Rattle.nodeset.proofs.Laws.{has-with, has-with-other, with-lt}
-use Rattle.ring.specs.Ring.{member_in, sponsors}
+use Rattle.row.specs.ring.Ring.{member_in, sponsors}
 use Rattle.node_record.specs.declared.Node.{Node}
 use Rattle.node_record.specs.Sponsoring.{sponsors_in, sponsored_in}
 use Rattle.node_record.specs.States.{is_member}

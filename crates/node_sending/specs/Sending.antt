@@ -1,7 +1,7 @@
 -- What a node sends in its own slot (document 01, end of "One slot").
 use Rattle.std.specs.Prelude.{ℕ, zero, suc, Bool, cond, not, ◌&&◌, ◌||◌, eqb}
 use Rattle.nodeset.specs.Sets.{has, with_if}
-use Rattle.ring.specs.Ring.{member_in}
+use Rattle.row.specs.ring.Ring.{member_in}
 use Rattle.node_record.specs.declared.Node.{Node}
 use Rattle.node_record.specs.Sponsoring.{sponsors_in, sponsored_in}
 use Rattle.node_record.specs.States.{is_member, is_following}

@@ -8,10 +8,10 @@ use lib.Dec.{eqb}
 use lib.Pow.{pow_mono}
 use borrow.Author.Tests.{ltb-true}
 use Rattle.refusal.specs.declared.Refusal.TheVariants.{MessageLength}
-use Rattle.nodeset.specs.Sets.{within, subset}
-use Rattle.nodeset.proofs.Tests.{both}
-use Rattle.cable.specs.declared.Cable.{Cable}
-use Rattle.cable.proofs.Ranges.{ring-size, node-number}
+use Rattle.node_record.specs.nodeset.Sets.{within, subset}
+use Rattle.node_record.proofs.nodeset.Tests.{both}
+use Rattle.message.specs.cable.declared.Cable.{Cable}
+use Rattle.message.proofs.cable.Ranges.{ring-size, node-number}
 use Rattle.message.specs.declared.Reading.{Reading}
 use Rattle.message.specs.declared.Reading.TheVariants as reading
 use Rattle.node_record.specs.declared.Node.{Node}

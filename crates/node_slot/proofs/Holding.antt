@@ -2,13 +2,13 @@
 use Prim.Native.Nat.{ℕ, ◌≤◌, ◌<◌, ◌^◌}
 use mathlib.Core.Path.{◌≡◌, refl, sym, ap, ◌∙◌}
 use mathlib.Core.Bool.{true}
-use Rattle.cable.specs.declared.Cable.{Cable}
-use Rattle.row.specs.Rows.{as_row}
+use Rattle.message.specs.cable.declared.Cable.{Cable}
+use Rattle.node_record.specs.row.Rows.{as_row}
 use Rattle.message.specs.declared.Reading.{Reading}
 use Rattle.node_record.specs.declared.Node.{Node}
 use Rattle.node_record.specs.States.{is_out, is_listening}
 use Rattle.node_record.specs.Held.{rowed}
-use Rattle.node_changes.proofs.Holding.{either_held}
+use Rattle.node_steps.proofs.node_changes.Holding.{either_held}
 use Rattle.node_steps.specs.Steps.{is_heard}
 use Rattle.node_steps.specs.declared.Digest as row
 use Rattle.node_steps.specs.Digests.{Digest, tracking_by}

@@ -4,7 +4,7 @@ use mathlib.Core.Path.{◌≡◌, refl, sym, ap, ◌∙◌}
 use mathlib.Core.Logic.{◌≢◌}
 use lib.Dec.{eqb}
 use borrow.Author.Tests.{eqb-false}
-use Rattle.nodeset.proofs.Tests.{by_cases, otherwise}
+use Rattle.node_record.proofs.nodeset.Tests.{by_cases, otherwise}
 use Rattle.message.specs.declared.Reading.{Reading}
 use Rattle.message.specs.declared.Reading.TheVariants as reading
 use Rattle.message.proofs.From.{FromOther}

@@ -7,9 +7,9 @@ use native.Mathlib.Decide.{ℕ_discrete}
 use borrow.Author.Tests.{eqb-true, eq-eqb}
 use Rattle.nodeset.specs.Sets.{has}
 use Rattle.nodeset.proofs.Tests.{by_cases, both, all, or_left, or_right, or_else}
-use Rattle.ring.specs.declared.Found.{Found}
-use Rattle.ring.specs.declared.Found.TheVariants as found
-use Rattle.ring.specs.Ring.{is_found}
+use Rattle.row.specs.ring.declared.Found.{Found}
+use Rattle.row.specs.ring.declared.Found.TheVariants as found
+use Rattle.row.specs.ring.Ring.{is_found}
 use Rattle.node_record.specs.declared.Node.{Node}
 use Rattle.node_record.specs.Sponsoring.{sponsored_in}
 use Rattle.node_steps.specs.Steps.{says_so, says}

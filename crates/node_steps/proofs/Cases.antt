@@ -6,9 +6,9 @@ use lib.Dec.{eqb}
 use borrow.Author.Tests.{eqb-true, eq-eqb, ne_eqb}
 use Rattle.nodeset.specs.Sets.{has, without}
 use Rattle.nodeset.proofs.Tests.{by_cases, chosen, otherwise}
-use Rattle.ring.specs.declared.Found.{Found}
-use Rattle.ring.specs.declared.Found.TheVariants as found
-use Rattle.ring.specs.Ring.{member_in, is_found}
+use Rattle.row.specs.ring.declared.Found.{Found}
+use Rattle.row.specs.ring.declared.Found.TheVariants as found
+use Rattle.row.specs.ring.Ring.{member_in, is_found}
 use Rattle.message.specs.declared.Reading.{Reading}
 use Rattle.message.specs.declared.Reading.TheVariants as reading
 use Rattle.message.proofs.From.{FromOther}

@@ -13,10 +13,10 @@ use Rattle.nodeset.proofs.Tests.{by_cases, chosen, otherwise}
 use Rattle.nodeset.proofs.Bits.{has-none}
 use Rattle.nodeset.proofs.Laws.{has-with, has-with-other, with-lt-32, union-with}
 use Rattle.cable.specs.declared.Cable.{Cable}
-use Rattle.ring.specs.declared.Found.{Found}
-use Rattle.ring.specs.declared.Found.TheVariants as found
-use Rattle.ring.specs.Ring.{sponsors, sponsored, decided, member_in, is_found}
-use Rattle.ring.proofs.Members.{sponsored-member}
+use Rattle.row.specs.ring.declared.Found.{Found}
+use Rattle.row.specs.ring.declared.Found.TheVariants as found
+use Rattle.row.specs.ring.Ring.{sponsors, sponsored, decided, member_in, is_found}
+use Rattle.row.proofs.ring.Members.{sponsored-member}
 use Rattle.message.specs.declared.Reading.{Reading}
 use Rattle.message.specs.declared.Reading.TheVariants as reading
 use Rattle.message.proofs.From.{FromOther}

@@ -8,16 +8,16 @@ use lib.Dec.{eqb, ltb}
 use borrow.Author.Tests.{eqb-false, ne_eqb}
 use Rattle.nodeset.specs.Sets.{has, with, with_if, without}
 use Rattle.nodeset.proofs.Tests.{by_cases}
-use Rattle.slot_table.specs.Order.{is_kept}
+use Rattle.cable.specs.slot_table.Order.{is_kept}
 use Rattle.cable.specs.declared.Cable.{Cable}
-use Rattle.ring.specs.declared.Found.{Found}
-use Rattle.ring.specs.declared.Found.TheVariants as found
-use Rattle.ring.specs.Ring.{sponsors, decided, member_before, member_in, is_found}
+use Rattle.row.specs.ring.declared.Found.{Found}
+use Rattle.row.specs.ring.declared.Found.TheVariants as found
+use Rattle.row.specs.ring.Ring.{sponsors, decided, member_before, member_in, is_found}
 use Rattle.row.specs.declared.Row.{Row}
 use Rattle.row.specs.Rows.{as_row}
 use Rattle.row.specs.Sponsoring.{decided_row}
-use Rattle.row_laws.proofs.Laws.{has-row, size-row, with-row, without-row, before-row, same-row}
-use Rattle.row_laws.proofs.Sponsored.{sponsors-row, sponsored-row, decided-row}
+use Rattle.node_record.proofs.row_laws.Laws.{has-row, size-row, with-row, without-row, before-row, same-row}
+use Rattle.node_record.proofs.row_laws.Sponsored.{sponsors-row, sponsored-row, decided-row}
 use Rattle.message.specs.declared.Reading.{Reading}
 use Rattle.message.specs.declared.Reading.TheVariants as reading
 use Rattle.node_record.specs.declared.Node.{Node}

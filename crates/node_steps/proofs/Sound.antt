@@ -12,12 +12,12 @@ use Rattle.nodeset.specs.Sets.{has, with, without, size}
 use Rattle.nodeset.proofs.Tests.{by_cases, both, all, or_else}
 use Rattle.nodeset.proofs.Laws.{has-with, has-with-other, has-without, has-without-other, with-lt, without-lt, has-range}
 use Rattle.nodeset.proofs.Counts.{size-with}
-use Rattle.ring.specs.declared.Found.{Found}
-use Rattle.ring.specs.declared.Found.TheVariants as found
+use Rattle.row.specs.ring.declared.Found.{Found}
+use Rattle.row.specs.ring.declared.Found.TheVariants as found
 use Rattle.cable.specs.Cable.{node_number}
-use Rattle.ring.specs.Ring.{member_in, is_found}
+use Rattle.row.specs.ring.Ring.{member_in, is_found}
 use Rattle.cable.proofs.Ranges.{ring-size, node-number}
-use Rattle.ring.proofs.Members.{sponsored-member}
+use Rattle.row.proofs.ring.Members.{sponsored-member}
 use Rattle.message.specs.declared.Reading.{Reading}
 use Rattle.message.specs.declared.Reading.TheVariants as reading
 use Rattle.node_record.specs.declared.Node.{Node}

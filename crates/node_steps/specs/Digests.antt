@@ -2,7 +2,7 @@
 use Rattle.std.specs.Prelude.{ℕ, zero, suc, Bool, true, false, cond, not, ◌&&◌, ◌||◌, eqb}
 use Rattle.nodeset.specs.Sets.{has, with, with_if, without, union}
 use Rattle.cable.specs.declared.Cable.{Cable}
-use Rattle.ring.specs.Ring.{sponsors, sponsored, decided, member_in}
+use Rattle.row.specs.ring.Ring.{sponsors, sponsored, decided, member_in}
 use Rattle.message.specs.declared.Reading.{Reading}
 use Rattle.message.specs.declared.Reading.TheVariants as reading
 use Rattle.node_record.specs.declared.Node.{Node}

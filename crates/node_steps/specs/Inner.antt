@@ -2,7 +2,7 @@
 -- reading, so that no return bit is heard in it. The law is `slot-by-cases` in proofs/Cases.
 use Rattle.std.specs.Prelude.{ℕ, zero, suc, Bool, true, false, cond, ◌&&◌, ◌||◌, eqb}
 use Rattle.nodeset.specs.Sets.{has, without}
-use Rattle.ring.specs.Ring.{member_in}
+use Rattle.row.specs.ring.Ring.{member_in}
 use Rattle.message.specs.declared.Reading.{Reading}
 use Rattle.node_record.specs.declared.Node.{Node}
 use Rattle.node_record.specs.States.{is_knocking, leaving_cause}

@@ -3,7 +3,7 @@
 -- Acknowledgement bits are a set of numbers: bit j is 1 where j is in it.
 use Rattle.std.specs.Prelude.{ℕ, zero, suc, Bool, true, false, cond, not, ◌&&◌, ◌||◌, eqb, ltb}
 use Rattle.nodeset.specs.Sets.{has, with, without, size}
-use Rattle.ring.specs.Ring.{member_before, member_in, is_found}
+use Rattle.row.specs.ring.Ring.{member_before, member_in, is_found}
 use Rattle.message.specs.declared.Reading.{Reading}
 use Rattle.message.specs.declared.Reading.TheVariants as reading
 use Rattle.node_record.specs.declared.Node.{Node}

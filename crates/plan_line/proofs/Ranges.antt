@@ -7,7 +7,7 @@ use mathlib.Core.List.{List}
 use Rattle.refusal.specs.declared.Refusal.{Refusal}
 use Rattle.refusal.specs.declared.Refusal.TheVariants.{PlanLine, RingSize, SponsorCount}
 use Rattle.cable.specs.Cable.{cable_of, ring_size, sponsor_count, cable_fits}
-use Rattle.slot_table.proofs.Numbers.{plain-kept}
+use Rattle.cable.proofs.slot_table.Numbers.{plain-kept}
 use Rattle.cable.proofs.Ranges.{ring-size, fits_by}
 use Rattle.plan_line.specs.declared.Opening.{Opening}
 use Rattle.plan_line.specs.declared.Opening.TheVariants as opening

@@ -1,5 +1,5 @@
 -- All the definitions that a text printed on sets (specs/OnSets) is computed from, but those of the bench's runs, to be unfolded together by the line `unfolding printing`.
-use Rattle.slot_table.specs.Order.{kept}
+use Rattle.node_record.specs.slot_table.Order.{kept}
 use Rattle.bench.specs.Calls.{set_up_given}
 use Rattle.bench.specs.Outcomes.{ended_of}
 use Rattle.plan_line.specs.Words.{gap, parted, begins, all_digits, is_number, value_from}

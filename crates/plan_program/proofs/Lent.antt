@@ -10,17 +10,17 @@ use lib.ListN.{length, take, drop, drop_of_length-le, length-take, length-replic
 use lib.Seq.{take_all}
 use borrow.Author.Tests.{le-ltb, lt-ltb}
 use Rattle.refusal.specs.declared.Refusal.TheVariants.{PlanLine}
-use Rattle.cable.proofs.Ranges.{ring-size, fitting}
-use Rattle.cable.specs.Cable.{cable_of}
+use Rattle.node_record.proofs.cable.Ranges.{ring-size, fitting}
+use Rattle.node_record.specs.cable.Cable.{cable_of}
 use Rattle.node_record.specs.declared.Held.{Held}
 use Rattle.node_record.specs.Held.{rowed}
-use Rattle.node.specs.Calls.{no_node}
+use Rattle.bench.specs.node.Calls.{no_node}
 use Rattle.bench.specs.Table.{table_sound}
 use Rattle.bench.specs.Held.{HeldTable}
 use Rattle.bench.proofs.Standing.{length-setted}
 use Rattle.bench.specs.declared.Outcome.{Outcome}
 use Rattle.bench.specs.declared.Outcome.TheVariants as outcome
-use Rattle.bench_orders.specs.Orders.{carried_from}
+use Rattle.plan_run.specs.bench_orders.Orders.{carried_from}
 use Rattle.bench_by_value.specs.ByValue.{Rows, table_of}
 use Rattle.plan_line.specs.declared.Opening.{Opening}
 use Rattle.plan_line.specs.declared.Opening.TheVariants as opening

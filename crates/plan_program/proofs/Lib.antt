@@ -7,3 +7,5 @@ pub mod Tables
 pub mod OnSets
 pub mod Pieces
 pub mod Computed
+pub use Rattle.bench.proofs as bench
+pub use Rattle.bench_by_value.proofs.ledger as ledger

@@ -7,11 +7,11 @@ use native.Mathlib.Omega.{arith}
 use lib.Dec.{eqb}
 use lib.Pow.{pow_pos}
 use lib.ListN.{take, replicate}
-use Rattle.nodeset.proofs.Tests.{by_cases}
-use Rattle.slot_table.proofs.Numbers.{plain-kept}
+use Rattle.node_record.proofs.nodeset.Tests.{by_cases}
+use Rattle.node_record.proofs.slot_table.Numbers.{plain-kept}
 use Rattle.node_record.specs.Held.{rowed, setted}
 use Rattle.node_record.proofs.Holding.{set-kept}
-use Rattle.node.specs.Calls.{no_node}
+use Rattle.bench.specs.node.Calls.{no_node}
 use Rattle.bench.specs.Table.{Table, table_sound}
 use Rattle.bench.specs.Calls.{Called}
 use Rattle.bench.specs.Outcomes.{ended_of}

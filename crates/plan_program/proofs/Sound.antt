@@ -10,19 +10,19 @@ use lib.Dec.{eqb, ltb}
 use lib.ListN.{length, take, drop, drop_of_length-le, length-map, length-take, length-replicate}
 use lib.Seq.{take_all, take_at}
 use borrow.Author.Tests.{ne_eqb, ltb-false}
-use Rattle.nodeset.proofs.Tests.{by_cases}
-use Rattle.cable.specs.Cable.{cable_of, cable_fits}
-use Rattle.cable.proofs.Ranges.{ring-size, fitting}
+use Rattle.node_record.proofs.nodeset.Tests.{by_cases}
+use Rattle.node_record.specs.cable.Cable.{cable_of, cable_fits}
+use Rattle.node_record.proofs.cable.Ranges.{ring-size, fitting}
 use Rattle.node_record.specs.Held.{rowed}
-use Rattle.node.specs.declared.Answer.{Answer}
-use Rattle.node.specs.declared.Answer.TheVariants as answer
+use Rattle.bench.specs.node.declared.Answer.{Answer}
+use Rattle.bench.specs.node.declared.Answer.TheVariants as answer
 use Rattle.bench.specs.Calls.{Called, set_up_of, slot_of, off_of, restart_of}
 use Rattle.bench.specs.Kept.{if_done}
 use Rattle.bench.specs.Held.{HeldTable, rowed_all, setted_all, held_by}
 use Rattle.bench.specs.declared.Command.TheVariants as command
 use Rattle.bench.proofs.Ledgers.{given-none}
 use Rattle.plan_run.specs.declared.Act.TheVariants as act
-use Rattle.node.specs.Calls.{no_node}
+use Rattle.bench.specs.node.Calls.{no_node}
 use Rattle.bench.specs.Table.{Table, record_of, slots_of, table_sound}
 use Rattle.bench.specs.Outcomes.{ended_of, slot_given}
 use Rattle.bench.specs.Runs.{Call, slot, off, restart, call_of, table_after}

@@ -4,7 +4,7 @@ use mathlib.Core.Path.{◌≡◌, refl, sym, ap, ◌∙◌}
 use mathlib.Core.Bool.{Bool, true, false, cond}
 use mathlib.Core.List.{List, [], ◌∷◌, ◌++◌}
 use lib.Dec.{eqb}
-use Rattle.node.specs.declared.Answer.TheVariants.{Refused}
+use Rattle.bench.specs.node.declared.Answer.TheVariants.{Refused}
 use Rattle.bench.specs.Table.{Table}
 use Rattle.bench.specs.Runs.{Call, table_after}
 use Rattle.bench_by_value.specs.ByValue as by_value

@@ -7,10 +7,10 @@ use native.Mathlib.Omega.{arith}
 use lib.Dec.{eqb, ltb}
 use lib.ListN.{length, take, drop}
 use borrow.Author.Tests.{ltb-true, ltb-false}
-use Rattle.nodeset.proofs.Tests.{by_cases}
+use Rattle.node_record.proofs.nodeset.Tests.{by_cases}
 use Rattle.node_record.specs.declared.Held.{Held}
 use Rattle.bench.specs.declared.Outcome.{Outcome}
-use Rattle.bench_orders.specs.Orders.{carried_from}
+use Rattle.plan_run.specs.bench_orders.Orders.{carried_from}
 use Rattle.bench_by_value.specs.ByValue.{Rows}
 use Rattle.plan_run.specs.declared.Act.{Act}
 use Rattle.plan_run.specs.Inner.{errand_on, outcome_on}

@@ -1,7 +1,7 @@
 -- Document 02, request l: "The bench must show the same digits and the same bytes as the old layout did." What is printed of a plan text where the bench is a table of the rules, with sets: the definitions of
 -- specs/Program, and no row is held. `ShownAsBefore`: the program prints just this.
 use Rattle.std.specs.Prelude.{ℕ, ◌≡◌, Bool, true, false, cond, List, [], ◌∷◌, ◌++◌, eqb, length, take, replicate}
-use Rattle.node.specs.Calls.{no_node}
+use Rattle.bench.specs.node.Calls.{no_node}
 use Rattle.bench.specs.Table.{Table}
 use Rattle.bench.specs.Outcomes.{ended_of}
 use Rattle.bench.specs.declared.Command.TheVariants as command

@@ -1,6 +1,6 @@
 -- The run behind `printed` is a run of bench calls (bench's specs/Runs): after each line the table is the one that the lines' calls leave.
 use Rattle.std.specs.Prelude.{ℕ, ◌≡◌, true, false, cond, List, [], ◌∷◌, ◌++◌}
-use Rattle.cable.specs.Cable.{cable_of}
+use Rattle.node_record.specs.cable.Cable.{cable_of}
 use Rattle.bench.specs.Table.{Table}
 use Rattle.bench.specs.Calls.{set_up_of}
 use Rattle.bench.specs.Runs.{Call, slot, off, restart, table_after}

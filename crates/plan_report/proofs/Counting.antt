@@ -14,7 +14,7 @@ use Rattle.node_record.specs.States.{is_member}
 use Rattle.bench.specs.Table.{node_count}
 use Rattle.bench.specs.Held.{setted_all}
 use Rattle.bench.proofs.Standing.{length-setted}
-use Rattle.bench_by_value.specs.ByValue.{table_of}
+use Rattle.plan_program.specs.bench_by_value.ByValue.{table_of}
 use Rattle.plan_report.specs.Figures.{members_in}
 
 pub num-few : (b : Bool) → num b ≤ 1

@@ -5,3 +5,5 @@ pub mod Told
 pub mod Summed
 pub mod Plans
 pub mod Pieces
+pub use Rattle.plan_program.proofs.ledger as ledger
+pub use Rattle.plan_program.proofs as plan_program

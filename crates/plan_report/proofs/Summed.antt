@@ -10,7 +10,7 @@ use borrow.Author.Tests.{leb-true}
 use Rattle.nodeset.specs.Sums.{num}
 use Rattle.nodeset.proofs.Counts.{size-le}
 use Rattle.nodeset.proofs.Tests.{by_cases}
-use Rattle.cable.proofs.Ranges.{ring-size}
+use Rattle.node_record.proofs.cable.Ranges.{ring-size}
 use Rattle.node_record.specs.Soundness.{limit}
 use Rattle.node_record.specs.States.{is_member}
 use Rattle.node_record.proofs.Facts.{clauses}
@@ -26,12 +26,12 @@ use Rattle.bench.specs.Runs.{Call, slot, off, restart, call_of, is_slot, list_of
 use Rattle.bench.proofs.Ledgers.{given-none}
 use Rattle.bench.proofs.Places.{InPlace, sound-placed, slots-of-placed}
 use Rattle.bench.proofs.Runs.{placed-call}
-use Rattle.bench_by_value.specs.ByValue as by_value
-use Rattle.bench_by_value.specs.ByValue.{Rows, table_of}
+use Rattle.plan_program.specs.bench_by_value.ByValue as by_value
+use Rattle.plan_program.specs.bench_by_value.ByValue.{Rows, table_of}
 use Rattle.plan_line.specs.declared.Line.{Line}
 use Rattle.plan_line.specs.declared.Line.TheVariants as lines
 use Rattle.plan_line.specs.Plan.{line_of}
-use Rattle.plan_run.specs.Run.{act_of, ran_by}
+use Rattle.plan_program.specs.plan_run.Run.{act_of, ran_by}
 use Rattle.plan_program.specs.declared.Plan.{Plan}
 use Rattle.plan_program.specs.Program.{after_line, is_refused, no_plan}
 use Rattle.plan_program.specs.Calls.{plan_sound}

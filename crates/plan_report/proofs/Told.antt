@@ -9,19 +9,19 @@ use Rattle.node.specs.declared.Answer.{Answer}
 use Rattle.node.specs.declared.Answer.TheVariants as answer
 use Rattle.bench.specs.Table.{Table, table_sound}
 use Rattle.bench.specs.declared.Outcome.{Outcome}
-use Rattle.slot_table.specs.Order.{numbers_from}
+use Rattle.node_record.specs.slot_table.Order.{numbers_from}
 use Rattle.bench.specs.Calls.{Called, off_of, restart_of, set_up_given}
 use Rattle.bench.specs.Outcomes.{ended_of, quiet_outcome, slot_given, slot_outcome}
 use Rattle.bench.specs.Runs.{list_of}
-use Rattle.bench_by_value.specs.ByValue as by_value
-use Rattle.bench_by_value.specs.ByValue.{Rows, table_of}
+use Rattle.plan_program.specs.bench_by_value.ByValue as by_value
+use Rattle.plan_program.specs.bench_by_value.ByValue.{Rows, table_of}
 use Rattle.plan_line.specs.declared.Line.{Line}
 use Rattle.plan_line.specs.declared.Line.TheVariants as lines
 use Rattle.plan_line.specs.declared.Opening.{Opening}
 use Rattle.plan_line.specs.declared.Opening.TheVariants as opening
 use Rattle.plan_line.specs.Plan.{line_of, opening_of}
 use Rattle.plan_text.specs.Text.{next_line}
-use Rattle.plan_run.specs.Run.{act_of, choices_of, no_rows, opened_by, ran_by}
+use Rattle.plan_program.specs.plan_run.Run.{act_of, choices_of, no_rows, opened_by, ran_by}
 use Rattle.plan_program.specs.declared.Plan.{Plan}
 use Rattle.plan_program.specs.Program.{after_line, plan_opened, plan_ran}
 use Rattle.plan_program.specs.Calls.{plan_sound}

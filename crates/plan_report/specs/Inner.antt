@@ -7,7 +7,7 @@ use Rattle.bench.specs.declared.Outcome.{Outcome}
 use Rattle.bench.specs.declared.Outcome.TheVariants as outcome
 use Rattle.bench.specs.Table.{node_count}
 use Rattle.bench.specs.Runs.{set_in}
-use Rattle.bench_by_value.specs.ByValue.{table_of}
+use Rattle.plan_program.specs.bench_by_value.ByValue.{table_of}
 use Rattle.plan_text.specs.Text.{PutFew}
 use Rattle.plan_program.specs.declared.Plan.{Plan}
 use Rattle.plan_report.specs.declared.Figures.{Figures}

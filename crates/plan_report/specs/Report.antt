@@ -5,7 +5,7 @@ use Rattle.node.specs.Calls.{is_done}
 use Rattle.bench.specs.declared.Outcome.{Outcome}
 use Rattle.bench.specs.declared.Outcome.TheVariants as outcome
 use Rattle.bench.specs.Table.{Table}
-use Rattle.bench_by_value.specs.ByValue.{table_of}
+use Rattle.plan_program.specs.bench_by_value.ByValue.{table_of}
 use Rattle.plan_line.specs.Words.{bytes, same}
 use Rattle.plan_text.specs.Text.{next_line, number_then, refusal_text}
 use Rattle.plan_program.specs.declared.Plan.{Plan}

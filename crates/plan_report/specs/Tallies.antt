@@ -1,6 +1,6 @@
 -- A report line by line: what is kept between lines, and what is printed of each. (`by-plans` in proofs/Plans: of a whole text this is `reported`.)
 use Rattle.std.specs.Prelude.{ℕ, ◌+◌, min, Bool, false, cond, List, [], ◌∷◌, ◌++◌}
-use Rattle.bench_by_value.specs.ByValue.{table_of}
+use Rattle.plan_program.specs.bench_by_value.ByValue.{table_of}
 use Rattle.plan_text.specs.Text.{next_line}
 use Rattle.plan_program.specs.declared.Plan.{Plan}
 use Rattle.plan_program.specs.Program.{after_line, no_plan}

@@ -3,7 +3,7 @@
 // `finish` ends the text; `add` adds the figures of a plan to the totals.
 #![tactic(auto)]
 ghost use Rattle.std.specs.Prelude.{◌≡◌, true, ◌+◌, ◌*◌, ◌≤◌, ◌++◌, leb, length};
-ghost use Rattle.bench_by_value.specs.ByValue.{table_of};
+ghost use Rattle.plan_program.specs.bench_by_value.ByValue.{table_of};
 ghost use Rattle.nodeset.specs.Sums.{num};
 ghost use Rattle.plan_text.specs.Text.{PutAt, PutFew};
 ghost use Rattle.plan_program.specs.Calls.{bytes_in, plan_sound};

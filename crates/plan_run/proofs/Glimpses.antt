@@ -11,15 +11,15 @@ use borrow.Author.Tests.{eq-eqb}
 use Rattle.refusal.specs.declared.Refusal.{Refusal}
 use Rattle.refusal.specs.declared.Refusal.TheVariants.{NodeNumber, NotOut, Unsound}
 use Rattle.refusal.specs.Causes.{cause}
-use Rattle.nodeset.specs.Sets.{has}
-use Rattle.nodeset.proofs.Bits.{has-none}
-use Rattle.nodeset.proofs.Tests.{by_cases}
-use Rattle.slot_table.specs.Order.{kept, numbers_from, plain}
-use Rattle.slot_table.proofs.Numbers.{count_of, numbers-kept}
+use Rattle.node_record.specs.nodeset.Sets.{has}
+use Rattle.node_record.proofs.nodeset.Bits.{has-none}
+use Rattle.node_record.proofs.nodeset.Tests.{by_cases}
+use Rattle.cable.specs.slot_table.Order.{kept, numbers_from, plain}
+use Rattle.cable.proofs.slot_table.Numbers.{count_of, numbers-kept}
 use Rattle.cable.specs.Cable.{may_set_up, cable_of, cable_with, node_number, ring_size, fault_of}
-use Rattle.ring.specs.Ring.{sender}
+use Rattle.node.specs.ring.Ring.{sender}
 use Rattle.cable.proofs.Ranges.{node-number, ring-size}
-use Rattle.ring_laws.proofs.Senders.{turns-of, sender-range}
+use Rattle.node_record.proofs.ring_laws.Senders.{turns-of, sender-range}
 use Rattle.cable.specs.declared.Cable.{Cable}
 use Rattle.cable.specs.declared.Choices.{Choices}
 use Rattle.bench.specs.Reports.{jobs_on}

@@ -6,8 +6,8 @@ use mathlib.Core.List.{List}
 use lib.Dec.{eqb}
 use lib.ListN.{length}
 use borrow.Author.Tests.{eq-eqb}
-use Rattle.slot_table.specs.Order.{numbers_from}
-use Rattle.slot_table.proofs.Numbers.{count_of, numbers-kept}
+use Rattle.cable.specs.slot_table.Order.{numbers_from}
+use Rattle.cable.proofs.slot_table.Numbers.{count_of, numbers-kept}
 use Rattle.cable.specs.declared.Cable.{Cable}
 use Rattle.cable.specs.declared.Choices.{Choices}
 use Rattle.cable.specs.Cable.{plain_cable, cable_with, cable_fits, may_set_up, fault_of}

@@ -1,2 +1,3 @@
 pub mod Run
 pub mod Inner
+pub use Rattle.bench_orders.specs as bench_orders

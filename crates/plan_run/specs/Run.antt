@@ -4,7 +4,7 @@ use Rattle.std.specs.Prelude.{ℕ, true, false, List, [], replicate}
 use Rattle.refusal.specs.declared.Refusal.{Refusal}
 use Rattle.node_record.specs.Held.{rowed}
 use Rattle.node.specs.Calls.{no_node}
-use Rattle.slot_table.specs.Order.{numbers_from}
+use Rattle.cable.specs.slot_table.Order.{numbers_from}
 use Rattle.cable.specs.declared.Choices.{Choices}
 use Rattle.bench.specs.declared.Command.{Command}
 use Rattle.bench.specs.declared.Command.TheVariants as command

@@ -6,20 +6,20 @@ use mathlib.Core.Bool.{true}
 use mathlib.Core.List.{List, [], ◌∷◌, map, reverse}
 use lib.Dec.{lit≤}
 use lib.ListN.{replicate}
-use Rattle.cable.specs.declared.Cable.{Cable}
-use Rattle.slot_table.specs.Order.{plain}
-use Rattle.cable.specs.Cable.{cable_fits}
-use Rattle.node_record.specs.declared.Node.{Node}
-use Rattle.node_record.specs.declared.State.{State}
-use Rattle.node_record.specs.declared.State.TheVariants.{Member, Out}
-use Rattle.node_record.specs.declared.Cause.TheVariants.{Unconfirmed}
-use Rattle.bench.specs.Table.{Table}
-use Rattle.bench.specs.Calls.{set_up_of}
-use Rattle.bench.specs.Runs.{Call, table_after}
+use Rattle.agreement.specs.cable.declared.Cable.{Cable}
+use Rattle.agreement.specs.slot_table.Order.{plain}
+use Rattle.agreement.specs.cable.Cable.{cable_fits}
+use Rattle.agreement.specs.node_record.declared.Node.{Node}
+use Rattle.agreement.specs.node_record.declared.State.{State}
+use Rattle.agreement.specs.node_record.declared.State.TheVariants.{Member, Out}
+use Rattle.agreement.specs.node_record.declared.Cause.TheVariants.{Unconfirmed}
+use Rattle.agreement.specs.bench.Table.{Table}
+use Rattle.agreement.specs.bench.Calls.{set_up_of}
+use Rattle.agreement.specs.bench.Runs.{Call, table_after}
 use Rattle.agreement.specs.Demand.{Premises, Claims, EverySequence}
-use Rattle.bench.proofs.Computed.{computed}
-use Rattle.bench.proofs.Places.{Placed}
-use Rattle.bench.proofs.Runs.{start-placed}
+use Rattle.agreement.proofs.bench.Computed.{computed}
+use Rattle.agreement.proofs.bench.Places.{Placed}
+use Rattle.agreement.proofs.bench.Runs.{start-placed}
 use Rattle.agreement.proofs.Demanded.{demand3}
 use Rattle.premises.specs.Plans.{departure, return}
 use Rattle.premises.proofs.Tested.{each-lag, in_order, records, how-many, every, scan_by, all_tests, of_four, by-test, table-right}

@@ -7,21 +7,21 @@ use native.Mathlib.Omega.{arith}
 use lib.Dec.{ltb, lit≤}
 use lib.ListN.{length}
 use borrow.Author.Tests.{ltb-true, not-true}
-use Rattle.cable.specs.declared.Cable.{Cable}
-use Rattle.cable.specs.Cable.{cable_fits}
-use Rattle.cable.proofs.Ranges.{ring-size, fitting}
-use Rattle.node_record.specs.declared.Node.{Node}
-use Rattle.nodeset.proofs.Tests.{both}
-use Rattle.node.specs.Calls.{no_node}
-use Rattle.node_record.specs.States.{is_member}
-use Rattle.bench.specs.Table.{Table, record_of, slots_of}
-use Rattle.bench.specs.Calls.{set_up_of, greatest}
-use Rattle.bench.specs.Runs.{Call, table_after}
+use Rattle.agreement.specs.cable.declared.Cable.{Cable}
+use Rattle.agreement.specs.cable.Cable.{cable_fits}
+use Rattle.agreement.proofs.cable.Ranges.{ring-size, fitting}
+use Rattle.agreement.specs.node_record.declared.Node.{Node}
+use Rattle.agreement.proofs.nodeset.Tests.{both}
+use Rattle.agreement.specs.node.Calls.{no_node}
+use Rattle.agreement.specs.node_record.States.{is_member}
+use Rattle.agreement.specs.bench.Table.{Table, record_of, slots_of}
+use Rattle.agreement.specs.bench.Calls.{set_up_of, greatest}
+use Rattle.agreement.specs.bench.Runs.{Call, table_after}
 use Rattle.agreement.specs.Demand.{next, onwards, LostOrSilent, PremisesOn, Premises, Agree, InTime, EverySequence}
 use Rattle.agreement.specs.Repeated.{run_by, run_before}
-use Rattle.bench.proofs.Computed.{computed}
-use Rattle.bench.proofs.Places.{Placed}
-use Rattle.bench.proofs.Runs.{start-placed, run_length}
+use Rattle.agreement.proofs.bench.Computed.{computed}
+use Rattle.agreement.proofs.bench.Places.{Placed}
+use Rattle.agreement.proofs.bench.Runs.{start-placed, run_length}
 use Rattle.agreement.proofs.Beginnings.{at-end}
 use Rattle.agreement.proofs.Throughout.{nothing-apart}
 use Rattle.premises.specs.Plans.{two_miss, two_knocks, one_fewer, none_to_decide, misses_twice, two_at_once}

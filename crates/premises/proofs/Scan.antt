@@ -4,16 +4,16 @@ use mathlib.Core.Path.{◌≡◌, refl, sym, ap, ◌∙◌}
 use mathlib.Core.Bool.{Bool, true, false, cond, not, ◌&&◌, ◌||◌}
 use mathlib.Core.List.{List, [], ◌∷◌}
 use lib.Dec.{eqb}
-use Rattle.nodeset.specs.Sums.{num}
-use Rattle.nodeset.proofs.Tests.{by_cases, chosen, otherwise}
-use Rattle.cable.specs.declared.Cable.{Cable}
-use Rattle.cable.specs.Cable.{node_number}
-use Rattle.bench.specs.Table.{Table, slots_of, node_count, table_sound}
-use Rattle.bench.specs.Calls.{table_after_slot, table_after_off, table_after_restart}
-use Rattle.bench.specs.Runs.{Call, slot, off, restart, call_of, table_after, is_slot, Entry, new_entry, entry_on}
-use Rattle.bench.proofs.Places.{Placed}
-use Rattle.bench.proofs.Accepted.{slot_runs, is-slot, slot-done, slot-refused, off-done, off-refused, restarts, restart-done, restart-refused, off-no-slot, restart-no-slot}
-use Rattle.bench.proofs.Runs.{slots_next, never-unsound}
+use Rattle.agreement.specs.nodeset.Sums.{num}
+use Rattle.agreement.proofs.nodeset.Tests.{by_cases, chosen, otherwise}
+use Rattle.agreement.specs.cable.declared.Cable.{Cable}
+use Rattle.agreement.specs.cable.Cable.{node_number}
+use Rattle.agreement.specs.bench.Table.{Table, slots_of, node_count, table_sound}
+use Rattle.agreement.specs.bench.Calls.{table_after_slot, table_after_off, table_after_restart}
+use Rattle.agreement.specs.bench.Runs.{Call, slot, off, restart, call_of, table_after, is_slot, Entry, new_entry, entry_on}
+use Rattle.agreement.proofs.bench.Places.{Placed}
+use Rattle.agreement.proofs.bench.Accepted.{slot_runs, is-slot, slot-done, slot-refused, off-done, off-refused, restarts, restart-done, restart-refused, off-no-slot, restart-no-slot}
+use Rattle.agreement.proofs.bench.Runs.{slots_next, never-unsound}
 use Rattle.agreement.specs.Repeated.{call_by, rule_before, run_before}
 use Rattle.agreement.proofs.Before.{before-none, before-one, before-next}
 

@@ -8,19 +8,19 @@ use native.Mathlib.Decide.{ℕ_discrete, dec_le}
 use lib.Dec.{eqb, leb}
 use lib.ListN.{length}
 use borrow.Author.Tests.{eqb-false, ne_eqb, leb-true, le-leb}
-use Rattle.nodeset.specs.Sums.{sum, num}
-use Rattle.nodeset.specs.Sets.{has, size}
-use Rattle.nodeset.proofs.Sums.{sum_same, sum-zero}
-use Rattle.nodeset.proofs.Tests.{by_cases, both, all, or_left, or_right, or_else}
-use Rattle.cable.specs.declared.Cable.{Cable}
-use Rattle.ring.specs.Ring.{sender}
-use Rattle.node_record.specs.declared.Node.{Node}
-use Rattle.node_record.specs.States.{is_member, is_out}
-use Rattle.bench.specs.Table.{Table, record_of, slots_of, speaker}
-use Rattle.bench.specs.Calls.{transmits}
-use Rattle.bench.specs.Runs.{Call, slot, off, restart, table_after, is_slot, list_of, Entry, no_entry, entry_on}
+use Rattle.agreement.specs.nodeset.Sums.{sum, num}
+use Rattle.agreement.specs.nodeset.Sets.{has, size}
+use Rattle.agreement.proofs.nodeset.Sums.{sum_same, sum-zero}
+use Rattle.agreement.proofs.nodeset.Tests.{by_cases, both, all, or_left, or_right, or_else}
+use Rattle.agreement.specs.cable.declared.Cable.{Cable}
+use Rattle.agreement.specs.ring.Ring.{sender}
+use Rattle.agreement.specs.node_record.declared.Node.{Node}
+use Rattle.agreement.specs.node_record.States.{is_member, is_out}
+use Rattle.agreement.specs.bench.Table.{Table, record_of, slots_of, speaker}
+use Rattle.agreement.specs.bench.Calls.{transmits}
+use Rattle.agreement.specs.bench.Runs.{Call, slot, off, restart, table_after, is_slot, list_of, Entry, no_entry, entry_on}
 use Rattle.agreement.specs.Demand.{AtEach, AllHear, KeepsListOn, HearEverythingOn, member_after, is_deciding, deciding_ran}
-use Rattle.bench.proofs.Places.{Placed}
+use Rattle.agreement.proofs.bench.Places.{Placed}
 use Rattle.agreement.proofs.Beginnings.{on-later}
 use Rattle.premises.specs.Needed.{Premise, few-failures, one_outside, list-kept, all-heard, HoldsOn, Holds}
 use Rattle.premises.proofs.Scan.{Notes, noted, Scan, Way, SlotTest, scan, Run, at_slots, Right, scan-right, called, calls}

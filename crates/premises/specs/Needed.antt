@@ -1,12 +1,12 @@
 -- What it means that each premise of demand 3 is needed, whatever the lag: a run that breaks it alone, and a claim with it; and that one clause more is needed where nothing is to differ from the
 -- rule before request f.
 use Rattle.std.specs.Prelude.{ℕ, suc, ◌-◌, ◌≤◌, ◌≡◌, true, List, length}
-use Rattle.nodeset.specs.Sums.{sum, num}
-use Rattle.cable.specs.declared.Cable.{Cable}
-use Rattle.cable.specs.Cable.{cable_fits}
-use Rattle.bench.specs.Table.{Table}
-use Rattle.bench.specs.Calls.{set_up_of}
-use Rattle.bench.specs.Runs.{Call, table_after, entry_on}
+use Rattle.agreement.specs.nodeset.Sums.{sum, num}
+use Rattle.agreement.specs.cable.declared.Cable.{Cable}
+use Rattle.agreement.specs.cable.Cable.{cable_fits}
+use Rattle.agreement.specs.bench.Table.{Table}
+use Rattle.agreement.specs.bench.Calls.{set_up_of}
+use Rattle.agreement.specs.bench.Runs.{Call, table_after, entry_on}
 use Rattle.agreement.specs.Demand.{AtEach, AfterEach, KeepsListOn, HearEverythingOn, PremisesOn, Claims, EverySequence}
 use Rattle.agreement.specs.Repeated.{run_before}
 

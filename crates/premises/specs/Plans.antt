@@ -1,9 +1,9 @@
 -- Plans for the bench (document 01, "The bench program"), the first line first, over the lag (document 02, j): one in which the premises of demand 3 are met, and for each premise one that
 -- breaks it alone. `4 2` is n and k without lag, `5 2 1` are n, k and the lag.
 use Rattle.std.specs.Prelude.{ℕ, ◌+◌, ◌-◌, ◌*◌, false, List, ◌∷◌, ◌++◌, replicate}
-use Rattle.nodeset.specs.Sets.{with}
-use Rattle.bench.specs.Runs.{Call, slot, off, restart}
-use Rattle.bench.specs.Plans.{ok, lost}
+use Rattle.agreement.specs.nodeset.Sets.{with}
+use Rattle.agreement.specs.bench.Runs.{Call, slot, off, restart}
+use Rattle.agreement.specs.bench.Plans.{ok, lost}
 
 -- Lines `miss a` and `miss a b`.
 abbrev pub misses : ℕ → Call

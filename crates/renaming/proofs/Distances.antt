@@ -4,14 +4,14 @@ use mathlib.Core.Path.{◌≡◌, sym, ap, ap₂, ◌∙◌}
 use mathlib.Core.Bool.{true}
 use native.Mathlib.Omega.{arith}
 use lib.ListN.{length}
-use Rattle.nodeset.specs.Sets.{distance}
-use Rattle.cable.specs.declared.Cable.{Cable}
-use Rattle.cable.specs.Cable.{cable_fits}
-use Rattle.node_record.specs.declared.Node.{Node}
-use Rattle.node_record.specs.States.{is_member}
-use Rattle.bench.specs.Table.{Table, record_of}
-use Rattle.bench.specs.Calls.{greatest}
-use Rattle.bench.proofs.Farthest.{no-greater}
+use Rattle.ledger.specs.nodeset.Sets.{distance}
+use Rattle.ledger.specs.cable.declared.Cable.{Cable}
+use Rattle.ledger.specs.cable.Cable.{cable_fits}
+use Rattle.ledger.specs.node_record.declared.Node.{Node}
+use Rattle.ledger.specs.node_record.States.{is_member}
+use Rattle.ledger.specs.bench.Table.{Table, record_of}
+use Rattle.ledger.specs.bench.Calls.{greatest}
+use Rattle.ledger.proofs.bench.Farthest.{no-greater}
 use Rattle.renaming.specs.Renamed.{name_of, placed, renamed}
 use Rattle.renaming.proofs.Names.{name-range, placed-range, R-distance}
 use Rattle.renaming.proofs.Records.{renamed_plain}

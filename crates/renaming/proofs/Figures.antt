@@ -9,34 +9,34 @@ use native.Mathlib.Omega.{arith}
 use lib.Dec.{eqb, ltb}
 use lib.ListN.{length}
 use borrow.Author.Tests.{le-leb}
-use Rattle.refusal.specs.Causes.{cause}
-use Rattle.nodeset.specs.Sums.{num}
-use Rattle.nodeset.specs.Sets.{has, within}
-use Rattle.nodeset.proofs.Tests.{by_cases}
-use Rattle.slot_table.specs.Order.{place}
-use Rattle.cable.specs.declared.Cable.{Cable}
-use Rattle.cable.specs.Cable.{node_number, cable_fits}
-use Rattle.cable.proofs.Ranges.{fitting, ring-size, node-number}
-use Rattle.message.specs.declared.Reading.{Reading}
-use Rattle.message.specs.Message.{jobs_within}
-use Rattle.node_reports.specs.Reports.{Counts, all_within}
-use Rattle.node_record.specs.declared.Node.{Node}
-use Rattle.node_record.specs.declared.State.{State}
-use Rattle.node_record.specs.Soundness.{limit}
-use Rattle.node_steps.specs.Steps.{is_heard}
-use Rattle.node_sending.specs.Sending.{jobs_sent}
-use Rattle.node.specs.declared.Answer.{Answer}
-use Rattle.node.specs.Calls.{is_done, hears_report}
-use Rattle.bench.specs.declared.Outcome.TheVariants.{Refused}
-use Rattle.bench.specs.Table.{Table, record_of, table_sound, node_count, slots_of, speaker}
-use Rattle.bench.specs.Calls.{Called, if_passed, set_up_of, slot_of, heard_by}
-use Rattle.bench.specs.Reports.{reports_fit, jobs_on}
-use Rattle.bench.specs.Outcomes.{slot_given}
-use Rattle.bench.specs.Ledger.{Ledger, figures, ledger_fits, is_leaving, is_joining}
-use Rattle.bench.specs.Kept.{slot_with, off_with, date_of, kept_of}
-use Rattle.bench.specs.Runs.{Call, slot, off, restart, call_of, table_after}
-use Rattle.bench.proofs.Ledgers.{after}
-use Rattle.bench.proofs.Places.{placed-sound}
+use Rattle.ledger.specs.refusal.Causes.{cause}
+use Rattle.ledger.specs.nodeset.Sums.{num}
+use Rattle.ledger.specs.nodeset.Sets.{has, within}
+use Rattle.ledger.proofs.nodeset.Tests.{by_cases}
+use Rattle.ledger.specs.slot_table.Order.{place}
+use Rattle.ledger.specs.cable.declared.Cable.{Cable}
+use Rattle.ledger.specs.cable.Cable.{node_number, cable_fits}
+use Rattle.ledger.proofs.cable.Ranges.{fitting, ring-size, node-number}
+use Rattle.ledger.specs.message.declared.Reading.{Reading}
+use Rattle.ledger.specs.message.Message.{jobs_within}
+use Rattle.ledger.specs.node_reports.Reports.{Counts, all_within}
+use Rattle.ledger.specs.node_record.declared.Node.{Node}
+use Rattle.ledger.specs.node_record.declared.State.{State}
+use Rattle.ledger.specs.node_record.Soundness.{limit}
+use Rattle.ledger.specs.node_steps.Steps.{is_heard}
+use Rattle.ledger.specs.node_sending.Sending.{jobs_sent}
+use Rattle.ledger.specs.node.declared.Answer.{Answer}
+use Rattle.ledger.specs.node.Calls.{is_done, hears_report}
+use Rattle.ledger.specs.bench.declared.Outcome.TheVariants.{Refused}
+use Rattle.ledger.specs.bench.Table.{Table, record_of, table_sound, node_count, slots_of, speaker}
+use Rattle.ledger.specs.bench.Calls.{Called, if_passed, set_up_of, slot_of, heard_by}
+use Rattle.ledger.specs.bench.Reports.{reports_fit, jobs_on}
+use Rattle.ledger.specs.bench.Outcomes.{slot_given}
+use Rattle.ledger.specs.bench.Ledger.{Ledger, figures, ledger_fits, is_leaving, is_joining}
+use Rattle.ledger.specs.bench.Kept.{slot_with, off_with, date_of, kept_of}
+use Rattle.ledger.specs.bench.Runs.{Call, slot, off, restart, call_of, table_after}
+use Rattle.ledger.proofs.bench.Ledgers.{after}
+use Rattle.ledger.proofs.bench.Places.{placed-sound}
 use Rattle.ledger.specs.Runs.{Given, command_of, called_by, kept_by, made_of, with_made}
 use Rattle.ledger.specs.Tallies.{times_left, times_joined, last_leaving, from_zeros, made_from, Tallied}
 use Rattle.ledger.specs.Reported.{Asked, Made, with_counts, calls_in, made_in, reports, times_reported, from_set_up, made_since, Reported}

@@ -8,24 +8,24 @@ use native.Mathlib.Omega.{arith}
 use native.Mathlib.Decide.{ℕ_discrete}
 use lib.Dec.{eqb, leb}
 use borrow.Author.Tests.{eqb-true, eqb-false, eq-eqb, ne_eqb, le-leb, lt-ltb}
-use Rattle.nodeset.specs.Sums.{sum, num}
-use Rattle.nodeset.specs.Sets.{has, with, without, full, within, subset, size, distance}
-use Rattle.nodeset.proofs.Tests.{by_cases, all, chosen, otherwise}
-use Rattle.nodeset.proofs.Sums.{sum_same}
-use Rattle.nodeset.proofs.Bits.{has-none, has-beyond}
-use Rattle.nodeset.proofs.Laws.{has-with, has-with-other, has-without, has-without-other, with-lt, without-lt, full-lt, has-full, has-range, set-ext}
-use Rattle.nodeset.proofs.Subsets.{subset-has, has-subset}
-use Rattle.slot_table.specs.Order.{node_at, plain, place}
-use Rattle.slot_table.proofs.Places.{node-range, node-place, place_of, over-nodes}
-use Rattle.slot_table.proofs.Numbers.{plain_at, plain-kept, plain-place}
-use Rattle.cable.specs.declared.Cable.{Cable}
-use Rattle.ring.specs.declared.Found.{Found}
-use Rattle.ring.specs.declared.Found.TheVariants.{Member, Nobody}
-use Rattle.cable.specs.Cable.{node_number, cable_fits}
-use Rattle.ring.specs.Ring.{turn, sender, ks, previous, walk, member_before, sponsors, sponsored, decided, member_in, is_found}
-use Rattle.cable.proofs.Ranges.{fitting, fits_by, node-number}
-use Rattle.ring_laws.proofs.Senders.{turn-range, previous-range, Turns, turns-of, sender-range}
-use Rattle.bench.proofs.Choices.{choose}
+use Rattle.ledger.specs.nodeset.Sums.{sum, num}
+use Rattle.ledger.specs.nodeset.Sets.{has, with, without, full, within, subset, size, distance}
+use Rattle.ledger.proofs.nodeset.Tests.{by_cases, all, chosen, otherwise}
+use Rattle.ledger.proofs.nodeset.Sums.{sum_same}
+use Rattle.ledger.proofs.nodeset.Bits.{has-none, has-beyond}
+use Rattle.ledger.proofs.nodeset.Laws.{has-with, has-with-other, has-without, has-without-other, with-lt, without-lt, full-lt, has-full, has-range, set-ext}
+use Rattle.ledger.proofs.nodeset.Subsets.{subset-has, has-subset}
+use Rattle.ledger.specs.slot_table.Order.{node_at, plain, place}
+use Rattle.ledger.proofs.slot_table.Places.{node-range, node-place, place_of, over-nodes}
+use Rattle.ledger.proofs.slot_table.Numbers.{plain_at, plain-kept, plain-place}
+use Rattle.ledger.specs.cable.declared.Cable.{Cable}
+use Rattle.ledger.specs.ring.declared.Found.{Found}
+use Rattle.ledger.specs.ring.declared.Found.TheVariants.{Member, Nobody}
+use Rattle.ledger.specs.cable.Cable.{node_number, cable_fits}
+use Rattle.ledger.specs.ring.Ring.{turn, sender, ks, previous, walk, member_before, sponsors, sponsored, decided, member_in, is_found}
+use Rattle.ledger.proofs.cable.Ranges.{fitting, fits_by, node-number}
+use Rattle.ledger.proofs.ring_laws.Senders.{turn-range, previous-range, Turns, turns-of, sender-range}
+use Rattle.ledger.proofs.bench.Choices.{choose}
 use Rattle.renaming.specs.Renamed.{plain_of, name_of, placed, renamed_set, missed_at}
 
 -- ---- choices

@@ -8,11 +8,11 @@ use native.Mathlib.Omega.{arith}
 use lib.Dec.{eqb}
 use lib.ListN.{length, get_or}
 use borrow.Author.Tests.{eq-eqb, ne_eqb}
-use Rattle.node_record.specs.declared.Node.{Node}
-use Rattle.node_record.specs.declared.State.{State}
-use Rattle.node.specs.Calls.{no_node}
-use Rattle.bench.specs.Table.{Table, record_of}
-use Rattle.bench.specs.Pairs.{Pair, kind_from, leaves, changes_else, group_from, pairs_in}
+use Rattle.ledger.specs.node_record.declared.Node.{Node}
+use Rattle.ledger.specs.node_record.declared.State.{State}
+use Rattle.ledger.specs.node.Calls.{no_node}
+use Rattle.ledger.specs.bench.Table.{Table, record_of}
+use Rattle.ledger.specs.bench.Pairs.{Pair, kind_from, leaves, changes_else, group_from, pairs_in}
 use Rattle.renaming.specs.Renamed.{is_told}
 
 -- a pair of this kind is told of a change within a group, and of one in either group

@@ -7,32 +7,32 @@ use mathlib.Core.Bool.{Bool, true, false, cond, not, ◌&&◌, ◌||◌}
 use native.Mathlib.Omega.{arith}
 use lib.Dec.{eqb, leb, ltb}
 use borrow.Author.Tests.{eqb-true, eqb-false, leb-true, le-leb, ltb-true, lt-ltb}
-use Rattle.nodeset.specs.Sets.{has, with, without, with_if, within, subset, size}
-use Rattle.nodeset.proofs.Tests.{by_cases, both, all}
-use Rattle.nodeset.proofs.Laws.{with-lt}
-use Rattle.cable.specs.declared.Cable.{Cable}
-use Rattle.ring.specs.declared.Found.{Found}
-use Rattle.cable.specs.Cable.{cable_fits}
-use Rattle.ring.specs.Ring.{sender, ks, member_before, sponsors, sponsored, decided, member_in, is_found}
-use Rattle.cable.proofs.Ranges.{fitting, node-number}
-use Rattle.message.specs.declared.Reading.{Reading}
-use Rattle.message.specs.declared.Reading.TheVariants as reading
-use Rattle.node_record.specs.declared.Node.{Node}
-use Rattle.node_record.specs.declared.Window.{Window}
-use Rattle.node_record.specs.declared.Cause.{Cause}
-use Rattle.node_record.specs.declared.State.{State}
-use Rattle.node_record.specs.declared.State.TheVariants.{Member, Listening, Following, Knocking, Out}
-use Rattle.node_record.specs.States.{is_member, is_listening, is_following, is_knocking, is_out, leaving_cause}
-use Rattle.node_record.specs.Soundness.{sound, limit, implies}
-use Rattle.node_record.specs.Sponsoring.{sponsors_in, sponsored_in, decided_in}
-use Rattle.node_record.proofs.Facts.{Clauses, clauses, sound-by, window-listening, window-other}
-use Rattle.node_changes.specs.Changes.{starting, with_set, out_for, fresh, leave, listening_after, following_with, with_window, with_marks, with_returning, counted}
-use Rattle.node_steps.specs.Steps.{is_heard, return_in, is_own, own_marks, confirmed, says_so, says, heard_marks, read_marks, marks_after, read_yes, yes_after, missed_return, heard_return, marked, noted, leaves, departed, departed_in, leaves_in, too_few, nothing_heard, joins, joined, join, after_message, settle, slot_from, tracking_slot}
-use Rattle.node_hearing.specs.Hearing.{slot_unheard, overheard, window_after, clean, window_end, goes_on, listening_slot}
-use Rattle.node_sending.specs.Sending.{sends, mark_bits, bits_sent, return_sent}
-use Rattle.node_slot.specs.Slot.{slot_in, after_slot}
-use Rattle.node.specs.Calls.{Stepped, done, refused, step_of, off_of, restart_of}
-use Rattle.bench.proofs.Choices.{choose}
+use Rattle.ledger.specs.nodeset.Sets.{has, with, without, with_if, within, subset, size}
+use Rattle.ledger.proofs.nodeset.Tests.{by_cases, both, all}
+use Rattle.ledger.proofs.nodeset.Laws.{with-lt}
+use Rattle.ledger.specs.cable.declared.Cable.{Cable}
+use Rattle.ledger.specs.ring.declared.Found.{Found}
+use Rattle.ledger.specs.cable.Cable.{cable_fits}
+use Rattle.ledger.specs.ring.Ring.{sender, ks, member_before, sponsors, sponsored, decided, member_in, is_found}
+use Rattle.ledger.proofs.cable.Ranges.{fitting, node-number}
+use Rattle.ledger.specs.message.declared.Reading.{Reading}
+use Rattle.ledger.specs.message.declared.Reading.TheVariants as reading
+use Rattle.ledger.specs.node_record.declared.Node.{Node}
+use Rattle.ledger.specs.node_record.declared.Window.{Window}
+use Rattle.ledger.specs.node_record.declared.Cause.{Cause}
+use Rattle.ledger.specs.node_record.declared.State.{State}
+use Rattle.ledger.specs.node_record.declared.State.TheVariants.{Member, Listening, Following, Knocking, Out}
+use Rattle.ledger.specs.node_record.States.{is_member, is_listening, is_following, is_knocking, is_out, leaving_cause}
+use Rattle.ledger.specs.node_record.Soundness.{sound, limit, implies}
+use Rattle.ledger.specs.node_record.Sponsoring.{sponsors_in, sponsored_in, decided_in}
+use Rattle.ledger.proofs.node_record.Facts.{Clauses, clauses, sound-by, window-listening, window-other}
+use Rattle.ledger.specs.node_changes.Changes.{starting, with_set, out_for, fresh, leave, listening_after, following_with, with_window, with_marks, with_returning, counted}
+use Rattle.ledger.specs.node_steps.Steps.{is_heard, return_in, is_own, own_marks, confirmed, says_so, says, heard_marks, read_marks, marks_after, read_yes, yes_after, missed_return, heard_return, marked, noted, leaves, departed, departed_in, leaves_in, too_few, nothing_heard, joins, joined, join, after_message, settle, slot_from, tracking_slot}
+use Rattle.ledger.specs.node_hearing.Hearing.{slot_unheard, overheard, window_after, clean, window_end, goes_on, listening_slot}
+use Rattle.ledger.specs.node_sending.Sending.{sends, mark_bits, bits_sent, return_sent}
+use Rattle.ledger.specs.node_slot.Slot.{slot_in, after_slot}
+use Rattle.ledger.specs.node.Calls.{Stepped, done, refused, step_of, off_of, restart_of}
+use Rattle.ledger.proofs.bench.Choices.{choose}
 use Rattle.renaming.specs.Renamed.{plain_of, name_of, renamed}
 use Rattle.renaming.proofs.Names.{cond-by, R, R-lt, R-none, R-full, R-with, R-without, R-size, R-subset, has-name, eqb-name, eqb-none, eqb-sets, eqb-empty, name-none, name-le, name-number, Named, named_in, named-is, before-name, sponsors-name, sponsored-name, decided-name, sender-name, plain-sender}
 

@@ -5,15 +5,15 @@ use mathlib.Core.Bool.{true}
 use mathlib.Core.List.{List, ◌∷◌}
 use native.Mathlib.Omega.{arith}
 use lib.ListN.{length}
-use Rattle.slot_table.specs.Order.{place}
-use Rattle.cable.specs.declared.Cable.{Cable}
-use Rattle.cable.specs.Cable.{node_number, cable_fits}
-use Rattle.cable.proofs.Ranges.{node-number}
-use Rattle.node_record.specs.declared.Node.{Node}
-use Rattle.node_record.specs.declared.State.{State}
-use Rattle.bench.specs.Table.{Table, record_of}
-use Rattle.bench.specs.Pairs.{pairs_in}
-use Rattle.bench.specs.Runs.{Call}
+use Rattle.ledger.specs.slot_table.Order.{place}
+use Rattle.ledger.specs.cable.declared.Cable.{Cable}
+use Rattle.ledger.specs.cable.Cable.{node_number, cable_fits}
+use Rattle.ledger.proofs.cable.Ranges.{node-number}
+use Rattle.ledger.specs.node_record.declared.Node.{Node}
+use Rattle.ledger.specs.node_record.declared.State.{State}
+use Rattle.ledger.specs.bench.Table.{Table, record_of}
+use Rattle.ledger.specs.bench.Pairs.{pairs_in}
+use Rattle.ledger.specs.bench.Runs.{Call}
 use Rattle.renaming.specs.Renamed.{placed, renamed, ran, ran_plain, is_told, Renamed}
 use Rattle.renaming.proofs.Names.{placed-in, placed-range}
 use Rattle.renaming.proofs.Records.{is_plain}

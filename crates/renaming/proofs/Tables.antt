@@ -7,24 +7,24 @@ use mathlib.Core.List.{List, [], ◌∷◌}
 use native.Mathlib.Omega.{arith}
 use lib.Dec.{eqb, leb, ltb}
 use lib.ListN.{length}
-use Rattle.nodeset.specs.Sets.{within}
-use Rattle.cable.specs.declared.Cable.{Cable}
-use Rattle.cable.specs.Cable.{node_number, cable_fits}
-use Rattle.ring.specs.Ring.{sender}
-use Rattle.cable.proofs.Ranges.{fitting, ring-size, node-number}
-use Rattle.message.specs.declared.Reading.{Reading}
-use Rattle.message.specs.declared.Reading.TheVariants as reading
-use Rattle.node_record.specs.declared.Node.{Node}
-use Rattle.node_record.specs.States.{is_out}
-use Rattle.node_record.specs.Soundness.{sound, limit}
-use Rattle.node_sending.specs.Sending.{sends, bits_sent, return_sent}
-use Rattle.node.specs.Calls.{Stepped}
-use Rattle.node.specs.Calls as node
-use Rattle.bench.specs.Table.{Table, record_of, each, table_sound, node_count, slots_of, speaker}
-use Rattle.bench.specs.Calls.{Called, if_passed, set_up_of, transmits, unheard, spoken, heard_by, table_after_slot, slot_of, off_of, restart_of}
-use Rattle.bench.specs.Runs.{Call, slot, off, restart, call_of, table_after}
-use Rattle.bench.proofs.Places.{record-each, InPlace, Placed, placed-sound}
-use Rattle.bench.proofs.Runs.{after-slot-record, start-record, start-placed, placed-run}
+use Rattle.ledger.specs.nodeset.Sets.{within}
+use Rattle.ledger.specs.cable.declared.Cable.{Cable}
+use Rattle.ledger.specs.cable.Cable.{node_number, cable_fits}
+use Rattle.ledger.specs.ring.Ring.{sender}
+use Rattle.ledger.proofs.cable.Ranges.{fitting, ring-size, node-number}
+use Rattle.ledger.specs.message.declared.Reading.{Reading}
+use Rattle.ledger.specs.message.declared.Reading.TheVariants as reading
+use Rattle.ledger.specs.node_record.declared.Node.{Node}
+use Rattle.ledger.specs.node_record.States.{is_out}
+use Rattle.ledger.specs.node_record.Soundness.{sound, limit}
+use Rattle.ledger.specs.node_sending.Sending.{sends, bits_sent, return_sent}
+use Rattle.ledger.specs.node.Calls.{Stepped}
+use Rattle.ledger.specs.node.Calls as node
+use Rattle.ledger.specs.bench.Table.{Table, record_of, each, table_sound, node_count, slots_of, speaker}
+use Rattle.ledger.specs.bench.Calls.{Called, if_passed, set_up_of, transmits, unheard, spoken, heard_by, table_after_slot, slot_of, off_of, restart_of}
+use Rattle.ledger.specs.bench.Runs.{Call, slot, off, restart, call_of, table_after}
+use Rattle.ledger.proofs.bench.Places.{record-each, InPlace, Placed, placed-sound}
+use Rattle.ledger.proofs.bench.Runs.{after-slot-record, start-record, start-placed, placed-run}
 use Rattle.renaming.specs.Renamed.{plain_of, name_of, placed, renamed, missed_at, call_at, calls_at, ran, ran_plain}
 use Rattle.renaming.proofs.Names.{cond-by, plain_fits, name-range, placed-range, name-placed, placed-number, eqb-name, has-missed, within-missed, sender-name, plain-sender}
 use Rattle.renaming.proofs.Records.{renamed_plain, renamed_stepped, starting-renamed, sends-renamed, return-renamed, bits-renamed, step-renamed, off-renamed, restart-renamed}

@@ -1,16 +1,16 @@
 -- Request k: "For every other table the node records and the distance after each slot must equal those of the plain run with the nodes renamed in records and calls, the kept table aside. .. Changes within a
 -- slot keep the order of c), so they match as a set only." The calls are any, and no premise is asked of them. A sequence of calls has THE LATEST FIRST.
 use Rattle.std.specs.Prelude.{ℕ, zero, suc, ◌-◌, ◌≤◌, ◌≡◌, Bool, true, false, cond, ◌&&◌, ◌||◌, List, [], ◌∷◌, map, eqb, length, get_or}
-use Rattle.nodeset.specs.Sets.{has, with_if, within}
-use Rattle.slot_table.specs.Order.{node_at, place}
-use Rattle.cable.specs.declared.Cable.{Cable}
-use Rattle.cable.specs.Cable.{plain_cable, node_number, cable_fits}
-use Rattle.node_record.specs.declared.Node.{Node}
-use Rattle.bench.specs.Table.{Table, record_of}
-use Rattle.bench.specs.Calls.{set_up_of, greatest}
-use Rattle.bench.specs.Pairs.{Pair, pairs_in}
-use Rattle.bench.specs.Ledger.{Figures}
-use Rattle.bench.specs.Runs.{Call, slot, off, restart, call_of, table_after}
+use Rattle.ledger.specs.nodeset.Sets.{has, with_if, within}
+use Rattle.ledger.specs.slot_table.Order.{node_at, place}
+use Rattle.ledger.specs.cable.declared.Cable.{Cable}
+use Rattle.ledger.specs.cable.Cable.{plain_cable, node_number, cable_fits}
+use Rattle.ledger.specs.node_record.declared.Node.{Node}
+use Rattle.ledger.specs.bench.Table.{Table, record_of}
+use Rattle.ledger.specs.bench.Calls.{set_up_of, greatest}
+use Rattle.ledger.specs.bench.Pairs.{Pair, pairs_in}
+use Rattle.ledger.specs.bench.Ledger.{Figures}
+use Rattle.ledger.specs.bench.Runs.{Call, slot, off, restart, call_of, table_after}
 use Rattle.ledger.specs.Runs.{Given}
 use Rattle.ledger.specs.Tallies.{from_zeros}
 use Rattle.ledger.specs.Reported.{Asked, from_set_up}

@@ -6,19 +6,19 @@ use mathlib.Core.List.{List}
 use native.Mathlib.Omega.{arith}
 use lib.Dec.{eqb, leb}
 use borrow.Author.Tests.{eqb-true}
-use Rattle.nodeset.specs.Sums.{num}
-use Rattle.nodeset.specs.Sets.{has}
-use Rattle.nodeset.proofs.Tests.{by_cases}
-use Rattle.slot_table.specs.Order.{node_at, is_kept, plain, place, same_order}
-use Rattle.slot_table.proofs.Same.{order_same}
-use Rattle.slot_table.proofs.Numbers.{numbers-kept, plain_at, plain-kept, plain-place}
-use Rattle.cable.specs.declared.Cable.{Cable}
+use Rattle.ring.specs.nodeset.Sums.{num}
+use Rattle.ring.specs.nodeset.Sets.{has}
+use Rattle.ring.proofs.nodeset.Tests.{by_cases}
+use Rattle.ring.specs.slot_table.Order.{node_at, is_kept, plain, place, same_order}
+use Rattle.ring.proofs.slot_table.Same.{order_same}
+use Rattle.ring.proofs.slot_table.Numbers.{numbers-kept, plain_at, plain-kept, plain-place}
+use Rattle.ring.specs.cable.declared.Cable.{Cable}
 use Rattle.ring.specs.declared.Found.{Found}
 use Rattle.ring.specs.declared.Found.TheVariants.{Member, Nobody}
-use Rattle.cable.specs.Cable.{same_cable, ring_size, node_number, lag_fits, sponsor_count, job_count, cable_fits, fault_of}
+use Rattle.ring.specs.cable.Cable.{same_cable, ring_size, node_number, lag_fits, sponsor_count, job_count, cable_fits, fault_of}
 use Rattle.ring.specs.Ring.{turn, sender, previous, walk, member_before, sponsors, sponsored, decided}
 use Rattle.ring_laws.specs.Before.{fits_by_number, fault_by_number, same_by_number, sender_by_number, walk_by_number, before_by_number, sponsored_by_number, decided_by_number, AsBefore}
-use Rattle.cable.proofs.Ranges.{ring-size, node-number}
+use Rattle.ring.proofs.cable.Ranges.{ring-size, node-number}
 use Rattle.ring_laws.proofs.Senders.{turn-range, previous-range}
 
 module _ (cable : Cable) (is : cable.order ≡ plain cable.n) where

@@ -6,11 +6,11 @@ use native.Mathlib.Omega.{arith}
 use native.Mathlib.Decide.{dec_le}
 use lib.Dec.{eqb}
 use borrow.Author.Tests.{eqb-true}
-use Rattle.nodeset.specs.Sums.{num}
-use Rattle.nodeset.specs.Sets.{has}
-use Rattle.nodeset.proofs.Tests.{by_cases, both, chosen, otherwise}
-use Rattle.slot_table.specs.Order.{node_at, place}
-use Rattle.cable.specs.declared.Cable.{Cable}
+use Rattle.ring.specs.nodeset.Sums.{num}
+use Rattle.ring.specs.nodeset.Sets.{has}
+use Rattle.ring.proofs.nodeset.Tests.{by_cases, both, chosen, otherwise}
+use Rattle.ring.specs.slot_table.Order.{node_at, place}
+use Rattle.ring.specs.cable.declared.Cable.{Cable}
 use Rattle.ring.specs.declared.Found.{Found}
 use Rattle.ring.specs.declared.Found.TheVariants.{Member}
 use Rattle.ring.specs.Ring.{previous, walk, member_before}

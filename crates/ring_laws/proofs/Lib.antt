@@ -4,3 +4,5 @@ pub mod Walks
 pub mod Distances
 pub mod Alike
 pub mod AsBefore
+pub use Rattle.ring.proofs.nodeset as nodeset
+pub use Rattle.ring.proofs.slot_table as slot_table

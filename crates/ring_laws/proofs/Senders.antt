@@ -9,15 +9,15 @@ use native.Mathlib.Nat.{mod-lt, div-add-mod', mod-eq_of_lt}
 use lib.Arith.{digits_mod}
 use lib.Dec.{leb}
 use borrow.Author.Tests.{le-leb, lt-leb, leb-false}
-use Rattle.nodeset.specs.Sums.{sum, num}
-use Rattle.nodeset.specs.Sets.{has, size}
-use Rattle.nodeset.proofs.Tests.{by_cases}
-use Rattle.nodeset.proofs.Sums.{sum_moved, sum_same, rotation}
-use Rattle.slot_table.specs.Order.{node_at, place}
-use Rattle.slot_table.proofs.Places.{Ordered, ordered_of, kept-order, node-range, node-place, same_place, place_of, over-nodes}
-use Rattle.cable.specs.declared.Cable.{Cable}
+use Rattle.ring.specs.nodeset.Sums.{sum, num}
+use Rattle.ring.specs.nodeset.Sets.{has, size}
+use Rattle.ring.proofs.nodeset.Tests.{by_cases}
+use Rattle.ring.proofs.nodeset.Sums.{sum_moved, sum_same, rotation}
+use Rattle.ring.specs.slot_table.Order.{node_at, place}
+use Rattle.ring.proofs.slot_table.Places.{Ordered, ordered_of, kept-order, node-range, node-place, same_place, place_of, over-nodes}
+use Rattle.ring.specs.cable.declared.Cable.{Cable}
 use Rattle.ring.specs.Ring.{turn, sender, previous}
-use Rattle.cable.proofs.Ranges.{ring-size, Fits}
+use Rattle.ring.proofs.cable.Ranges.{ring-size, Fits}
 
 module _ (n : ℕ) (pos : 1 ≤ n) where
   pub turn-range : (s : ℕ) → (1 ≤ turn n s) × (turn n s ≤ n)

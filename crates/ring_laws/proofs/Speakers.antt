@@ -3,12 +3,12 @@ use Prim.Native.Nat.{ℕ}
 use mathlib.Core.Path.{◌≡◌, sym, ◌∙◌}
 use mathlib.Core.Bool.{true}
 use native.Mathlib.Omega.{arith}
-use Rattle.nodeset.proofs.Tests.{chosen}
-use Rattle.refusal.specs.declared.Refusal.{Refusal}
-use Rattle.cable.specs.declared.Cable.{Cable}
+use Rattle.ring.proofs.nodeset.Tests.{chosen}
+use Rattle.ring.specs.refusal.declared.Refusal.{Refusal}
+use Rattle.ring.specs.cable.declared.Cable.{Cable}
 use Rattle.ring.specs.declared.Speaker.{Speaker}
 use Rattle.ring.specs.declared.Speaker.TheVariants.{Node, Refused}
-use Rattle.cable.specs.Cable.{ring_size}
+use Rattle.ring.specs.cable.Cable.{ring_size}
 use Rattle.ring.specs.Ring.{sender}
 use Rattle.ring.specs.Answers.{sender_of}
 

@@ -8,13 +8,13 @@ use native.Mathlib.Omega.{arith}
 use native.Mathlib.Decide.{dec_le}
 use native.Mathlib.Nat.{add-zero}
 use borrow.Author.Tests.{ne_eqb}
-use Rattle.nodeset.specs.Sums.{sum, num}
-use Rattle.nodeset.specs.Sets.{has, size}
-use Rattle.nodeset.proofs.Tests.{by_cases}
-use Rattle.nodeset.proofs.Sums.{sum-none, sum-next, sum-at, sum-split, one_place}
+use Rattle.ring.specs.nodeset.Sums.{sum, num}
+use Rattle.ring.specs.nodeset.Sets.{has, size}
+use Rattle.ring.proofs.nodeset.Tests.{by_cases}
+use Rattle.ring.proofs.nodeset.Sums.{sum-none, sum-next, sum-at, sum-split, one_place}
 use Rattle.ring.specs.declared.Found.TheVariants.{Member, Nobody}
-use Rattle.slot_table.specs.Order.{node_at, place}
-use Rattle.cable.specs.declared.Cable.{Cable}
+use Rattle.ring.specs.slot_table.Order.{node_at, place}
+use Rattle.ring.specs.cable.declared.Cable.{Cable}
 use Rattle.ring.specs.Ring.{turn, sender, previous, walk, member_before}
 use Rattle.ring_laws.proofs.Senders.{Turns, previous-turn, sender-once, size-round}
 

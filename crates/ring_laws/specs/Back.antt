@@ -1,9 +1,9 @@
 -- Document 02, request b: "The walk back shall give both the member and the number of slots, from 1 to n - 1." What the number says, by the ring alone.
 use Rattle.std.specs.Prelude.{ℕ, zero, suc, ◌+◌, ◌-◌, ◌≤◌, ◌≡◌, true}
-use Rattle.nodeset.specs.Sums.{num}
-use Rattle.nodeset.specs.Sets.{has}
-use Rattle.slot_table.specs.Order.{node_at, place}
-use Rattle.cable.specs.declared.Cable.{Cable}
+use Rattle.ring.specs.nodeset.Sums.{num}
+use Rattle.ring.specs.nodeset.Sets.{has}
+use Rattle.ring.specs.slot_table.Order.{node_at, place}
+use Rattle.ring.specs.cable.declared.Cable.{Cable}
 use Rattle.ring.specs.declared.Found.TheVariants.{Member}
 use Rattle.ring.specs.Ring.{previous, member_before}
 

@@ -1,13 +1,13 @@
 -- Document 02, request k: "With the plain table 1 to n everything is as now." The ring of document 01 as it was before the slot table, by node numbers, and that with the plain table all
 -- that the rules ask of the ring is the same.
 use Rattle.std.specs.Prelude.{ℕ, zero, suc, ◌+◌, ◌-◌, ◌%◌, ◌≡◌, Bool, true, false, cond, ◌&&◌, eqb, leb}
-use Rattle.nodeset.specs.Sums.{num}
-use Rattle.nodeset.specs.Sets.{has}
-use Rattle.slot_table.specs.Order.{kept, numbers_from, plain}
-use Rattle.cable.specs.declared.Cable.{Cable}
+use Rattle.ring.specs.nodeset.Sums.{num}
+use Rattle.ring.specs.nodeset.Sets.{has}
+use Rattle.ring.specs.slot_table.Order.{kept, numbers_from, plain}
+use Rattle.ring.specs.cable.declared.Cable.{Cable}
 use Rattle.ring.specs.declared.Found.{Found}
 use Rattle.ring.specs.declared.Found.TheVariants.{Member, Nobody}
-use Rattle.cable.specs.Cable.{same_cable, ring_size, node_number, lag_fits, sponsor_count, job_count, cable_fits, fault_of}
+use Rattle.ring.specs.cable.Cable.{same_cable, ring_size, node_number, lag_fits, sponsor_count, job_count, cable_fits, fault_of}
 use Rattle.ring.specs.Ring.{sender, previous, member_before, sponsors, sponsored, decided}
 
 -- ---- the ring by node numbers

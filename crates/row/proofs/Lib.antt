@@ -1,2 +1,3 @@
 pub mod Lists
 pub mod Walked
+pub use Rattle.ring.proofs as ring

@@ -9,7 +9,7 @@ use lib.Dec.{eqb}
 use lib.ListN.{length, take, get_or, replicate, length-take}
 use lib.Seq.{take-suc}
 use borrow.Author.Tests.{eq-eqb, ne_eqb, eqb-true, not-true}
-use Rattle.nodeset.proofs.Tests.{by_cases, both, all, or_left, or_right, chosen, otherwise}
+use Rattle.ring.proofs.nodeset.Tests.{by_cases, both, all, or_left, or_right, chosen, otherwise}
 use Rattle.row.specs.Rows.{keep, is_part, blank}
 use Rattle.row.specs.Inner.{elem, one}
 

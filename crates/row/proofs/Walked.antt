@@ -11,11 +11,11 @@ use lib.Dec.{eqb, ltb}
 use lib.ListN.{length, take, drop, get_or, set, replicate, length-append, length-take, drop_of_length-le}
 use lib.Seq.{take-suc, take_at, take-suc-set, drop-set-lt, take_all, drop-cons, drop-append-le, append_snoc, set-append_seam, get_or-take, length-take-le}
 use borrow.Author.Tests.{eq-eqb, ne_eqb, lt-ltb, le-ltb, ltb-true}
-use Rattle.nodeset.specs.Sums.{num}
-use Rattle.nodeset.specs.Sets.{with}
-use Rattle.nodeset.proofs.Sums.{num-le}
-use Rattle.nodeset.proofs.Tests.{by_cases, both, chosen, otherwise}
-use Rattle.slot_table.specs.Order.{node_at, nodes_at}
+use Rattle.ring.specs.nodeset.Sums.{num}
+use Rattle.ring.specs.nodeset.Sets.{with}
+use Rattle.ring.proofs.nodeset.Sums.{num-le}
+use Rattle.ring.proofs.nodeset.Tests.{by_cases, both, chosen, otherwise}
+use Rattle.ring.specs.slot_table.Order.{node_at, nodes_at}
 use Rattle.row.specs.declared.Row.{Row}
 use Rattle.row.specs.Rows.{row_for, keep, is_part, blank}
 use Rattle.row.specs.Inner.{is_next, passed, one, added, past}

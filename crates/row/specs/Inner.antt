@@ -1,7 +1,7 @@
 -- Inner: what the code computes of any row and any table. Laws tie it to sets where the row is that of a set (row_laws' proofs/Laws): it need not be believed.
 use Rattle.std.specs.Prelude.{ℕ, zero, suc, ◌+◌, ◌-◌, Bool, false, cond, not, ◌&&◌, ◌||◌, List, [], ◌∷◌, ◌++◌, eqb, leb, ltb, get_or, set, take, drop}
-use Rattle.nodeset.specs.Sums.{num}
-use Rattle.slot_table.specs.Order.{place, same_order}
+use Rattle.ring.specs.nodeset.Sums.{num}
+use Rattle.ring.specs.slot_table.Order.{place, same_order}
 use Rattle.row.specs.declared.Row.{Row}
 use Rattle.row.specs.Rows.{row_for, keep}
 

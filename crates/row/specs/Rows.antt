@@ -1,8 +1,8 @@
 -- Document 02, request l: "The set shall be held as a row of node numbers in slot order from place 1, with its length, unused places 0." Rows, the sets that they stand for, and which rows
 -- are sound.
 use Rattle.std.specs.Prelude.{ℕ, ◌-◌, ◌^◌, min, Bool, true, false, cond, ◌&&◌, List, [], ◌∷◌, ◌++◌, eqb, leb, length, take, drop, replicate}
-use Rattle.nodeset.specs.Sets.{has}
-use Rattle.slot_table.specs.Order.{nodes_at}
+use Rattle.ring.specs.nodeset.Sets.{has}
+use Rattle.ring.specs.slot_table.Order.{nodes_at}
 use Rattle.row.specs.declared.Row.{Row}
 
 -- "A row of node numbers .. from place 1, with its length, unused places 0."

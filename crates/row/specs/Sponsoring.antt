@@ -1,6 +1,6 @@
 -- Inner: what the rules ask of the ring (ring's specs/Ring), by a row. Laws tie it to sets (row_laws' proofs/Sponsored): it need not be believed.
 use Rattle.std.specs.Prelude.{ℕ, ◌+◌, cond, eqb}
-use Rattle.cable.specs.declared.Cable.{Cable}
+use Rattle.ring.specs.cable.declared.Cable.{Cable}
 use Rattle.ring.specs.Ring.{ks}
 use Rattle.row.specs.declared.Row.{Row}
 use Rattle.row.specs.Inner.{before_row}

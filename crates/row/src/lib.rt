@@ -5,7 +5,7 @@
 #![tactic(auto)]
 
 ghost use Rattle.std.specs.Prelude.{◌≡◌, []};
-ghost use Rattle.slot_table.specs.Order.{same_order};
+ghost use Rattle.ring.specs.slot_table.Order.{same_order};
 ghost use Rattle.row.specs.Rows.{row_for};
 ghost use Rattle.row.specs.Inner.{elem, has_row, without_row, with_row, rank_in, put_in, same_row, row_at, added, past};
 

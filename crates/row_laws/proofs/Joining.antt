@@ -8,10 +8,10 @@ use native.Mathlib.Omega.{arith}
 use native.Mathlib.Decide.{dec_lt}
 use lib.ListN.{length, take, drop, get_or, replicate, length-append, length-take, length-drop, length-replicate, replicate-append-replicate}
 use lib.Seq.{split_at, take_at, drop_at, get_or-take, get_or-drop}
-use Rattle.nodeset.specs.Sets.{has, with}
-use Rattle.nodeset.proofs.Laws.{has-with, has-with-other}
-use Rattle.slot_table.specs.Order.{node_at}
-use Rattle.slot_table.proofs.Places.{same_place}
+use Rattle.ring_laws.specs.nodeset.Sets.{has, with}
+use Rattle.ring_laws.proofs.nodeset.Laws.{has-with, has-with-other}
+use Rattle.ring_laws.specs.slot_table.Order.{node_at}
+use Rattle.ring_laws.proofs.slot_table.Places.{same_place}
 use Rattle.row.specs.Rows.{row_for, keep}
 use Rattle.row.specs.Inner.{elem, put_in}
 use Rattle.row.proofs.Lists.{elem-index, keep_append, keep_same}

@@ -18,17 +18,17 @@ use lib.Pow.{pow_pos, pow_mono}
 use lib.ListN.{length, take, drop, replicate, length-append, length-drop, take-append-drop}
 use lib.Seq.{take_all, take_at, drop_at, length-take-le}
 use borrow.Author.Tests.{eq-eqb, eqb-true, le-leb, lt-leb, leb-true, lt-ltb, le-ltb}
-use Rattle.nodeset.specs.Sums.{num}
-use Rattle.nodeset.specs.Sets.{has, with, without, size, within}
-use Rattle.nodeset.proofs.Tests.{by_cases, both, all, chosen, otherwise}
-use Rattle.nodeset.proofs.Bits.{has-none, has-beyond}
-use Rattle.nodeset.proofs.Laws.{set-ext, with-there}
-use Rattle.nodeset.proofs.Counts.{size_is, size-with, size-le}
-use Rattle.slot_table.specs.Order.{node_at, nodes_at, is_kept, place, same_order}
-use Rattle.slot_table.proofs.Places.{node-place, place_of, over-nodes}
-use Rattle.slot_table.proofs.Same.{same-order, order_same}
-use Rattle.cable.specs.declared.Cable.{Cable}
-use Rattle.ring.specs.Ring.{member_before, member_in}
+use Rattle.ring_laws.specs.nodeset.Sums.{num}
+use Rattle.ring_laws.specs.nodeset.Sets.{has, with, without, size, within}
+use Rattle.ring_laws.proofs.nodeset.Tests.{by_cases, both, all, chosen, otherwise}
+use Rattle.ring_laws.proofs.nodeset.Bits.{has-none, has-beyond}
+use Rattle.ring_laws.proofs.nodeset.Laws.{set-ext, with-there}
+use Rattle.ring_laws.proofs.nodeset.Counts.{size_is, size-with, size-le}
+use Rattle.ring_laws.specs.slot_table.Order.{node_at, nodes_at, is_kept, place, same_order}
+use Rattle.ring_laws.proofs.slot_table.Places.{node-place, place_of, over-nodes}
+use Rattle.ring_laws.proofs.slot_table.Same.{same-order, order_same}
+use Rattle.ring_laws.specs.cable.declared.Cable.{Cable}
+use Rattle.ring_laws.specs.ring.Ring.{member_before, member_in}
 use Rattle.ring_laws.proofs.Senders.{Turns}
 use Rattle.ring_laws.proofs.Walks.{before-is}
 use Rattle.row.specs.declared.Row.{Row}

@@ -11,13 +11,13 @@ use lib.Dec.{eqb}
 use lib.ListN.{length, take, drop, get_or, replicate, length-append, length-replicate, take-append-drop}
 use lib.Seq.{drop-cons, get_or-append-add}
 use borrow.Author.Tests.{eq-eqb, ne_eqb, eqb-true, eqb-false}
-use Rattle.nodeset.specs.Sums.{sum, num}
-use Rattle.nodeset.specs.Sets.{has, with, without}
-use Rattle.nodeset.proofs.Tests.{by_cases, both}
-use Rattle.nodeset.proofs.Sums.{sum-none, sum-next}
-use Rattle.nodeset.proofs.Bits.{has-none}
-use Rattle.nodeset.proofs.Laws.{has-with, has-with-other, has-without, has-without-other, has-range, with-lt}
-use Rattle.slot_table.specs.Order.{node_at, nodes_at}
+use Rattle.ring_laws.specs.nodeset.Sums.{sum, num}
+use Rattle.ring_laws.specs.nodeset.Sets.{has, with, without}
+use Rattle.ring_laws.proofs.nodeset.Tests.{by_cases, both}
+use Rattle.ring_laws.proofs.nodeset.Sums.{sum-none, sum-next}
+use Rattle.ring_laws.proofs.nodeset.Bits.{has-none}
+use Rattle.ring_laws.proofs.nodeset.Laws.{has-with, has-with-other, has-without, has-without-other, has-range, with-lt}
+use Rattle.ring_laws.specs.slot_table.Order.{node_at, nodes_at}
 use Rattle.row.specs.Rows.{row_for, keep, as_row}
 use Rattle.row.specs.Inner.{elem, stays, is_next, passed, one}
 use Rattle.row.proofs.Lists.{elem-padded, elem_next, elem_at, keep_append, keep-next, keep-padded, elem-keep, keep-length}

@@ -9,14 +9,14 @@ use native.Mathlib.Nat.{mod-eq_of_lt}
 use lib.Dec.{eqb, ltb}
 use lib.ListN.{get_or}
 use borrow.Author.Tests.{eq-eqb, ne_eqb, le-leb, lt-leb, lt-ltb, le-ltb}
-use Rattle.nodeset.specs.Sums.{sum, num}
-use Rattle.nodeset.specs.Sets.{has, size}
-use Rattle.nodeset.proofs.Tests.{by_cases, chosen, otherwise}
-use Rattle.nodeset.proofs.Sums.{sum-none, sum-next, sum-split, sum_same, sum-at}
-use Rattle.slot_table.specs.Order.{node_at, place}
-use Rattle.cable.specs.declared.Cable.{Cable}
-use Rattle.ring.specs.declared.Found.TheVariants.{Nobody}
-use Rattle.ring.specs.Ring.{turn, sender, previous, walk, member_in}
+use Rattle.ring_laws.specs.nodeset.Sums.{sum, num}
+use Rattle.ring_laws.specs.nodeset.Sets.{has, size}
+use Rattle.ring_laws.proofs.nodeset.Tests.{by_cases, chosen, otherwise}
+use Rattle.ring_laws.proofs.nodeset.Sums.{sum-none, sum-next, sum-split, sum_same, sum-at}
+use Rattle.ring_laws.specs.slot_table.Order.{node_at, place}
+use Rattle.ring_laws.specs.cable.declared.Cable.{Cable}
+use Rattle.ring_laws.specs.ring.declared.Found.TheVariants.{Nobody}
+use Rattle.ring_laws.specs.ring.Ring.{turn, sender, previous, walk, member_in}
 use Rattle.ring_laws.proofs.Senders.{Turns, turn-period, sender-period, size-round}
 use Rattle.ring_laws.proofs.Walks.{member, Met, walk_meets, walk_none, others}
 use Rattle.row.specs.declared.Row.{Row}

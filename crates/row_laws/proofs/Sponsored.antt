@@ -5,11 +5,11 @@ use mathlib.Core.Bool.{true, false, cond}
 use native.Mathlib.Omega.{arith}
 use lib.Dec.{eqb}
 use borrow.Author.Tests.{eqb-true, eqb-false, le-leb}
-use Rattle.nodeset.proofs.Tests.{by_cases, all, chosen, otherwise}
-use Rattle.slot_table.specs.Order.{is_kept}
-use Rattle.cable.specs.declared.Cable.{Cable}
-use Rattle.ring.specs.declared.Found.TheVariants.{Nobody}
-use Rattle.ring.specs.Ring.{ks, member_in, member_before, sponsors, sponsored, decided}
+use Rattle.ring_laws.proofs.nodeset.Tests.{by_cases, all, chosen, otherwise}
+use Rattle.ring_laws.specs.slot_table.Order.{is_kept}
+use Rattle.ring_laws.specs.cable.declared.Cable.{Cable}
+use Rattle.ring_laws.specs.ring.declared.Found.TheVariants.{Nobody}
+use Rattle.ring_laws.specs.ring.Ring.{ks, member_in, member_before, sponsors, sponsored, decided}
 use Rattle.row.specs.Rows.{as_row}
 use Rattle.row.specs.Sponsoring.{sponsors_row, sponsored_row, decided_row}
 use Rattle.row_laws.proofs.Laws.{size-row, before-row}

@@ -9,10 +9,10 @@ use lib.Dec.{eqb, leb}
 use lib.ListN.{length, take, drop, get_or, replicate, length-drop, length-replicate, get_or-replicate, take-append-drop}
 use lib.Seq.{length-take-le, get_or-take, get_or-drop, ext_get_or}
 use borrow.Author.Tests.{eqb-true, leb-true}
-use Rattle.nodeset.specs.Sets.{full}
-use Rattle.nodeset.proofs.Tests.{both}
-use Rattle.slot_table.specs.Order.{node_at, nodes_at, is_order, spare_empty, is_kept}
-use Rattle.slot_table.proofs.Places.{Ordered, ordered_of, kept-order, kept-length, node-range, node-place, same_place}
+use Rattle.ring_laws.specs.nodeset.Sets.{full}
+use Rattle.ring_laws.proofs.nodeset.Tests.{both}
+use Rattle.ring_laws.specs.slot_table.Order.{node_at, nodes_at, is_order, spare_empty, is_kept}
+use Rattle.ring_laws.proofs.slot_table.Places.{Ordered, ordered_of, kept-order, kept-length, node-range, node-place, same_place}
 use Rattle.row.specs.Inner.{elem}
 use Rattle.row.proofs.Lists.{elem_at, elem-index, elem-padded, apart, is-apart}
 

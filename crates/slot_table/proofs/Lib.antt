@@ -3,3 +3,4 @@ pub mod Sums
 pub mod Places
 pub mod Same
 pub mod Numbers
+pub use Rattle.nodeset.proofs as nodeset

@@ -6,33 +6,33 @@ use mathlib.Core.List.{List, [], ◌∷◌, ◌++◌}
 use lib.Dec.{eqb, ltb}
 use lib.ListN.{length, drop, length-map, length-replicate}
 use borrow.Author.Tests.{eq-eqb, eqb-true}
-use Rattle.nodeset.specs.Sets.{within}
-use Rattle.nodeset.proofs.Tests.{both, all}
-use Rattle.cable.specs.declared.Choices.{Choices}
-use Rattle.cable.specs.Cable.{cable_with, job_count, fault_of}
-use Rattle.node_reports.specs.Reports.{Counts, no_reports, no_reports_at}
-use Rattle.node_reports.proofs.Laws.{none-within-all}
-use Rattle.message.specs.Message.{jobs_within}
-use Rattle.node_record.specs.declared.Node.{Node}
-use Rattle.node_record.specs.declared.State.{State}
-use Rattle.node_record.specs.States.{is_member}
-use Rattle.node_record.specs.Soundness.{limit}
-use Rattle.node_changes.specs.Changes.{starting}
-use Rattle.node.specs.declared.Answer.{Answer}
-use Rattle.node.specs.declared.Answer.TheVariants.{Done, Refused}
-use Rattle.bench.specs.declared.Command.{Command}
-use Rattle.bench.specs.declared.Command.TheVariants as command
-use Rattle.bench.specs.declared.Fate.TheVariants as fate
-use Rattle.bench.specs.declared.Listed.{Listed}
-use Rattle.bench.specs.declared.Listed.TheVariants as listed
-use Rattle.bench.specs.Table.{Table, record_of, node_count, slots_of}
-use Rattle.bench.specs.Calls.{Called, done, if_passed, start_table, set_up_of, set_up_given, slot_of, off_of, look_of, list_in, farthest, greatest, fate_of}
-use Rattle.bench.specs.Reports.{reports_fit, jobs_on}
-use Rattle.bench.specs.Outcomes.{slot_given, slot_outcome}
-use Rattle.bench.specs.Pairs.{Pair, kind_from, pair_bytes, group_from, pairs_in, pairs_told, slot_bytes}
-use Rattle.bench.specs.Ledger.{Ledger, Figures, ledger_fits, figures_after, entries_from}
-use Rattle.bench.specs.Kept.{set_up_with, slot_with, off_with, called_with, if_done, kept_of, bytes_with}
-use Rattle.bench.specs.Runs.{slot, off, restart, call_of}
+use Rattle.ledger.specs.nodeset.Sets.{within}
+use Rattle.ledger.proofs.nodeset.Tests.{both, all}
+use Rattle.ledger.specs.cable.declared.Choices.{Choices}
+use Rattle.ledger.specs.cable.Cable.{cable_with, job_count, fault_of}
+use Rattle.ledger.specs.node_reports.Reports.{Counts, no_reports, no_reports_at}
+use Rattle.ledger.proofs.node_reports.Laws.{none-within-all}
+use Rattle.ledger.specs.message.Message.{jobs_within}
+use Rattle.ledger.specs.node_record.declared.Node.{Node}
+use Rattle.ledger.specs.node_record.declared.State.{State}
+use Rattle.ledger.specs.node_record.States.{is_member}
+use Rattle.ledger.specs.node_record.Soundness.{limit}
+use Rattle.ledger.specs.node_changes.Changes.{starting}
+use Rattle.ledger.specs.node.declared.Answer.{Answer}
+use Rattle.ledger.specs.node.declared.Answer.TheVariants.{Done, Refused}
+use Rattle.ledger.specs.bench.declared.Command.{Command}
+use Rattle.ledger.specs.bench.declared.Command.TheVariants as command
+use Rattle.ledger.specs.bench.declared.Fate.TheVariants as fate
+use Rattle.ledger.specs.bench.declared.Listed.{Listed}
+use Rattle.ledger.specs.bench.declared.Listed.TheVariants as listed
+use Rattle.ledger.specs.bench.Table.{Table, record_of, node_count, slots_of}
+use Rattle.ledger.specs.bench.Calls.{Called, done, if_passed, start_table, set_up_of, set_up_given, slot_of, off_of, look_of, list_in, farthest, greatest, fate_of}
+use Rattle.ledger.specs.bench.Reports.{reports_fit, jobs_on}
+use Rattle.ledger.specs.bench.Outcomes.{slot_given, slot_outcome}
+use Rattle.ledger.specs.bench.Pairs.{Pair, kind_from, pair_bytes, group_from, pairs_in, pairs_told, slot_bytes}
+use Rattle.ledger.specs.bench.Ledger.{Ledger, Figures, ledger_fits, figures_after, entries_from}
+use Rattle.ledger.specs.bench.Kept.{set_up_with, slot_with, off_with, called_with, if_done, kept_of, bytes_with}
+use Rattle.ledger.specs.bench.Runs.{slot, off, restart, call_of}
 use Rattle.without_jobs.specs.Without.{choices_without, forget, forget_all, jobs_kept, passes_new, command_without, SameKept, SameCall}
 use Rattle.without_jobs.proofs.Records.{fits-same, may-same, fault-same}
 use Rattle.without_jobs.proofs.Tables.{record_same, slots_same, speaker-same, sender-same, transmits-same, each_same, forget_called, called-alike, both-sound, sound-kept, node-number-same, call_same}

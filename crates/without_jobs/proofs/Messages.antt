@@ -10,26 +10,26 @@ use lib.ListN.{length, get_or, take, drop, length-drop, take-append-drop}
 use lib.Pow.{pow_pos}
 use lib.Seq.{length-take-le, take_at, take-append-le, drop-append-le}
 use borrow.Author.Tests.{eq-eqb, ne_eqb, eqb-true, le-leb, lt-ltb}
-use Rattle.nodeset.proofs.Tests.{both, all, chosen, or_else, or_right}
-use Rattle.cable.specs.declared.Choices.{Choices}
-use Rattle.cable.specs.declared.Cable.{Cable}
-use Rattle.cable.specs.Cable.{cable_with, job_count, node_number, fault_of}
-use Rattle.node_reports.specs.Reports.{Counts, counts_within}
-use Rattle.message.specs.declared.Reading.{Reading}
-use Rattle.message.specs.declared.Reading.TheVariants as reading
-use Rattle.message.specs.declared.Received.{Received}
-use Rattle.message.specs.Message.{Outcome, bits_in, if_read, if_written, in_range, job_section, jobs_within, length_of, length_one, length_two, message_of, part_one, part_three, part_two, read_of, said_by, section_in, two_sections, write_of, wrote}
-use Rattle.message.specs.TwoSections.{absent, read_two_of}
-use Rattle.message.proofs.Parts.{length-two}
-use Rattle.message.proofs.RoundTrip.{length-message, passed-all, put_all}
-use Rattle.node_record.specs.declared.Node.{Node}
-use Rattle.node_record.specs.States.{is_member}
-use Rattle.node_record.specs.Soundness.{limit}
-use Rattle.ring.specs.Ring.{sender}
-use Rattle.node_changes.specs.Changes.{starting}
-use Rattle.node_sending.specs.Sending.{bits_sent, return_sent, jobs_sent}
-use Rattle.node.specs.Calls.{Counted, done, refused, no_node, set_up_of, start_of, step_of, counted_of, slot_of, its_turn, unsent, send_of}
-use Rattle.node.proofs.Sent.{sent-by}
+use Rattle.ledger.proofs.nodeset.Tests.{both, all, chosen, or_else, or_right}
+use Rattle.ledger.specs.cable.declared.Choices.{Choices}
+use Rattle.ledger.specs.cable.declared.Cable.{Cable}
+use Rattle.ledger.specs.cable.Cable.{cable_with, job_count, node_number, fault_of}
+use Rattle.ledger.specs.node_reports.Reports.{Counts, counts_within}
+use Rattle.ledger.specs.message.declared.Reading.{Reading}
+use Rattle.ledger.specs.message.declared.Reading.TheVariants as reading
+use Rattle.ledger.specs.message.declared.Received.{Received}
+use Rattle.ledger.specs.message.Message.{Outcome, bits_in, if_read, if_written, in_range, job_section, jobs_within, length_of, length_one, length_two, message_of, part_one, part_three, part_two, read_of, said_by, section_in, two_sections, write_of, wrote}
+use Rattle.ledger.specs.message.TwoSections.{absent, read_two_of}
+use Rattle.ledger.proofs.message.Parts.{length-two}
+use Rattle.ledger.proofs.message.RoundTrip.{length-message, passed-all, put_all}
+use Rattle.ledger.specs.node_record.declared.Node.{Node}
+use Rattle.ledger.specs.node_record.States.{is_member}
+use Rattle.ledger.specs.node_record.Soundness.{limit}
+use Rattle.ledger.specs.ring.Ring.{sender}
+use Rattle.ledger.specs.node_changes.Changes.{starting}
+use Rattle.ledger.specs.node_sending.Sending.{bits_sent, return_sent, jobs_sent}
+use Rattle.ledger.specs.node.Calls.{Counted, done, refused, no_node, set_up_of, start_of, step_of, counted_of, slot_of, its_turn, unsent, send_of}
+use Rattle.ledger.proofs.node.Sent.{sent-by}
 use Rattle.without_jobs.specs.Without.{without_jobs, choices_without, forget, forget_stepped, without_section, section_right, SameAtNode}
 use Rattle.without_jobs.proofs.Records.{answers-alike, may-same, fault-same, record-sound, step_same, off-same, restart-same, bits-sent}
 

@@ -3,31 +3,31 @@ use Prim.Native.Nat.{ℕ, zero, suc, ◌+◌}
 use mathlib.Core.Path.{◌≡◌, refl, sym, ap, ap₂, ◌∙◌}
 use mathlib.Core.Bool.{Bool, true, false, cond, not, ◌&&◌, ◌||◌, true≢false}
 use lib.Dec.{eqb, leb, ltb}
-use Rattle.nodeset.specs.Sets.{has, with, without, with_if}
-use Rattle.nodeset.proofs.Tests.{by_cases}
-use Rattle.cable.specs.declared.Cable.{Cable}
-use Rattle.slot_table.specs.Order.{is_kept}
-use Rattle.cable.specs.Cable.{ring_size, lag_fits, sponsor_count, job_count, cable_fits, may_set_up, fault_of}
-use Rattle.ring.specs.declared.Found.{Found}
-use Rattle.ring.specs.Ring.{member_before, member_in, is_found, sender, sponsors, sponsored, decided}
-use Rattle.ring_laws.proofs.Alike.{before-alike, sponsored-alike, decided-alike}
-use Rattle.message.specs.declared.Reading.{Reading}
-use Rattle.message.specs.declared.Reading.TheVariants as reading
-use Rattle.node_record.specs.declared.Node.{Node}
-use Rattle.node_record.specs.declared.Window.{Window}
-use Rattle.node_record.specs.declared.Cause.{Cause}
-use Rattle.node_record.specs.declared.State.{State}
-use Rattle.node_record.specs.declared.State.TheVariants.{Member, Listening, Following, Knocking, Out}
-use Rattle.node_record.specs.States.{is_member, is_following, is_knocking, is_out, leaving_cause}
-use Rattle.node_record.specs.Soundness.{sound, limit}
-use Rattle.node_record.specs.Sponsoring.{sponsors_in}
-use Rattle.node_record.proofs.Facts.{clauses, sound-by}
-use Rattle.node_changes.specs.Changes.{with_set, out_for, fresh, leave, listening_after, following_with, with_window, with_marks, with_returning, counted}
-use Rattle.node_steps.specs.Steps.{is_heard, is_own, own_marks, confirmed, says_so, says, heard_marks, read_marks, marks_after, read_yes, yes_after, missed_return, heard_return, marked, noted, leaves, departed, departed_in, leaves_in, too_few, nothing_heard, joins, joined, join, after_message, settle, slot_from, tracking_slot}
-use Rattle.node_hearing.specs.Hearing.{window_after, clean, window_end, goes_on, listening_slot}
-use Rattle.node_sending.specs.Sending.{mark_bits, bits_sent}
-use Rattle.node_slot.specs.Slot.{slot_in, after_slot}
-use Rattle.node.specs.Calls.{Stepped, done, refused, step_of, off_of, restart_of}
+use Rattle.ledger.specs.nodeset.Sets.{has, with, without, with_if}
+use Rattle.ledger.proofs.nodeset.Tests.{by_cases}
+use Rattle.ledger.specs.cable.declared.Cable.{Cable}
+use Rattle.ledger.specs.slot_table.Order.{is_kept}
+use Rattle.ledger.specs.cable.Cable.{ring_size, lag_fits, sponsor_count, job_count, cable_fits, may_set_up, fault_of}
+use Rattle.ledger.specs.ring.declared.Found.{Found}
+use Rattle.ledger.specs.ring.Ring.{member_before, member_in, is_found, sender, sponsors, sponsored, decided}
+use Rattle.ledger.proofs.ring_laws.Alike.{before-alike, sponsored-alike, decided-alike}
+use Rattle.ledger.specs.message.declared.Reading.{Reading}
+use Rattle.ledger.specs.message.declared.Reading.TheVariants as reading
+use Rattle.ledger.specs.node_record.declared.Node.{Node}
+use Rattle.ledger.specs.node_record.declared.Window.{Window}
+use Rattle.ledger.specs.node_record.declared.Cause.{Cause}
+use Rattle.ledger.specs.node_record.declared.State.{State}
+use Rattle.ledger.specs.node_record.declared.State.TheVariants.{Member, Listening, Following, Knocking, Out}
+use Rattle.ledger.specs.node_record.States.{is_member, is_following, is_knocking, is_out, leaving_cause}
+use Rattle.ledger.specs.node_record.Soundness.{sound, limit}
+use Rattle.ledger.specs.node_record.Sponsoring.{sponsors_in}
+use Rattle.ledger.proofs.node_record.Facts.{clauses, sound-by}
+use Rattle.ledger.specs.node_changes.Changes.{with_set, out_for, fresh, leave, listening_after, following_with, with_window, with_marks, with_returning, counted}
+use Rattle.ledger.specs.node_steps.Steps.{is_heard, is_own, own_marks, confirmed, says_so, says, heard_marks, read_marks, marks_after, read_yes, yes_after, missed_return, heard_return, marked, noted, leaves, departed, departed_in, leaves_in, too_few, nothing_heard, joins, joined, join, after_message, settle, slot_from, tracking_slot}
+use Rattle.ledger.specs.node_hearing.Hearing.{window_after, clean, window_end, goes_on, listening_slot}
+use Rattle.ledger.specs.node_sending.Sending.{mark_bits, bits_sent}
+use Rattle.ledger.specs.node_slot.Slot.{slot_in, after_slot}
+use Rattle.ledger.specs.node.Calls.{Stepped, done, refused, step_of, off_of, restart_of}
 use Rattle.without_jobs.specs.Without.{without_jobs, forget, forget_stepped}
 
 -- ---- choices

@@ -5,15 +5,15 @@ use mathlib.Core.Bool.{true}
 use mathlib.Core.List.{[], ◌∷◌}
 use native.Mathlib.Omega.{arith}
 use lib.ListN.{length}
-use Rattle.cable.specs.declared.Cable.{Cable}
-use Rattle.cable.specs.Cable.{cable_fits}
-use Rattle.cable.proofs.Ranges.{ring-size, fitting, fits_by}
-use Rattle.node_changes.specs.Changes.{starting}
-use Rattle.bench.specs.Table.{Table, each_from, slots_of}
-use Rattle.bench.specs.Calls.{Called, set_up_of}
-use Rattle.bench.specs.Runs.{call_of, table_after}
-use Rattle.bench.proofs.Places.{placed-sound}
-use Rattle.bench.proofs.Runs.{start-table, start-placed, placed-run}
+use Rattle.ledger.specs.cable.declared.Cable.{Cable}
+use Rattle.ledger.specs.cable.Cable.{cable_fits}
+use Rattle.ledger.proofs.cable.Ranges.{ring-size, fitting, fits_by}
+use Rattle.ledger.specs.node_changes.Changes.{starting}
+use Rattle.ledger.specs.bench.Table.{Table, each_from, slots_of}
+use Rattle.ledger.specs.bench.Calls.{Called, set_up_of}
+use Rattle.ledger.specs.bench.Runs.{call_of, table_after}
+use Rattle.ledger.proofs.bench.Places.{placed-sound}
+use Rattle.ledger.proofs.bench.Runs.{start-table, start-placed, placed-run}
 use Rattle.ledger.specs.Runs.{taken}
 use Rattle.ledger.proofs.AnyLent.{any_lent}
 use Rattle.without_jobs.specs.Without.{without_jobs, forget, forget_all, start_without, SameMembership, SameAsMade}

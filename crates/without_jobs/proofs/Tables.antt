@@ -8,26 +8,26 @@ use native.Mathlib.Nat.{add-zero}
 use lib.Dec.{eqb, leb, ltb}
 use lib.ListN.{length, get_or, length-map, get_or-map}
 use borrow.Author.Tests.{eq-eqb}
-use Rattle.nodeset.specs.Sets.{has, within}
-use Rattle.nodeset.proofs.Tests.{both, all}
-use Rattle.slot_table.specs.Order.{same_order}
-use Rattle.cable.specs.declared.Cable.{Cable}
-use Rattle.cable.specs.Cable.{node_number, job_count}
-use Rattle.ring.specs.Ring.{sender}
-use Rattle.message.specs.declared.Reading.{Reading}
-use Rattle.message.specs.declared.Reading.TheVariants as reading
-use Rattle.node_record.specs.declared.Node.{Node}
-use Rattle.node_record.specs.States.{is_out}
-use Rattle.node_record.specs.Soundness.{limit}
-use Rattle.node_record.proofs.Facts.{clauses}
-use Rattle.node_sending.specs.Sending.{sends, bits_sent, return_sent}
-use Rattle.node.specs.Calls as node
-use Rattle.node.specs.Calls.{Stepped, no_node}
-use Rattle.bench.specs.Table.{Table, record_of, each_from, each, in_place, placed_from, table_sound, slots_of, speaker}
-use Rattle.bench.specs.Calls.{Called, done, if_passed, transmits, unheard, spoken, heard_by, table_after_slot, slot_of, table_after_off, off_of, table_after_restart, restart_of}
-use Rattle.bench.specs.Reports.{jobs_on}
-use Rattle.bench.specs.Runs.{Call, slot, off, restart, call_of}
-use Rattle.bench.proofs.Places.{in-place}
+use Rattle.ledger.specs.nodeset.Sets.{has, within}
+use Rattle.ledger.proofs.nodeset.Tests.{both, all}
+use Rattle.ledger.specs.slot_table.Order.{same_order}
+use Rattle.ledger.specs.cable.declared.Cable.{Cable}
+use Rattle.ledger.specs.cable.Cable.{node_number, job_count}
+use Rattle.ledger.specs.ring.Ring.{sender}
+use Rattle.ledger.specs.message.declared.Reading.{Reading}
+use Rattle.ledger.specs.message.declared.Reading.TheVariants as reading
+use Rattle.ledger.specs.node_record.declared.Node.{Node}
+use Rattle.ledger.specs.node_record.States.{is_out}
+use Rattle.ledger.specs.node_record.Soundness.{limit}
+use Rattle.ledger.proofs.node_record.Facts.{clauses}
+use Rattle.ledger.specs.node_sending.Sending.{sends, bits_sent, return_sent}
+use Rattle.ledger.specs.node.Calls as node
+use Rattle.ledger.specs.node.Calls.{Stepped, no_node}
+use Rattle.ledger.specs.bench.Table.{Table, record_of, each_from, each, in_place, placed_from, table_sound, slots_of, speaker}
+use Rattle.ledger.specs.bench.Calls.{Called, done, if_passed, transmits, unheard, spoken, heard_by, table_after_slot, slot_of, table_after_off, off_of, table_after_restart, restart_of}
+use Rattle.ledger.specs.bench.Reports.{jobs_on}
+use Rattle.ledger.specs.bench.Runs.{Call, slot, off, restart, call_of}
+use Rattle.ledger.proofs.bench.Places.{in-place}
 use Rattle.without_jobs.specs.Without.{without_jobs, forget, forget_all, jobs_kept, forget_stepped}
 use Rattle.without_jobs.proofs.Records.{alike, record-sound, step_same, off-same, restart-same, bits-sent}
 

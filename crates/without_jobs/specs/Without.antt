@@ -1,24 +1,24 @@
 -- Request h: "Where no new check refuses a call or message, membership is the same as if the section were absent." The rules of a slot are given nothing of the section
 -- (`Reading` has no jobs): all that a table holds of it is the number of jobs m, which each record keeps in its cable, and a table without it is one with m = 0. A sequence of calls has THE LATEST FIRST.
 use Rattle.std.specs.Prelude.{ℕ, ◌-◌, ◌≡◌, Bool, true, not, ◌&&◌, ◌||◌, List, [], ◌∷◌, map, eqb, length, take}
-use Rattle.cable.specs.declared.Choices.{Choices}
-use Rattle.cable.specs.declared.Cable.{Cable}
-use Rattle.cable.specs.Cable.{job_count, cable_fits}
-use Rattle.node_reports.specs.Reports.{Counts, no_reports_at, counts_within}
-use Rattle.message.specs.declared.Reading.TheVariants as reading
-use Rattle.message.specs.Message.{length_of, part_three, section_in, read_of, jobs_within, two_sections, wrote}
-use Rattle.message.specs.TwoSections.{read_two_of}
-use Rattle.node_record.specs.declared.Node.{Node}
-use Rattle.node_sending.specs.Sending.{bits_sent, return_sent}
-use Rattle.node.specs.Calls.{Stepped, start_of, step_of, slot_of, off_of, restart_of, send_of}
-use Rattle.bench.specs.declared.Command.{Command}
-use Rattle.bench.specs.declared.Command.TheVariants as command
-use Rattle.bench.specs.Table.{Table, table_sound}
-use Rattle.bench.specs.Calls.{set_up_of}
-use Rattle.bench.specs.Reports.{reports_fit, jobs_on}
-use Rattle.bench.specs.Ledger.{Ledger}
-use Rattle.bench.specs.Kept.{Kept, kept_of, bytes_with}
-use Rattle.bench.specs.Runs.{Call, table_after}
+use Rattle.ledger.specs.cable.declared.Choices.{Choices}
+use Rattle.ledger.specs.cable.declared.Cable.{Cable}
+use Rattle.ledger.specs.cable.Cable.{job_count, cable_fits}
+use Rattle.ledger.specs.node_reports.Reports.{Counts, no_reports_at, counts_within}
+use Rattle.ledger.specs.message.declared.Reading.TheVariants as reading
+use Rattle.ledger.specs.message.Message.{length_of, part_three, section_in, read_of, jobs_within, two_sections, wrote}
+use Rattle.ledger.specs.message.TwoSections.{read_two_of}
+use Rattle.ledger.specs.node_record.declared.Node.{Node}
+use Rattle.ledger.specs.node_sending.Sending.{bits_sent, return_sent}
+use Rattle.ledger.specs.node.Calls.{Stepped, start_of, step_of, slot_of, off_of, restart_of, send_of}
+use Rattle.ledger.specs.bench.declared.Command.{Command}
+use Rattle.ledger.specs.bench.declared.Command.TheVariants as command
+use Rattle.ledger.specs.bench.Table.{Table, table_sound}
+use Rattle.ledger.specs.bench.Calls.{set_up_of}
+use Rattle.ledger.specs.bench.Reports.{reports_fit, jobs_on}
+use Rattle.ledger.specs.bench.Ledger.{Ledger}
+use Rattle.ledger.specs.bench.Kept.{Kept, kept_of, bytes_with}
+use Rattle.ledger.specs.bench.Runs.{Call, table_after}
 use Rattle.ledger.specs.Runs.{Lent, table_lent, taken}
 
 -- A cable's choices but for the number of jobs, which is 0.

@@ -1,17 +1,17 @@
 -- The tables of worked examples hold. Assumes nothing.
 use mathlib.Core.Path.{refl, ◌∙◌}
 use mathlib.Core.List.{[], ◌∷◌}
-use Rattle.message.specs.Message.{bytes_of, two_sections, message_of, little, said_by, read_of, write_of}
-use Rattle.node_record.specs.declared.Node.{Node}
-use Rattle.slot_table.specs.Order.{kept, nodes_at}
-use Rattle.row.specs.Rows.{as_row, sound_row, nodes_in, as_set}
-use Rattle.message.specs.TwoSections.{read_two_of, write_two_of}
+use Rattle.converter.specs.message.Message.{bytes_of, two_sections, message_of, little, said_by, read_of, write_of}
+use Rattle.cover_light.specs.node_record.declared.Node.{Node}
+use Rattle.converter.specs.slot_table.Order.{kept, nodes_at}
+use Rattle.cover_light.specs.row.Rows.{as_row, sound_row, nodes_in, as_set}
+use Rattle.converter.specs.message.TwoSections.{read_two_of, write_two_of}
 use Rattle.converter.specs.Converter.{to_three_of, job_count_in, read_any_of, to_two_of}
-use Rattle.node.specs.Calls.{step_of, counts_after, counted_of, send_of}
-use Rattle.node_reports.specs.Reports.{every_below, row_within, counts_within, counts_with, row_with}
+use Rattle.cover_light.specs.node.Calls.{step_of, counts_after, counted_of, send_of}
+use Rattle.cover_light.specs.node_reports.Reports.{every_below, row_within, counts_within, counts_with, row_with}
 use Rattle.cover_light.specs.Light.{base, half, worked, lamp_level, bases_fit, level_of, all_levels, levels_of}
-use Rattle.bench.specs.Calls.{set_up_given}
-use Rattle.bench.proofs.Computed.{computed}
+use Rattle.plan_program.specs.bench.Calls.{set_up_given}
+use Rattle.plan_program.proofs.bench.Computed.{computed}
 use Rattle.plan_program.proofs.OnSets.{shown-as-before}
 use Rattle.plan_program.proofs.Computed.{printing}
 use Rattle.worked_examples.specs.Rows.{AllHold}

@@ -1,17 +1,17 @@
 -- "The examples marked P form a single table, proved by one statement against the definitions" (document 01, "What a contract says, and which examples carry
 -- proof"). The rows stand in document 01's order under its sentences.
 use Rattle.std.specs.Prelude.{ℕ, true, false, List, [], ◌∷◌, replicate}
-use Rattle.ring.specs.declared.Speaker.TheVariants as speaker
-use Rattle.ring.specs.declared.Found.TheVariants as found
-use Rattle.cable.specs.Cable.{cable_of}
-use Rattle.ring.specs.Answers.{finds, sender_of, sponsored_of, decided_of}
-use Rattle.message.specs.declared.Written.TheVariants as written
-use Rattle.message.specs.Message.{read_of, write_of}
-use Rattle.bench.specs.Table.{Table}
-use Rattle.bench.specs.Runs.{Call, off}
-use Rattle.plan_line.specs.Words.{bytes}
+use Rattle.cover_light.specs.ring.declared.Speaker.TheVariants as speaker
+use Rattle.cover_light.specs.ring.declared.Found.TheVariants as found
+use Rattle.cover_light.specs.cable.Cable.{cable_of}
+use Rattle.cover_light.specs.ring.Answers.{finds, sender_of, sponsored_of, decided_of}
+use Rattle.converter.specs.message.declared.Written.TheVariants as written
+use Rattle.converter.specs.message.Message.{read_of, write_of}
+use Rattle.plan_program.specs.bench.Table.{Table}
+use Rattle.plan_program.specs.bench.Runs.{Call, off}
+use Rattle.plan_program.specs.plan_line.Words.{bytes}
 use Rattle.plan_program.specs.Program.{printed}
-use Rattle.bench.specs.Plans.{ok, lost}
+use Rattle.plan_program.specs.bench.Plans.{ok, lost}
 use Rattle.worked_examples.specs.Rows.{Row, ◌gives◌, these, refusal_in, holds, out, standing, standings, miss, after, failures, apart}
 
 -- ---- plans, and the listing

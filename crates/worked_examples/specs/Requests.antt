@@ -1,31 +1,31 @@
 -- Examples of document 02's requests, under its sentences.
 use Rattle.std.specs.Prelude.{ℕ, ◌-◌, Bool, true, false, List, [], ◌∷◌, ◌++◌, reverse, length, get_or, replicate, take}
-use Rattle.nodeset.specs.Sets.{has}
-use Rattle.refusal.specs.Causes.{cause}
-use Rattle.cable.specs.declared.Cable.{Cable}
-use Rattle.cable.specs.declared.Choices.{Choices}
-use Rattle.ring.specs.declared.Speaker.TheVariants as speaker
-use Rattle.ring.specs.declared.Found.TheVariants as found
-use Rattle.cable.specs.Cable.{cable_of, lagging_cable, cable_with}
-use Rattle.ring.specs.Answers.{finds, sender_of, sponsored_of, decided_of}
-use Rattle.node.specs.declared.Answer.TheVariants as answer
-use Rattle.node_record.specs.declared.Window.{Window}
-use Rattle.node_hearing.specs.Hearing.{clean}
-use Rattle.node_sending.specs.Sending.{bits_sent}
-use Rattle.bench.specs.Table.{Table, record_of}
-use Rattle.node_reports.specs.Reports.{no_reports}
-use Rattle.node.specs.Calls as node
-use Rattle.bench.specs.Calls.{Called, set_up_given, slot_of}
-use Rattle.bench.specs.Pairs.{slot_bytes}
-use Rattle.bench.specs.Runs.{Call, off, restart, table_after}
-use Rattle.bench.specs.Plans.{ok, lost}
-use Rattle.message.specs.declared.Written.TheVariants.{Bytes}
-use Rattle.message.specs.Message.{Outcome, heard, unwritten, read_of, write_of}
+use Rattle.cover_light.specs.nodeset.Sets.{has}
+use Rattle.converter.specs.refusal.Causes.{cause}
+use Rattle.cover_light.specs.cable.declared.Cable.{Cable}
+use Rattle.cover_light.specs.cable.declared.Choices.{Choices}
+use Rattle.cover_light.specs.ring.declared.Speaker.TheVariants as speaker
+use Rattle.cover_light.specs.ring.declared.Found.TheVariants as found
+use Rattle.cover_light.specs.cable.Cable.{cable_of, lagging_cable, cable_with}
+use Rattle.cover_light.specs.ring.Answers.{finds, sender_of, sponsored_of, decided_of}
+use Rattle.cover_light.specs.node.declared.Answer.TheVariants as answer
+use Rattle.cover_light.specs.node_record.declared.Window.{Window}
+use Rattle.cover_light.specs.node_hearing.Hearing.{clean}
+use Rattle.cover_light.specs.node_sending.Sending.{bits_sent}
+use Rattle.plan_program.specs.bench.Table.{Table, record_of}
+use Rattle.cover_light.specs.node_reports.Reports.{no_reports}
+use Rattle.cover_light.specs.node.Calls as node
+use Rattle.plan_program.specs.bench.Calls.{Called, set_up_given, slot_of}
+use Rattle.plan_program.specs.bench.Pairs.{slot_bytes}
+use Rattle.plan_program.specs.bench.Runs.{Call, off, restart, table_after}
+use Rattle.plan_program.specs.bench.Plans.{ok, lost}
+use Rattle.converter.specs.message.declared.Written.TheVariants.{Bytes}
+use Rattle.converter.specs.message.Message.{Outcome, heard, unwritten, read_of, write_of}
 use Rattle.converter.specs.Converter.{to_three_of, to_two_of}
 use Rattle.cover_light.specs.declared.Light.TheVariants as light
 use Rattle.cover_light.specs.Light.{worked, level_of, levels_of}
-use Rattle.row.specs.declared.Row as members
-use Rattle.row.specs.Rows.{as_row, sound_row, as_set}
+use Rattle.cover_light.specs.row.declared.Row as members
+use Rattle.cover_light.specs.row.Rows.{as_row, sound_row, as_set}
 use Rattle.worked_examples.specs.Rows.{Row, ◌gives◌, these, refusal_in, Standing, standing_as, holds, out, other, standings, miss, after_on, after}
 
 -- ---- c: changes in a fixed order

@@ -1,20 +1,20 @@
 -- Rows of worked examples: what is asked of a definition that the contracts cite, and what is answered; and how rows are written.
 use Rattle.std.specs.Prelude.{ℕ, ◌≡◌, false}
 use mathlib.Core.List.{List, [], ◌∷◌, foldr, map, reverse}
-use Rattle.refusal.specs.Causes.{number_of}
-use Rattle.nodeset.specs.Sums.{sum}
-use Rattle.nodeset.specs.Sets.{with}
-use Rattle.cable.specs.declared.Cable.{Cable}
-use Rattle.cable.specs.Cable.{cable_of}
-use Rattle.message.specs.declared.Reading.{Reading}
-use Rattle.message.specs.declared.Reading.TheVariants as reading
-use Rattle.node_record.specs.declared.Node.{Node}
-use Rattle.node_record.specs.declared.State.{State}
-use Rattle.node_record.specs.declared.State.TheVariants as state
-use Rattle.node_record.specs.States.{cause_number}
-use Rattle.bench.specs.Table.{Table, record_of, node_count}
-use Rattle.bench.specs.Calls.{set_up_of, greatest}
-use Rattle.bench.specs.Runs.{Call, slot, table_after, entry}
+use Rattle.converter.specs.refusal.Causes.{number_of}
+use Rattle.cover_light.specs.nodeset.Sums.{sum}
+use Rattle.cover_light.specs.nodeset.Sets.{with}
+use Rattle.cover_light.specs.cable.declared.Cable.{Cable}
+use Rattle.cover_light.specs.cable.Cable.{cable_of}
+use Rattle.converter.specs.message.declared.Reading.{Reading}
+use Rattle.converter.specs.message.declared.Reading.TheVariants as reading
+use Rattle.cover_light.specs.node_record.declared.Node.{Node}
+use Rattle.cover_light.specs.node_record.declared.State.{State}
+use Rattle.cover_light.specs.node_record.declared.State.TheVariants as state
+use Rattle.cover_light.specs.node_record.States.{cause_number}
+use Rattle.plan_program.specs.bench.Table.{Table, record_of, node_count}
+use Rattle.plan_program.specs.bench.Calls.{set_up_of, greatest}
+use Rattle.plan_program.specs.bench.Runs.{Call, slot, table_after, entry}
 
 -- ---- rows
 

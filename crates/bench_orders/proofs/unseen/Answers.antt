@@ -2,7 +2,7 @@
 use borrow.Author.Rules.{rules}
 use mathlib.Core.Path.{ap, ◌∙◌}
 use mathlib.Core.Bool.{false}
-use Rattle.slot_table.specs.Order.{numbers_from, plain}
+use Rattle.cable.specs.slot_table.Order.{numbers_from, plain}
 use Rattle.node.proofs.Holding.{no-node-held}
 use Rattle.bench_orders.specs.Survey.{begun, no_held, unseen}
 use Rattle.bench_orders.proofs.unseen.Goals as goal

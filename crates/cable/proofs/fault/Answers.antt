@@ -1,7 +1,7 @@
 -- `ring::fault` meets its contract: the tests in their order. Assumes nothing.
 use borrow.Author.Tests.{eq-eqb, ne_eqb}
 use borrow.Author.Rules.{rules}
-use Rattle.nodeset.proofs.Tests.{failed, passed}
+use Rattle.slot_table.proofs.nodeset.Tests.{failed, passed}
 use Rattle.cable.proofs.fault.Goals as goal
 
 pub returns-then-not-is_ring_size : goal.returns-then-not-is_ring_size

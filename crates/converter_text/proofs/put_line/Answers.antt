@@ -4,6 +4,7 @@ use mathlib.Core.Path.{◌≡◌, sym, ap, ◌∙◌}
 use mathlib.Core.Bool.{Bool, true}
 use mathlib.Core.List.{List}
 use native.Mathlib.Omega.{arith}
+use borrow.Author.Tests.{not-true, not-false}
 use lib.ListN.{length, take, drop, length-drop}
 use lib.Seq.{length-take-le, take_all}
 use Rattle.plan_line.specs.Words.{before, gap, is_number}
@@ -18,11 +19,14 @@ module _ (text : List ℕ) (end : ℕ) (was : end ≡ 0 + gap 32 (drop 0 text)) 
   inside : end ≤ length text
   inside = (part-in 32 text 0 end (omega arith) was).1
 
+  ends : end ≡ gap 32 text
+  ends = omega (arith, was)
+
   word : take end text ≡ before text
-  word = ap (λ (n : ℕ). take n text) was
+  word = ap (λ (n : ℕ). take n text) ends
 
   rest : take (length text - end) (drop end text) ≡ behind text
-  rest = take_all (length text - end) (drop end text) (omega (arith, length-drop end text)) ∙ ap (λ (n : ℕ). drop n text) was
+  rest = take_all (length text - end) (drop end text) (omega (arith, length-drop end text)) ∙ ap (λ (n : ℕ). drop n text) ends
 
   number : {r : Bool} → r ≡ is_number (take end text) → is_number (before text) ≡ r
   number e = ap is_number (sym word) ∙ sym e
@@ -52,7 +56,7 @@ slice_bounds-message_in-start c = inside _ _ c.part_end-end.ensures
 pub returns-then-not-read : goal.returns-then-not-read
 returns-then-not-read c =
     let a = c.args in
-    rw (unreadable a.direction a.line a.text.now (no-message a.text.now (message _ _ c.part_end-end.ensures c.message_in-read.ensures.is ∙ c.if-not-read.true))) c.put_refusal-then-not-read.ensures
+    rw (unreadable a.direction a.line a.text.now (no-message a.text.now (message _ _ c.part_end-end.ensures c.message_in-read.ensures.is ∙ not-true c.message_in-read.result.readable c.if-not-read.true))) c.put_refusal-then-not-read.ensures
 
 pub slice_bounds-put_turned-end : goal.slice_bounds-put_turned-end
 slice_bounds-put_turned-end c = sym (length-take-le c.part_end-end.result c.args.text.now (inside _ _ c.part_end-end.ensures))
@@ -76,6 +80,7 @@ returns c =
     let text = a.text.now in
     let read = c.message_in-read in
     let end = c.part_end-end.ensures in
-    let bytes : take read.result.count read.result.bytes ≡ bytes_of (behind text) = read.ensures.bytes c.if-not-read.false ∙ ap bytes_of (rest _ _ end) in
-    rw (was_read a.direction a.line text (reads text (omega (arith, c.if-text-gt120.false)) (number _ _ end c.is_number.ensures ∙ c.if-not-is_number.false) (message _ _ end read.ensures.is ∙ c.if-not-read.false)))
+    let readable : read.result.readable ≡ true = not-false read.result.readable c.if-not-read.false in
+    let bytes : take read.result.count read.result.bytes ≡ bytes_of (behind text) = read.ensures.bytes readable ∙ ap bytes_of (rest _ _ end) in
+    rw (was_read a.direction a.line text (reads text (omega (arith, c.if-text-gt120.false)) (number _ _ end c.is_number.ensures ∙ c.if-not-is_number.false) (message _ _ end read.ensures.is ∙ readable)))
     (rw (word _ _ end, bytes) at c.put_turned.ensures)

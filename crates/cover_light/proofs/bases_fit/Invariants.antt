@@ -7,8 +7,8 @@ use borrow.Author.Rules.{rules}
 use borrow.Author.Tests.{le-leb, lt-leb}
 use lib.Dec.{leb}
 use lib.ListN.{length, get_or}
-use Rattle.node_reports.specs.Reports.{every_below}
-use Rattle.node_reports.proofs.Below.{every-none, every-on}
+use Rattle.node.specs.node_reports.Reports.{every_below}
+use Rattle.node.proofs.node_reports.Below.{every-none, every-on}
 use Rattle.cover_light.specs.Light.{brightest}
 use Rattle.cover_light.proofs.Lamps.{unfit-length, unfit-base, fit-by}
 use Rattle.cover_light.proofs.bases_fit.Given as goal

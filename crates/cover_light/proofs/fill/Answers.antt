@@ -3,7 +3,7 @@ use mathlib.Core.Path.{◌≡◌, refl, ap, ◌∙◌}
 use mathlib.Core.List.{List, ◌++◌, map}
 use native.Mathlib.Omega.{arith}
 use lib.ListN.{length, take, drop, set, length-set}
-use Rattle.slot_table.specs.Order.{numbers_from}
+use Rattle.cable.specs.slot_table.Order.{numbers_from}
 use Rattle.cover_light.specs.Light.{given_by}
 use Rattle.cover_light.proofs.Lamps.{one-laid, all_laid}
 use Rattle.cover_light.proofs.fill.Goals as goal

@@ -1,6 +1,6 @@
 -- `cover_light_c::cover_light_level` meets its contract. Assumes nothing.
 use mathlib.Core.Path.{sym, ap, ◌∙◌}
-use Rattle.nodeset.proofs.Tests.{failed, passed, chosen, otherwise}
+use Rattle.slot_table.proofs.nodeset.Tests.{failed, passed, chosen, otherwise}
 use Rattle.node_record.specs.declared.Held.{Held}
 use Rattle.node_record.specs.Held.{setted}
 use Rattle.cover_light.specs.Light.{level_of}

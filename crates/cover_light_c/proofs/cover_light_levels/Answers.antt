@@ -1,7 +1,7 @@
 -- `cover_light_c::cover_light_levels` meets its contract. Assumes nothing.
 use Prim.Native.Nat.{ℕ}
 use mathlib.Core.Path.{sym, ap, ◌∙◌, subst}
-use Rattle.nodeset.proofs.Tests.{failed, passed}
+use Rattle.slot_table.proofs.nodeset.Tests.{failed, passed}
 use Rattle.message.specs.Message.{Outcome}
 use Rattle.node_record.specs.declared.Held.{Held}
 use Rattle.node_record.specs.Held.{setted}

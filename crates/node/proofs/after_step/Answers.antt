@@ -4,8 +4,8 @@ use borrow.Author.Rules.{rules}
 use Prim.Native.Nat.{◌+◌}
 use mathlib.Core.Path.{sym, ap, ◌∙◌}
 use borrow.Author.Tests.{le-leb, lt-leb}
-use Rattle.nodeset.proofs.Tests.{failed, passed, chosen, otherwise}
-use Rattle.ring_laws.proofs.Speakers.{is-sender, no-refusal}
+use Rattle.ring.proofs.nodeset.Tests.{failed, passed, chosen, otherwise}
+use Rattle.node_record.proofs.ring_laws.Speakers.{is-sender, no-refusal}
 use Rattle.node_record.specs.declared.Held.{Held}
 use Rattle.node_record.specs.Held.{setted}
 use Rattle.node_record.proofs.Facts.{clauses}

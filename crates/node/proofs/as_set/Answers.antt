@@ -2,8 +2,8 @@
 use borrow.Author.Rules.{rules}
 use Prim.Native.Nat.{ℕ}
 use mathlib.Core.Path.{sym, ap, ◌∙◌}
-use Rattle.slot_table.specs.Order.{numbers_from, plain}
-use Rattle.nodeset.proofs.Tests.{failed, passed, chosen, otherwise}
+use Rattle.cable.specs.slot_table.Order.{numbers_from, plain}
+use Rattle.ring.proofs.nodeset.Tests.{failed, passed, chosen, otherwise}
 use Rattle.node_record.specs.Held.{setted}
 use Rattle.node_changes.specs.Changes.{with_set}
 use Rattle.node.specs.declared.Answer.TheVariants.{Done}

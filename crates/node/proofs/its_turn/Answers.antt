@@ -4,7 +4,7 @@ use Prim.Native.Nat.{ℕ, ◌+◌}
 use mathlib.Core.Path.{ap₂}
 use mathlib.Core.Bool.{Bool, ◌&&◌}
 use lib.Dec.{eqb}
-use Rattle.ring_laws.proofs.Speakers.{is-sender, no-refusal}
+use Rattle.node_record.proofs.ring_laws.Speakers.{is-sender, no-refusal}
 use Rattle.node.proofs.its_turn.Goals as goal
 
 pub returns-in_default : goal.returns-in_default

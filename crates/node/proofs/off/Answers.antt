@@ -1,7 +1,7 @@
 -- `node::off` meets its contract: it tests soundness first. Assumes nothing.
 use borrow.Author.Rules.{rules}
 use mathlib.Core.Path.{sym, ap, ◌∙◌}
-use Rattle.nodeset.proofs.Tests.{failed, passed, chosen, otherwise}
+use Rattle.ring.proofs.nodeset.Tests.{failed, passed, chosen, otherwise}
 use Rattle.node_record.specs.declared.Held.{Held}
 use Rattle.node_record.specs.declared.Cause.TheVariants.{SwitchedOff}
 use Rattle.node_changes.specs.Changes as rules

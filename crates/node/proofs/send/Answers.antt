@@ -5,7 +5,7 @@ use mathlib.Core.Path.{sym, ap, ap₂, ◌∙◌}
 use mathlib.Core.Bool.{Bool}
 use Rattle.message.specs.Message.{write_of}
 use borrow.Author.Tests.{le-leb, lt-leb}
-use Rattle.nodeset.proofs.Tests.{failed, passed, chosen, otherwise}
+use Rattle.ring.proofs.nodeset.Tests.{failed, passed, chosen, otherwise}
 use Rattle.node_record.specs.Held.{setted}
 use Rattle.node_record.proofs.Facts.{clauses}
 use Rattle.node_sending.specs.Sending.{bits_sent, return_sent}

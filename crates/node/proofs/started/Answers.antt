@@ -5,8 +5,8 @@ use mathlib.Core.List.{[]}
 use Rattle.refusal.specs.declared.Refusal.{Refusal}
 use Rattle.refusal.specs.declared.Refusal.TheVariants.{NodeNumber}
 use Rattle.refusal.specs.Causes.{cause}
-use Rattle.slot_table.specs.Order.{numbers_from, plain}
-use Rattle.nodeset.proofs.Tests.{failed, passed, chosen, otherwise}
+use Rattle.cable.specs.slot_table.Order.{numbers_from, plain}
+use Rattle.ring.proofs.nodeset.Tests.{failed, passed, chosen, otherwise}
 use Rattle.cable.specs.Cable.{fault_of}
 use Rattle.row.specs.Rows.{row_for}
 use Rattle.node_record.specs.declared.Held.{Held}

@@ -1,7 +1,7 @@
 -- `node_slot::after_slot` meets its contract: its tests are those of the definition, in their order. Assumes nothing.
 use borrow.Author.Rules.{rules}
 use mathlib.Core.Path.{sym, ap, ◌∙◌}
-use Rattle.nodeset.proofs.Tests.{told, chosen, otherwise}
+use Rattle.node_record.proofs.nodeset.Tests.{told, chosen, otherwise}
 use Rattle.message.specs.declared.Reading.{Reading}
 use Rattle.node_steps.specs.Held.{tracking_by}
 use Rattle.node_hearing.specs.Held.{listening_by}

@@ -1,7 +1,7 @@
 -- `node_slot::heard_from` meets its contract: its test is that of the definition. Assumes nothing.
 use mathlib.Core.Path.{sym}
 use borrow.Author.Tests.{eq-eqb, ne_eqb}
-use Rattle.nodeset.proofs.Tests.{chosen, otherwise}
+use Rattle.node_record.proofs.nodeset.Tests.{chosen, otherwise}
 use Rattle.node_slot.proofs.heard_from.Goals as goal
 
 pub returns-then-s-v : goal.returns-then-s-v

@@ -52,12 +52,12 @@ use Rattle.plan_program.proofs.Going.TheLaws as G'
 use Rattle.plan_program.specs.declared.Ahead.{Ahead}
 use Rattle.plan_program.specs.contracts.Ahead as Z
 use Rattle.plan_program.proofs.Ahead.TheLaws as Z'
-use Rattle.bench_orders.specs.Orders.{carried_from}
+use Rattle.plan_run.specs.bench_orders.Orders.{carried_from}
 use Rattle.plan_run.specs.Inner.{errand_on, outcome_on}
 use Rattle.plan_program.specs.Calls.{bytes_in, plan_sound, run_piece}
 use Rattle.plan_program.specs.Inner.{begun_of, came_of, rows_for, size_of, sought, Goes, Told}
-use Rattle.bench_walks.proofs.Calls.{Plain, uint, boolean, a_struct, an_enum, Known, Does, at, does, lends, arg, frees}
-use Rattle.bench_walks.proofs.Turns.{Turn}
+use Rattle.plan_run.proofs.bench_walks.Calls.{Plain, uint, boolean, a_struct, an_enum, Known, Does, at, does, lends, arg, frees}
+use Rattle.plan_run.proofs.bench_walks.Turns.{Turn}
 use Rattle.bench_by_value.proofs.Rows.{R as Array, τ, val, vals, rows-makes, rows-lawful, rows-tells}
 use Rattle.plan_program.proofs.Lent.{size-range}
 use Rattle.plan_program.proofs.Turns.{Stands, left, starts, room, begins, turns, fewer, ended}

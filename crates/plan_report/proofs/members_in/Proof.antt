@@ -9,7 +9,7 @@ use lib.ListN.{length, take}
 use borrow.Author.Rules.{rules}
 use Rattle.bench.specs.Table.{node_count}
 use Rattle.bench.specs.Held.{setted_all}
-use Rattle.bench_by_value.specs.ByValue.{table_of}
+use Rattle.plan_program.specs.bench_by_value.ByValue.{table_of}
 use Rattle.plan_report.specs.Figures.{last64, members_in}
 use Rattle.plan_report.proofs.Counting.{few-rows, first_rows, members-few, members-next, num-few}
 use Rattle.plan_report.proofs.Sums.{raised-plain}

@@ -1,6 +1,6 @@
 -- `plan_run::beside_by` meets its contract, case by case. Assumes nothing.
 use mathlib.Core.Path.{sym, ap, ◌∙◌}
-use Rattle.slot_table.specs.Order.{numbers_from, plain}
+use Rattle.cable.specs.slot_table.Order.{numbers_from, plain}
 use Rattle.cable.specs.declared.Cable.{Cable}
 use Rattle.bench_orders.specs.Orders.{all_fit}
 use Rattle.plan_run.specs.Inner.{beside_by}

@@ -1,6 +1,6 @@
 -- `plan_run::beside_of` meets its contract, case by case. Assumes nothing.
 use mathlib.Core.Path.{sym, ap}
-use Rattle.slot_table.specs.Order.{numbers_from, plain}
+use Rattle.cable.specs.slot_table.Order.{numbers_from, plain}
 use Rattle.plan_run.specs.Inner.{beside_of}
 use borrow.Author.Rules.{rules}
 use Rattle.plan_run.proofs.beside_of.Statement.{statement}

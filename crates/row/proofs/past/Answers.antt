@@ -3,7 +3,7 @@ use mathlib.Core.Path.{sym}
 use native.Mathlib.Omega.{arith}
 use lib.Dec.{ltb}
 use borrow.Author.Tests.{ltb-true}
-use Rattle.nodeset.proofs.Tests.{both, chosen, otherwise}
+use Rattle.ring.proofs.nodeset.Tests.{both, chosen, otherwise}
 use Rattle.row.proofs.past.Goals as goal
 
 pub overflow_add-result : goal.overflow_add-result

@@ -5,7 +5,7 @@ use mathlib.Core.Bool.{Bool, true, ◌&&◌}
 use native.Mathlib.Omega.{arith}
 use lib.Dec.{ltb}
 use borrow.Author.Tests.{ltb-true}
-use Rattle.nodeset.proofs.Tests.{both, chosen, otherwise}
+use Rattle.ring.proofs.nodeset.Tests.{both, chosen, otherwise}
 use Rattle.row.proofs.put.Goals as goal
 
 room : (asked : Bool) (at : ℕ) → (asked && ltb at 32) ≡ true → at < 32

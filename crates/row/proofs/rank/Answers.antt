@@ -6,7 +6,7 @@ use mathlib.Core.List.{List}
 use native.Mathlib.Omega.{arith}
 use native.Mathlib.Numerals.{add-one}
 use lib.ListN as list
-use Rattle.slot_table.specs.Order.{node_at, place_from, place}
+use Rattle.ring.specs.slot_table.Order.{node_at, place_from, place}
 use Rattle.row.specs.Inner.{passed, rank_in}
 use Rattle.row.proofs.Walked.{passed-next, passed-le}
 use Rattle.row.proofs.rank.Goals as goal

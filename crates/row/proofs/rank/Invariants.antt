@@ -1,7 +1,7 @@
 -- `row::rank` meets its contract. The invariant: what is left of the search for x is the whole, and p places of the row are passed. Assumes nothing.
 use Prim.Native.Nat.{suc, ◌-◌, ◌≤◌}
 use mathlib.Core.Path.{◌≡◌}
-use Rattle.slot_table.specs.Order.{place_from, place}
+use Rattle.ring.specs.slot_table.Order.{place_from, place}
 use Rattle.row.specs.Inner.{passed}
 use Rattle.row.proofs.rank.Given as goal
 

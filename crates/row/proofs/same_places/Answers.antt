@@ -7,7 +7,7 @@ use native.Mathlib.Omega.{arith}
 use native.Mathlib.Numerals.{add-one}
 use lib.Dec.{eqb}
 use lib.ListN as list
-use Rattle.slot_table.specs.Order.{node_at, same_to}
+use Rattle.ring.specs.slot_table.Order.{node_at, same_to}
 use Rattle.row.proofs.same_places.Goals as goal
 
 pub loop-i-init : goal.loop-i-init

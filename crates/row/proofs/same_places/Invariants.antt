@@ -2,7 +2,7 @@
 use Prim.Native.Nat.{◌-◌, ◌≤◌}
 use mathlib.Core.Path.{◌≡◌}
 use lib.ListN as list
-use Rattle.slot_table.specs.Order.{same_to}
+use Rattle.ring.specs.slot_table.Order.{same_to}
 use Rattle.row.proofs.same_places.Given as goal
 
 abbrev pub invariant-loop-i : goal.invariant-loop-i

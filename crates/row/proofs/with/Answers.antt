@@ -6,7 +6,7 @@ use mathlib.Core.Bool.{Bool, true, false, not, ◌&&◌, ◌||◌, and-false, tr
 use mathlib.Core.List.{List}
 use native.Mathlib.Omega.{arith}
 use lib.Dec.{leb}
-use Rattle.nodeset.proofs.Tests.{chosen, otherwise}
+use Rattle.ring.proofs.nodeset.Tests.{chosen, otherwise}
 use Rattle.row.specs.declared.Row.{Row}
 use Rattle.row.specs.Inner.{has_row, put_in, with_row, row_at}
 use Rattle.row.proofs.with.Goals as goal

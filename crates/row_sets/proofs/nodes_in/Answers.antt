@@ -2,7 +2,7 @@ use Prim.Native.Nat.{ℕ}
 use mathlib.Core.Path.{◌≡◌, refl, ap, ap₂, ◌∙◌}
 use native.Mathlib.Omega.{arith}
 use Rattle.nodeset.specs.Sets.{with}
-use Rattle.slot_table.specs.Order.{nodes_at}
+use Rattle.row.specs.slot_table.Order.{nodes_at}
 use Rattle.row.specs.Rows.{nodes_in}
 use Rattle.row.proofs.Walked.{nodes-next}
 use Rattle.row_sets.proofs.nodes_in.Goals as goal

@@ -1,7 +1,7 @@
 -- `row_sets::nodes_in` meets its contract. The invariant: the set so far holds the nodes of the first i places. Assumes nothing.
 use Prim.Native.Nat.{◌-◌, ◌≤◌}
 use mathlib.Core.Path.{◌≡◌}
-use Rattle.slot_table.specs.Order.{nodes_at}
+use Rattle.row.specs.slot_table.Order.{nodes_at}
 use Rattle.row_sets.proofs.nodes_in.Given as goal
 
 abbrev pub invariant-loop-i : goal.invariant-loop-i

@@ -5,7 +5,7 @@ use mathlib.Core.Path.{◌≡◌, refl, sym, ◌∙◌}
 use mathlib.Core.Bool.{Bool, true, false, ◌&&◌, ◌||◌, true≢false}
 use native.Mathlib.Omega.{arith}
 use lib.Dec.{eqb, ltb}
-use Rattle.nodeset.proofs.Tests.{chosen, otherwise}
+use Rattle.ring.proofs.nodeset.Tests.{chosen, otherwise}
 use Rattle.row.specs.Inner.{back_in}
 use Rattle.row_sponsors.proofs.back.Goals as goal
 

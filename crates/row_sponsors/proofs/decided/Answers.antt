@@ -1,7 +1,7 @@
 -- `row_sponsors::decided` meets its contract. Where somebody is sponsored the lag is below the number of members. Assumes nothing.
 use mathlib.Core.Path.{sym, ap, ◌∙◌}
 use borrow.Author.Tests.{eq-eqb, ne_eqb}
-use Rattle.nodeset.proofs.Tests.{chosen, otherwise}
+use Rattle.ring.proofs.nodeset.Tests.{chosen, otherwise}
 use Rattle.row.specs.Sponsoring.{sponsors_row, sponsored_row, decided_row}
 use Rattle.row_sponsors.proofs.decided.Goals as goal
 

@@ -1,0 +1,1 @@
+pub use Rattle.bench_work.specs.ledger as ledger
