@@ -2,6 +2,7 @@
 // nodes' numbers. It stands above the node library and takes a record apart by `node::as_set` alone; the
 // base levels are lent as bytes, that of lamp 1 first.
 #![tactic(auto)]
+
 ghost use Rattle.std.specs.Prelude.{◌≡◌, true, ◌++◌, map, ◌≤◌, length, drop};
 ghost use Rattle.cable.specs.slot_table.Order.{numbers_from};
 ghost use Rattle.node_record.specs.Soundness.{sound};

@@ -3,6 +3,7 @@
 // stand beside its record, by value; those of a table of nodes are lent. An inner layer: whose report
 // counts is decided in node.
 #![tactic(auto)]
+
 ghost use Rattle.std.specs.Prelude.{◌≡◌, ◌+◌, max, cond, length};
 ghost use Rattle.nodeset.specs.Sets.{has};
 ghost use Rattle.node_reports.specs.Reports.{no_reports_at, row_within, counts_within, one_more, row_with, counts_with, heard_by};

@@ -1,6 +1,7 @@
 // One slot of a record in any state. An inner layer: it takes every record as it is; the calls of
 // `node` and of the bench test records first.
 #![tactic(auto)]
+
 ghost use Rattle.std.specs.Prelude.{◌≡◌};
 ghost use Rattle.node_record.specs.Held.{setted};
 ghost use Rattle.node_slot.specs.Inner.{heard_from};

@@ -1,14 +1,7 @@
-use Prim.Native.Nat.{◌-◌, ◌≤◌}
-use mathlib.Core.Path.{◌≡◌}
-use mathlib.Core.Bool.{true}
 use native.Mathlib.Omega.{arith}
 use borrow.Author.Rules.{rules}
 use borrow.Author.Tests.{le-leb, lt-leb}
-use lib.Dec.{leb}
-use lib.ListN.{length, get_or}
-use Rattle.node.specs.node_reports.Reports.{every_below}
-use Rattle.node.proofs.node_reports.Below.{every-none, every-on}
-use Rattle.cover_light.specs.Light.{brightest}
+use Rattle.node_reports.proofs.Below.{every-none, every-on}
 use Rattle.cover_light.proofs.Lamps.{unfit-length, unfit-base, fit-by}
 use Rattle.cover_light.proofs.bases_fit.Goals as goal
 

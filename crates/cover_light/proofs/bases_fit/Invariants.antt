@@ -2,15 +2,10 @@
 use Prim.Native.Nat.{◌-◌, ◌≤◌}
 use mathlib.Core.Path.{◌≡◌}
 use mathlib.Core.Bool.{true}
-use native.Mathlib.Omega.{arith}
-use borrow.Author.Rules.{rules}
-use borrow.Author.Tests.{le-leb, lt-leb}
 use lib.Dec.{leb}
 use lib.ListN.{length, get_or}
-use Rattle.node.specs.node_reports.Reports.{every_below}
-use Rattle.node.proofs.node_reports.Below.{every-none, every-on}
+use Rattle.node_reports.specs.Reports.{every_below}
 use Rattle.cover_light.specs.Light.{brightest}
-use Rattle.cover_light.proofs.Lamps.{unfit-length, unfit-base, fit-by}
 use Rattle.cover_light.proofs.bases_fit.Given as goal
 
 abbrev pub invariant-loop-i : goal.invariant-loop-i

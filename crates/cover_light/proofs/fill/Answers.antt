@@ -1,9 +1,8 @@
-use Prim.Native.Nat.{ℕ, ◌-◌, ◌≤◌}
-use mathlib.Core.Path.{◌≡◌, refl, ap, ◌∙◌}
-use mathlib.Core.List.{List, ◌++◌, map}
+use Prim.Native.Nat.{ℕ}
+use mathlib.Core.Path.{refl, ap, ◌∙◌}
+use mathlib.Core.List.{List}
 use native.Mathlib.Omega.{arith}
-use lib.ListN.{length, take, drop, set, length-set}
-use Rattle.cable.specs.slot_table.Order.{numbers_from}
+use lib.ListN.{set, length-set}
 use Rattle.cover_light.specs.Light.{given_by}
 use Rattle.cover_light.proofs.Lamps.{one-laid, all_laid}
 use Rattle.cover_light.proofs.fill.Goals as goal

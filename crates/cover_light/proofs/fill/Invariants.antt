@@ -1,12 +1,10 @@
 -- `cover_light::fill` meets its contract. The invariant: the first i levels are written, and the bytes after them are as they were. Assumes nothing.
-use Prim.Native.Nat.{ℕ, ◌-◌, ◌≤◌}
-use mathlib.Core.Path.{◌≡◌, refl, ap, ◌∙◌}
-use mathlib.Core.List.{List, ◌++◌, map}
-use native.Mathlib.Omega.{arith}
-use lib.ListN.{length, take, drop, set, length-set}
-use Rattle.cable.specs.slot_table.Order.{numbers_from}
+use Prim.Native.Nat.{◌-◌, ◌≤◌}
+use mathlib.Core.Path.{◌≡◌}
+use mathlib.Core.List.{◌++◌, map}
+use lib.ListN.{length, take, drop}
+use Rattle.slot_table.specs.Order.{numbers_from}
 use Rattle.cover_light.specs.Light.{given_by}
-use Rattle.cover_light.proofs.Lamps.{one-laid, all_laid}
 use Rattle.cover_light.proofs.fill.Given as goal
 
 abbrev pub invariant-loop-i : goal.invariant-loop-i

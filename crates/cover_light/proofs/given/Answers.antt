@@ -1,5 +1,4 @@
 -- `cover_light::given` meets its contract. Assumes nothing.
-use borrow.Author.Rules.{rules}
 use mathlib.Core.Path.{sym, ◌∙◌}
 use Rattle.nodeset.proofs.Tests.{chosen, otherwise}
 use Rattle.cover_light.proofs.given.Goals as goal

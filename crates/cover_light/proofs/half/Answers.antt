@@ -1,5 +1,4 @@
 -- `cover_light::half` meets its contract. Assumes nothing.
-use borrow.Author.Rules.{rules}
 use Prim.Native.Nat.{ℕ, ◌/◌}
 use mathlib.Core.Path.{sym, ap, ◌∙◌}
 use Rattle.nodeset.proofs.Tests.{told, chosen, otherwise}

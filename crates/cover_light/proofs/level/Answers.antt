@@ -7,7 +7,6 @@ use Rattle.node_record.specs.Soundness.{sound}
 use Rattle.cover_light.specs.declared.Light.TheVariants.{Refused}
 use Rattle.cover_light.specs.Light.{level_of}
 use Rattle.cover_light.proofs.Records.{made, unmade}
-use borrow.Author.Rules.{rules}
 use Rattle.cover_light.proofs.level.Goals as goal
 
 pub level_by-requires : goal.level_by-requires

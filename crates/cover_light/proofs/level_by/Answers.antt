@@ -8,7 +8,6 @@ use Rattle.cable.proofs.Ranges.{node-number}
 use Rattle.cover_light.specs.declared.Light.TheVariants.{Level}
 use Rattle.cover_light.specs.Light.{given_by, lamp_level, level_of}
 use Rattle.cover_light.proofs.Records.{few-lamps}
-use borrow.Author.Rules.{rules}
 use Rattle.cover_light.proofs.level_by.Goals as goal
 
 pub returns-then-not-is_node_number : goal.returns-then-not-is_node_number

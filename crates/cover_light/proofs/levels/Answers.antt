@@ -7,7 +7,6 @@ use Rattle.node_record.specs.Soundness.{sound}
 use Rattle.cover_light.specs.Light.{levels_of}
 use Rattle.cover_light.proofs.Records.{made, unmade}
 use Rattle.cover_light.proofs.Lamps.{levels-unsound}
-use borrow.Author.Rules.{rules}
 use Rattle.cover_light.proofs.levels.Goals as goal
 
 pub levels_by-requires : goal.levels_by-requires

@@ -1,5 +1,4 @@
 -- `cover_light::worked` meets its contract: three bytes add up to no more than a word holds. Assumes nothing.
-use borrow.Author.Rules.{rules}
 use native.Mathlib.Omega.{arith}
 use Rattle.cover_light.specs.Light.{worked}
 use Rattle.cover_light.proofs.worked.Goals as goal

@@ -25,7 +25,7 @@ written_number-requires c = subst (λ (o : Outcome). Few o.0) (sym c.levels-writ
 pub returns : goal.returns
 returns c =
     let a = c.args in
-    ap (λ (x : ℕ). (x, c.levels-written.new.1.1.0)) c.written_number.ensures
+    ap (λ (x : ℕ). (x, c.levels-written.new.out)) c.written_number.ensures
     ∙ ap outcome_number
     (c.levels-written.ensures
     ∙ ap (λ (v : Held). levels_of (setted v) a.bases.now a.out.now) c.held_in-held.ensures

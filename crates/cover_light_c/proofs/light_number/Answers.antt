@@ -5,7 +5,7 @@ use borrow.Author.Rules.{rules}
 use Rattle.cover_light_c.proofs.light_number.Goals as goal
 
 pub returns-in-Level : goal.returns-in-Level
-returns-in-Level c = ap light_number (sym c.light.given.1)
+returns-in-Level c = ap light_number (sym c.in-Level.is)
 
 pub returns-in-Refused : goal.returns-in-Refused
-returns-in-Refused c = c.number.ensures ∙ ap light_number (sym c.light2.given.1)
+returns-in-Refused c = c.number.ensures ∙ ap light_number (sym c.in-Refused.is)

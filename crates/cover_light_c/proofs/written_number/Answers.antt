@@ -8,11 +8,11 @@ use Rattle.cover_light_c.proofs.written_number.Goals as goal
 
 pub overflow_add-result : goal.overflow_add-result
 overflow_add-result c =
-    let few : c.written.given.0.0 ≤ 32 = subst Few c.written.given.1 c.requires in
+    let few : c.in-Bytes.count ≤ 32 = subst Few c.in-Bytes.is c.requires in
     omega (arith, few)
 
 pub returns-in-Bytes : goal.returns-in-Bytes
-returns-in-Bytes c = ap written_number (sym c.written.given.1)
+returns-in-Bytes c = ap written_number (sym c.in-Bytes.is)
 
 pub returns-in-Refused : goal.returns-in-Refused
-returns-in-Refused c = c.number.ensures ∙ ap written_number (sym c.written2.given.1)
+returns-in-Refused c = c.number.ensures ∙ ap written_number (sym c.in-Refused.is)

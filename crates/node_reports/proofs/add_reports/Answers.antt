@@ -1,14 +1,13 @@
-use borrow.Author.Rules.{rules}
-use Prim.Native.Nat.{ℕ, suc, ◌<◌, ◌≤◌, ◌-◌, ◌+◌}
+use Prim.Native.Nat.{ℕ, suc, ◌<◌, ◌-◌}
 use native.Mathlib.Omega.{arith}
-use mathlib.Core.Path.{◌≡◌, refl, sym, ap, ◌∙◌}
-use mathlib.Core.Logic.{⊎_elim}
-use mathlib.Core.List.{[], ◌++◌}
-use lib.ListN.{length, get_or, set, take, drop}
+use mathlib.Core.Path.{refl, sym, ap, ◌∙◌}
+use mathlib.Core.List.{[]}
+use lib.ListN.{length, get_or, set}
 use Rattle.node_reports.specs.Reports.{counts_with, heard_from}
 use Rattle.node_reports.proofs.Walks.{HeardNext, heard-told, heard-kept, heard-none, walk_end}
 use Rattle.node_reports.proofs.Laws.{no-jobs, no-sender, no_row, all_same, own_row}
 use Rattle.node_reports.proofs.add_reports.Goals as goal
+use Rattle.node_reports.proofs.add_reports.Goals.{then-hears, else-hears}
 
 pub returns-then-jobs-eq0 : goal.returns-then-jobs-eq0
 returns-then-jobs-eq0 c = sym (all_same _ _ _ _ (λ counts. ap (λ (j : ℕ). counts_with c.args.sender j counts) c.if-jobs-eq0.true ∙ no-jobs c.args.sender counts))
@@ -21,18 +20,6 @@ returns-then-sender-gt32 c = sym (all_same _ _ _ _ (λ counts. no_row _ _ counts
 
 pub loop-i-init : goal.loop-i-init
 loop-i-init c = (omega arith, (refl, refl))
-
-pub offset_bounds-all-i : goal.offset_bounds-all-i
-offset_bounds-all-i c = omega (arith, c.well-formed.0.1)
-
-pub offset_bounds-all-row : goal.offset_bounds-all-row
-offset_bounds-all-row c = omega arith
-
-pub offset_bounds-all-i-then-hears : goal.offset_bounds-all-i-then-hears
-offset_bounds-all-i-then-hears c = omega (arith, c.well-formed.0.1)
-
-pub offset_bounds-all-row-then-hears : goal.offset_bounds-all-row-then-hears
-offset_bounds-all-row-then-hears c = omega arith
 
 pub overflow_add-i : goal.overflow_add-i
 overflow_add-i c = omega arith
@@ -47,10 +34,11 @@ loop-i-preserved c =
     let h : p.i < length p.all = omega arith in
     let own = get_or p.all p.i [] in
     let n : HeardNext p.all c.if-hears.all a.hearers a.sender a.jobs p.i =
-    ⊎_elim
-    (λ w. heard-told _ _ _ _ _ _ (set own (a.sender - 1) w.2.result) h (sym c.hears.ensures ∙ w.0.taken)
-    (ap (set own (a.sender - 1)) w.2.ensures ∙ own_row a.sender a.jobs own (omega arith) (omega arith)) w.3)
-    (λ w. heard-kept _ _ _ _ _ _ h (sym c.hears.ensures ∙ w.0.left) w.1) c.if-hears.branch in
+    elim c.if-hears.branch [
+      | then-hears w ↦ heard-told _ _ _ _ _ _ (set own (a.sender - 1) w.row_with.result) h (sym c.hears.ensures ∙ w.if-hears.true)
+          (ap (set own (a.sender - 1)) w.row_with.ensures ∙ own_row a.sender a.jobs own (omega arith) (omega arith)) w.all-is
+      | else-hears w ↦ heard-kept _ _ _ _ _ _ h (sym c.hears.ensures ∙ w.if-hears.false) w.all-is
+    ] in
     (omega (arith, n.0), (n.0 ∙ p.invariant.1.0, n.1 ∙ p.invariant.1.1))
 
 pub shape_of-all : goal.shape_of-all

@@ -1,10 +1,8 @@
-use Prim.Native.Nat.{◌<◌, ◌≤◌, ◌-◌}
+use Prim.Native.Nat.{◌<◌}
 use native.Mathlib.Omega.{arith}
-use mathlib.Core.Path.{◌≡◌, refl, sym, ap, ◌∙◌}
+use mathlib.Core.Path.{refl, sym, ap, ◌∙◌}
 use mathlib.Core.Bool.{Bool, cond}
-use mathlib.Core.List.{◌++◌}
-use borrow.Author.Tests.{not-true, not-false}
-use lib.ListN.{length, take, drop}
+use lib.ListN.{length}
 use Rattle.node_reports.specs.Reports.{no_reports_at}
 use Rattle.node_reports.proofs.Walks.{cleared, cleared-all, cleared-next, walk_end}
 use Rattle.node_reports.proofs.clear_reports.Goals as goal
@@ -12,16 +10,10 @@ use Rattle.node_reports.proofs.clear_reports.Goals as goal
 pub returns-then-not-asked : goal.returns-then-not-asked
 returns-then-not-asked c =
     let all = c.args.all.now in
-    sym (ap (λ (b : Bool). cond b (no_reports_at (length all)) all) (not-true c.args.asked c.if-not-asked.true))
+    sym (ap (λ (b : Bool). cond b (no_reports_at (length all)) all) c.if-not-asked.true)
 
 pub loop-i-init : goal.loop-i-init
 loop-i-init c = (omega arith, (refl, refl))
-
-pub offset_bounds-all-i : goal.offset_bounds-all-i
-offset_bounds-all-i c = omega (arith, c.well-formed.0.1)
-
-pub bounds-all-i : goal.bounds-all-i
-bounds-all-i c = omega arith
 
 pub overflow_add-i : goal.overflow_add-i
 overflow_add-i c = omega arith
@@ -44,4 +36,4 @@ returns c =
     let p = c.loop-i in
     let all = c.args.all.now in
     walk_end cleared p.all p.i refl (omega arith) ∙ p.invariant.1.1 ∙ cleared-all all
-    ∙ sym (ap (λ (b : Bool). cond b (no_reports_at (length all)) all) (not-false c.args.asked c.if-not-asked.false))
+    ∙ sym (ap (λ (b : Bool). cond b (no_reports_at (length all)) all) c.if-not-asked.false)

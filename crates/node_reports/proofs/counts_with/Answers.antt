@@ -4,7 +4,6 @@ use lib.ListN.{set}
 use native.Mathlib.Omega.{arith}
 use mathlib.Core.Path.{sym, ap, ◌∙◌}
 use Rattle.node_reports.proofs.Laws.{no-sender, no_row, own_row}
-use borrow.Author.Rules.{rules}
 use Rattle.node_reports.proofs.counts_with.Goals as goal
 
 pub returns-then-sender-eq0 : goal.returns-then-sender-eq0

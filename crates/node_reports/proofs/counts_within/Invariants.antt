@@ -1,14 +1,10 @@
 -- `node_reports::counts_within` meets its contract. The invariant: the test holds of the rows passed. Assumes nothing.
-use borrow.Author.Rules.{rules}
 use Prim.Native.Nat.{◌≤◌, ◌-◌}
-use native.Mathlib.Omega.{arith}
 use mathlib.Core.Path.{◌≡◌}
 use mathlib.Core.Bool.{true}
 use mathlib.Core.List.{[]}
 use lib.ListN.{get_or}
-use Rattle.nodeset.proofs.Tests.{failed, passed}
-use Rattle.node_reports.specs.Reports.{every_below, row_within, counts_within}
-use Rattle.node_reports.proofs.Below.{every-none, every-on, every-stop, every-end}
+use Rattle.node_reports.specs.Reports.{every_below, row_within}
 use Rattle.node_reports.proofs.counts_within.Given as goal
 
 abbrev pub invariant-loop-sender : goal.invariant-loop-sender

@@ -1,12 +1,10 @@
-use Prim.Native.Nat.{ℕ, ◌-◌, ◌<◌, ◌≤◌, max}
+use Prim.Native.Nat.{ℕ, max}
 use native.Mathlib.Nat.{max-zero}
 use native.Mathlib.Omega.{arith}
 use mathlib.Core.Path.{◌≡◌, sym, ap, ◌∙◌}
-use mathlib.Core.List.{List, []}
-use borrow.Author.Rules.{rules}
-use lib.ListN.{length, get_or}
-use Rattle.node_reports.specs.Reports.{Counts}
-use Rattle.node_reports.specs.Inner.{greatest_below, row_greatest, counts_greatest, greatest_of}
+use mathlib.Core.List.{[]}
+use lib.ListN.{get_or}
+use Rattle.node_reports.specs.Inner.{row_greatest, counts_greatest, greatest_of}
 use Rattle.node_reports.proofs.Below.{max_assoc, greatest-none, greatest-on, greatest-end}
 use Rattle.node_reports.proofs.greatest.Invariants.{nodes, rows}
 use Rattle.node_reports.proofs.greatest.Goals as goal

@@ -1,14 +1,10 @@
 -- `node_reports::greatest` meets its contract. The invariants: the greatest count of the nodes passed, and of the rows passed of the next node. Assumes nothing.
 use Prim.Native.Nat.{ℕ, ◌-◌, ◌<◌, ◌≤◌, max}
-use native.Mathlib.Nat.{max-zero}
-use native.Mathlib.Omega.{arith}
-use mathlib.Core.Path.{◌≡◌, sym, ap, ◌∙◌}
+use mathlib.Core.Path.{◌≡◌}
 use mathlib.Core.List.{List, []}
-use borrow.Author.Rules.{rules}
 use lib.ListN.{length, get_or}
 use Rattle.node_reports.specs.Reports.{Counts}
-use Rattle.node_reports.specs.Inner.{greatest_below, row_greatest, counts_greatest, greatest_of}
-use Rattle.node_reports.proofs.Below.{max_assoc, greatest-none, greatest-on, greatest-end}
+use Rattle.node_reports.specs.Inner.{greatest_below, row_greatest, counts_greatest}
 use Rattle.node_reports.proofs.greatest.Given as goal
 
 -- the greatest of the first i nodes, and of the first j rows of a node

@@ -3,7 +3,6 @@ use Prim.Native.Nat.{◌+◌}
 use native.Mathlib.Omega.{arith}
 use mathlib.Core.Path.{sym}
 use Rattle.nodeset.proofs.Bits.{has-beyond}
-use borrow.Author.Rules.{rules}
 use Rattle.node_reports.proofs.hears.Goals as goal
 
 pub returns-then-i-ge32 : goal.returns-then-i-ge32

@@ -2,7 +2,6 @@
 use Prim.Native.Nat.{ℕ, max}
 use native.Mathlib.Nat.{zero-max}
 use mathlib.Core.Path.{◌≡◌, ◌∙◌}
-use borrow.Author.Rules.{rules}
 use lib.ListN.{get_or}
 use Rattle.node_reports.specs.Reports.{Row}
 use Rattle.node_reports.specs.Inner.{greatest_below, row_greatest}

@@ -1,13 +1,9 @@
 -- `node_reports::row_with` meets its contract. The invariant: the counts passed are done, and the rest of the bits is for the rest of the row. Assumes nothing.
-use mathlib.Core.Logic.{⊎_elim}
-use borrow.Author.Rules.{rules}
-use Prim.Native.Nat.{◌<◌, ◌≤◌, ◌-◌}
-use native.Mathlib.Omega.{arith}
-use mathlib.Core.Path.{◌≡◌, refl, ◌∙◌}
+use Prim.Native.Nat.{◌≤◌, ◌-◌}
+use mathlib.Core.Path.{◌≡◌}
 use mathlib.Core.List.{◌++◌}
 use lib.ListN.{length, take, drop}
 use Rattle.node_reports.specs.Reports.{row_with}
-use Rattle.node_reports.proofs.Walks.{RowNext, row_told, row_kept, row-none, walk_end}
 use Rattle.node_reports.proofs.row_with.Given as goal
 
 abbrev pub invariant-loop-job : goal.invariant-loop-job

@@ -1,11 +1,6 @@
-use lib.Dec.{leb}
-use mathlib.Core.Bool.{true}
 use borrow.Author.Tests.{lt-leb, le-leb}
-use Prim.Native.Nat.{◌≤◌, ◌-◌}
 use native.Mathlib.Omega.{arith}
-use mathlib.Core.Path.{◌≡◌}
-use lib.ListN.{get_or}
-use Rattle.node_reports.specs.Reports.{every_below, row_within}
+use Rattle.node_reports.specs.Reports.{row_within}
 use Rattle.node_reports.proofs.Below.{every-none, every-on, every-stop, every-end}
 use Rattle.node_reports.proofs.row_within.Goals as goal
 

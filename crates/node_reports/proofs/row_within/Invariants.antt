@@ -1,13 +1,10 @@
 -- `node_reports::row_within` meets its contract. The invariant: the test holds of the counts passed. Assumes nothing.
 use lib.Dec.{leb}
 use mathlib.Core.Bool.{true}
-use borrow.Author.Tests.{lt-leb, le-leb}
 use Prim.Native.Nat.{◌≤◌, ◌-◌}
-use native.Mathlib.Omega.{arith}
 use mathlib.Core.Path.{◌≡◌}
 use lib.ListN.{get_or}
-use Rattle.node_reports.specs.Reports.{every_below, row_within}
-use Rattle.node_reports.proofs.Below.{every-none, every-on, every-stop, every-end}
+use Rattle.node_reports.specs.Reports.{every_below}
 use Rattle.node_reports.proofs.row_within.Given as goal
 
 abbrev pub invariant-loop-job : goal.invariant-loop-job

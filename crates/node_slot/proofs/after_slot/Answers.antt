@@ -1,5 +1,4 @@
 -- `node_slot::after_slot` meets its contract: its tests are those of the definition, in their order. Assumes nothing.
-use borrow.Author.Rules.{rules}
 use mathlib.Core.Path.{sym, ap, ◌∙◌}
 use Rattle.node_record.proofs.nodeset.Tests.{told, chosen, otherwise}
 use Rattle.message.specs.declared.Reading.{Reading}
