@@ -2,6 +2,7 @@
 // where n is above 32). The rows after the table stay as they are. A caller of `call` holds no
 // reference to a record.
 #![tactic(auto)]
+
 ghost use Rattle.std.specs.Prelude.{◌≡◌, min, length};
 ghost use Rattle.bench.specs.Kept.{bytes_with};
 ghost use Rattle.bench_by_value.specs.ByValue.{table_of, call_with};

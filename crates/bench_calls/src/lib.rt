@@ -3,6 +3,7 @@
 // what it decides is in `bench_orders`, the walks over the table in `bench_walks`, what is told, entered and
 // counted in `bench_work`.
 #![tactic(auto)]
+
 ghost use Rattle.std.specs.Prelude.{◌≡◌, length};
 ghost use Rattle.bench.specs.Kept.{bytes_with};
 ghost use Rattle.bench.specs.Held.{setted_all, kept_held};

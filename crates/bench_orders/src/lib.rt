@@ -2,6 +2,7 @@
 // table taken record by record, the order for a command, a record after it, the members' sets. What is
 // noted of a record is in bench_notes, the walks over the table are in bench_walks.
 #![tactic(auto)]
+
 mod orders;
 mod records;
 pub mod surveys;

@@ -2,6 +2,7 @@
 // and by what the others are refused (document 01, "The ring"; document 02, h, j and k). Who speaks and who
 // sponsors whom is in ring.
 #![tactic(auto)]
+
 ghost use Rattle.std.specs.Prelude.{◌≡◌, ◌-◌};
 ghost use Rattle.refusal.specs.Causes.{cause};
 ghost use Rattle.cable.specs.Cable.{plain_cable, cable_with, same_cable, ring_size, node_number, lag_fits, sponsor_count, job_count, cable_fits, may_set_up, fault_of};

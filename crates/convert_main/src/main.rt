@@ -79,10 +79,10 @@ fn named(rt: &impl Env) -> Option<Direction> {
     let mut name: [u8; 8] = [0; 8];
     let length = rt.arg(1, &mut name).unwrap_or(0);
     let given = name.get(..length)?;
-    if given == b"three" {
+    if given == b"three".as_slice() {
         return Some(Direction::Three);
     }
-    if given == b"two" {
+    if given == b"two".as_slice() {
         return Some(Direction::Two);
     }
     None

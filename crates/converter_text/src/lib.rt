@@ -2,6 +2,7 @@
 // the other form. The text comes in pieces, and what is printed of it goes into lent bytes. `feed`
 // converts the lines that end in a piece, `finish` ends the text. Reading and writing are `convert_main`.
 #![tactic(auto)]
+
 ghost use Rattle.std.specs.Prelude.{◌≡◌, true, ◌++◌, ◌∷◌, [], ◌+◌, ◌*◌, ◌≤◌, ◌<◌, length};
 ghost use Rattle.plan_line.specs.Words.{is_number, value_of};
 ghost use Rattle.plan_text.specs.Text.{PutAt, PutFew};

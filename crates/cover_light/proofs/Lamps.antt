@@ -11,10 +11,10 @@ use lib.ListN.{length, get_or, take, drop, set, length-map, get_or-eq_default}
 use lib.Seq.{take_all, paste-suc}
 use borrow.Author.Tests.{eq-eqb, ne_eqb, le-leb, lt-leb}
 use Rattle.nodeset.proofs.Tests.{all}
-use Rattle.slot_table.specs.Order.{numbers_from}
-use Rattle.slot_table.proofs.Numbers.{count_of}
-use Rattle.node_reports.specs.Reports.{every_below}
-use Rattle.node_reports.proofs.Below.{every-stop, every-end}
+use Rattle.cable.specs.slot_table.Order.{numbers_from}
+use Rattle.cable.proofs.slot_table.Numbers.{count_of}
+use Rattle.node.specs.node_reports.Reports.{every_below}
+use Rattle.node.proofs.node_reports.Below.{every-stop, every-end}
 use Rattle.message.specs.Message.{unwritten, wrote}
 use Rattle.node_record.specs.declared.Node.{Node}
 use Rattle.node_record.specs.Soundness.{sound}

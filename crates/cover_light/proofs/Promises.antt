@@ -12,7 +12,7 @@ use Rattle.nodeset.specs.Sets.{has, without}
 use Rattle.nodeset.proofs.Tests.{by_cases, all, chosen, otherwise}
 use Rattle.nodeset.proofs.Laws.{without-part}
 use Rattle.cable.specs.Cable.{node_number}
-use Rattle.slot_table.specs.Order.{numbers_from}
+use Rattle.cable.specs.slot_table.Order.{numbers_from}
 use Rattle.message.specs.declared.Written.TheVariants.{Bytes}
 use Rattle.message.specs.Message.{Outcome, if_written, unwritten}
 use Rattle.node_record.specs.declared.Node.{Node}

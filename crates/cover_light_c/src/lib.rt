@@ -1,6 +1,7 @@
 // The calls of `cover_light` for callers in Rust and C, which take and give numbers and slices alone. A
 // node record is lent as 124 bytes; specs/Records says which stands where.
 #![tactic(auto)]
+
 ghost use Rattle.std.specs.Prelude.{◌≡◌, ◌+◌, ◌≤◌, length};
 ghost use Rattle.cover_light_c.specs.Records.{byte_at, word_at, long_at, yes_at, places_at, state_of, cable_in, row_in, window_in, held_in, is_record};
 ghost use Rattle.cover_light_c.specs.Calls.{level_in, levels_in, light_number, written_number, outcome_number, Few};

@@ -1,6 +1,5 @@
 pub mod Sound
 pub mod Sent
-pub mod Counts
 pub mod Holding
 pub mod Standing
 pub use Rattle.ring.proofs as ring

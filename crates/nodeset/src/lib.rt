@@ -2,6 +2,7 @@
 // that is not 1 to 32 names no node: no set has it, and with and without leave the set as it is. Which
 // nodes a cable has is not asked here: the functions that count or test take n.
 #![tactic(auto)]
+
 ghost use Rattle.std.specs.Prelude.{◌≡◌};
 ghost use Rattle.nodeset.specs.Sets.{has, with, with_if, without, union, minus, full, within, subset, size, distance, run};
 

@@ -1,6 +1,7 @@
 // The refusals of document 01 ("Causes and their numbers"), one case for each row of the table, and
 // those that document 02 adds. Which call refuses by which of them is not here.
 #![tactic(auto)]
+
 ghost use Rattle.std.specs.Prelude.{◌≡◌};
 ghost use Rattle.refusal.specs.Causes.{number_of};
 

@@ -2,6 +2,7 @@
 // kept as 32 bytes, the node at place 1 first, spare places 0. An inner layer: every table is taken as
 // it is, and by which number a wrong one is refused is in cable.
 #![tactic(auto)]
+
 ghost use Rattle.std.specs.Prelude.{◌≡◌, ◌-◌, min};
 ghost use Rattle.slot_table.specs.Order.{node_at, nodes_at, is_order, spare_empty, is_kept, kept, plain, place, same_order};
 

@@ -1,12 +1,6 @@
 -- `bench_orders::far_from` meets its contract. The invariant: after j turns it is the greatest distance from the first j sets. Assumes nothing.
-use borrow.Author.Rules.{rules}
-use Prim.Native.Nat.{ℕ, ◌+◌, ◌-◌, ◌≤◌, max}
-use mathlib.Core.Path.{◌≡◌, refl, sym, ap, ◌∙◌}
-use mathlib.Core.List.{List}
-use native.Mathlib.Omega.{arith}
-use native.Mathlib.Numerals.{add-one}
-use lib.ListN.{get_or}
-use Rattle.nodeset.specs.Sets.{distance}
+use Prim.Native.Nat.{◌-◌, ◌≤◌}
+use mathlib.Core.Path.{◌≡◌}
 use Rattle.bench_orders.specs.Survey.{far_from}
 use Rattle.bench_orders.proofs.far_from.Given as goal
 

@@ -1,5 +1,4 @@
 -- `bench_orders::gathered` meets its contract: its test is that of the definition. Assumes nothing.
-use borrow.Author.Rules.{rules}
 use mathlib.Core.Path.{sym, ap, ◌∙◌}
 use Rattle.nodeset.proofs.Tests.{told, both, chosen, otherwise}
 use mathlib.Core.Bool.{Bool, ◌&&◌}

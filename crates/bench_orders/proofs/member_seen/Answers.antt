@@ -1,5 +1,4 @@
 -- `bench_orders::member_seen` meets its contract: its parts are those of the definition. Assumes nothing.
-use borrow.Author.Rules.{rules}
 use Prim.Native.Nat.{ℕ, ◌+◌, max}
 use mathlib.Core.Path.{ap, ◌∙◌}
 use lib.ListN.{set}

@@ -1,5 +1,4 @@
 -- `bench_orders::unseen` meets its contract. Assumes nothing.
-use borrow.Author.Rules.{rules}
 use mathlib.Core.Path.{ap, ◌∙◌}
 use mathlib.Core.Bool.{false}
 use Rattle.cable.specs.slot_table.Order.{numbers_from, plain}

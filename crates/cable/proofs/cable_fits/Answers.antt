@@ -1,7 +1,6 @@
 -- `ring::cable_fits` meets its contract: it makes the tests of its definition. Assumes nothing.
 use mathlib.Core.Path.{ap₂}
 use mathlib.Core.Bool.{◌&&◌}
-use borrow.Author.Rules.{rules}
 use Rattle.cable.proofs.cable_fits.Goals as goal
 
 pub returns : goal.returns

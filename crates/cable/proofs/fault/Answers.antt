@@ -1,6 +1,5 @@
 -- `ring::fault` meets its contract: the tests in their order. Assumes nothing.
 use borrow.Author.Tests.{eq-eqb, ne_eqb}
-use borrow.Author.Rules.{rules}
 use Rattle.slot_table.proofs.nodeset.Tests.{failed, passed}
 use Rattle.cable.proofs.fault.Goals as goal
 

@@ -2,7 +2,6 @@
 use native.Mathlib.Omega.{arith}
 use borrow.Author.Tests.{eq-eqb, ne_eqb, lt-ltb, le-ltb}
 use Rattle.converter_text.specs.Recorded.{digit_of}
-use borrow.Author.Rules.{rules}
 use Rattle.converter_text.proofs.byte_of.Goals as goal
 
 pub returns-then-space-ne32 : goal.returns-then-space-ne32

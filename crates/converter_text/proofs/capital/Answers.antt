@@ -1,7 +1,6 @@
 -- `converter_text::capital` meets its contract. Assumes nothing.
 use native.Mathlib.Omega.{arith}
 use borrow.Author.Tests.{lt-ltb, le-ltb}
-use borrow.Author.Rules.{rules}
 use Rattle.converter_text.proofs.capital.Goals as goal
 
 pub returns-then-digit-lt10 : goal.returns-then-digit-lt10

@@ -4,7 +4,6 @@ use native.Mathlib.Omega.{arith}
 use lib.ListN.{length}
 use Rattle.converter_text.specs.Calls.{text_of}
 use Rattle.converter_text.proofs.Pieces.{fed-none, fed-some}
-use borrow.Author.Rules.{rules}
 use Rattle.converter_text.proofs.feed.Goals as goal
 
 pub returns-then-out-input : goal.returns-then-out-input

@@ -1,5 +1,4 @@
 -- `converter_text::line_ended` meets its contract. Assumes nothing.
-use borrow.Author.Rules.{rules}
 use Rattle.converter_text.proofs.line_ended.Goals as goal
 
 pub returns : goal.returns

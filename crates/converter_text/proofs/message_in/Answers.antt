@@ -1,12 +1,11 @@
-use Prim.Native.Nat.{ℕ, ◌+◌, ◌-◌, ◌*◌, ◌≤◌, ◌<◌}
+use Prim.Native.Nat.{ℕ, ◌+◌, ◌≤◌, ◌<◌}
 use mathlib.Core.Path.{◌≡◌, refl, sym, ap, ◌∙◌}
 use mathlib.Core.List.{List, ◌∷◌, ◌++◌, append-nil}
 use native.Mathlib.Omega.{arith}
-use lib.ListN.{length, get_or, take, drop, length-set}
-use Rattle.converter_text.specs.Recorded.{bytes_of, is_message}
+use lib.ListN.{get_or, take, drop, length-set}
+use Rattle.converter_text.specs.Recorded.{bytes_of}
 use Rattle.converter_text.specs.Inner.{byte_at}
 use Rattle.converter_text.proofs.Hex.{bytes-end, bytes_next, held, message-end, message-next, message-short, message-stop}
-use borrow.Author.Rules.{rules}
 use Rattle.converter_text.proofs.message_in.Goals as goal
 
 pub loop-i-init : goal.loop-i-init

@@ -1,14 +1,10 @@
 -- `converter_text::message_in` meets its contract. The loop's invariant: the text is a message if what is left of it is one, and its bytes are those that
 -- are held and those that are left. The measure is what is left of the text. Assumes nothing.
-use Prim.Native.Nat.{ℕ, ◌+◌, ◌-◌, ◌*◌, ◌≤◌, ◌<◌}
-use mathlib.Core.Path.{◌≡◌, refl, sym, ap, ◌∙◌}
-use mathlib.Core.List.{List, ◌∷◌, ◌++◌, append-nil}
-use native.Mathlib.Omega.{arith}
-use lib.ListN.{length, get_or, take, drop, length-set}
+use Prim.Native.Nat.{◌-◌, ◌*◌, ◌≤◌}
+use mathlib.Core.Path.{◌≡◌}
+use mathlib.Core.List.{◌++◌}
+use lib.ListN.{length, take, drop}
 use Rattle.converter_text.specs.Recorded.{bytes_of, is_message}
-use Rattle.converter_text.specs.Inner.{byte_at}
-use Rattle.converter_text.proofs.Hex.{bytes-end, bytes_next, held, message-end, message-next, message-short, message-stop}
-use borrow.Author.Rules.{rules}
 use Rattle.converter_text.proofs.message_in.Given as goal
 
 abbrev pub invariant-loop-i : goal.invariant-loop-i

@@ -1,6 +1,5 @@
 -- `converter_text::put_byte` meets its contract. Assumes nothing.
 use Rattle.converter_text.specs.Recorded.{message_text}
-use borrow.Author.Rules.{rules}
 use Rattle.converter_text.proofs.put_byte.Goals as goal
 
 pub returns : goal.returns

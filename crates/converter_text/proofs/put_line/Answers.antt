@@ -1,15 +1,17 @@
 -- `converter_text::put_line` meets its contract: each test that fails is one of `readable`. Assumes nothing.
 use Prim.Native.Nat.{ℕ, ◌+◌, ◌-◌, ◌≤◌}
-use mathlib.Core.Path.{◌≡◌, sym, ap, ◌∙◌}
+use mathlib.Core.Path.{◌≡◌, sym, ap, subst, ◌∙◌}
 use mathlib.Core.Bool.{Bool, true}
 use mathlib.Core.List.{List}
 use native.Mathlib.Omega.{arith}
 use borrow.Author.Tests.{not-true, not-false}
 use lib.ListN.{length, take, drop, length-drop}
 use lib.Seq.{length-take-le, take_all}
-use Rattle.plan_line.specs.Words.{before, gap, is_number}
+use Rattle.plan_line.specs.Words.{before, gap, is_number, value_of}
+use Rattle.plan_text.specs.Text.{PutFew}
+use Rattle.converter_text.specs.declared.Direction.{Direction}
 use Rattle.plan_line.proofs.Lists.{part-in}
-use Rattle.converter_text.specs.Recorded.{behind, bytes_of, is_message}
+use Rattle.converter_text.specs.Recorded.{behind, bytes_of, is_message, outcome_text, turned}
 use Rattle.converter_text.proofs.Lines.{no-message, no_number, reads, too_long, unreadable, was_read}
 use borrow.Author.Rules.{rules}
 use Rattle.converter_text.proofs.put_line.Goals as goal
@@ -33,6 +35,14 @@ module _ (text : List ℕ) (end : ℕ) (was : end ≡ 0 + gap 32 (drop 0 text)) 
 
   message : {r : Bool} → r ≡ is_message (take (length text - end) (drop end text)) → is_message (behind text) ≡ r
   message e = ap is_message (sym rest) ∙ sym e
+
+-- what is printed of a word and a message is printed of equal ones
+outcome_same : (L : ℕ) (d : Direction) {r at : ℕ} {word word' m m' out last : List ℕ} → word ≡ word' → m ≡ m'
+    → PutFew 80 r at (outcome_text L word (turned d (value_of word) m)) out last
+    → PutFew 80 r at (outcome_text L word' (turned d (value_of word') m')) out last
+outcome_same L d {r} {at} {word} {word'} {m} {m'} {out} {last} e f p =
+    subst (λ (k : List ℕ). PutFew 80 r at (outcome_text L k (turned d (value_of k) m')) out last) e
+    (subst (λ (n : List ℕ). PutFew 80 r at (outcome_text L word (turned d (value_of word) n)) out last) f p)
 
 pub returns-then-text-gt120 : goal.returns-then-text-gt120
 returns-then-text-gt120 c =
@@ -83,4 +93,4 @@ returns c =
     let readable : read.result.readable ≡ true = not-false read.result.readable c.if-not-read.false in
     let bytes : take read.result.count read.result.bytes ≡ bytes_of (behind text) = read.ensures.bytes readable ∙ ap bytes_of (rest _ _ end) in
     rw (was_read a.direction a.line text (reads text (omega (arith, c.if-text-gt120.false)) (number _ _ end c.is_number.ensures ∙ c.if-not-is_number.false) (message _ _ end read.ensures.is ∙ readable)))
-    (rw (word _ _ end, bytes) at c.put_turned.ensures)
+    (outcome_same a.line a.direction (word _ _ end) bytes c.put_turned.ensures)

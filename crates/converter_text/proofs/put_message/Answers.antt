@@ -1,14 +1,11 @@
-use Prim.Native.Nat.{◌+◌, ◌-◌, ◌*◌, ◌≤◌}
-use mathlib.Core.Path.{◌≡◌, refl, ◌∙◌}
+use mathlib.Core.Path.{refl, ◌∙◌}
 use mathlib.Core.List.{[], ◌∷◌}
 use native.Mathlib.Omega.{arith}
-use lib.ListN.{length, get_or, take}
+use lib.ListN.{get_or}
 use lib.Seq.{take_all}
-use Rattle.plan_text.specs.Text.{PutAt}
 use Rattle.plan_text.proofs.Paste.{both, nothing}
 use Rattle.converter_text.specs.Recorded.{message_text}
 use Rattle.converter_text.proofs.Hex.{text-long, text-next}
-use borrow.Author.Rules.{rules}
 use Rattle.converter_text.proofs.put_message.Goals as goal
 
 pub loop-i-init : goal.loop-i-init

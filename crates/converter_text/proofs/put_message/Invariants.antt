@@ -1,16 +1,10 @@
 -- `converter_text::put_message` meets its contract. The loop's invariant: the text of the bytes so far is put. The measure is what is left of the bytes.
 -- Assumes nothing.
 use Prim.Native.Nat.{◌+◌, ◌-◌, ◌*◌, ◌≤◌}
-use mathlib.Core.Path.{◌≡◌, refl, ◌∙◌}
-use mathlib.Core.List.{[], ◌∷◌}
-use native.Mathlib.Omega.{arith}
-use lib.ListN.{length, get_or, take}
-use lib.Seq.{take_all}
+use mathlib.Core.Path.{◌≡◌}
+use lib.ListN.{length, take}
 use Rattle.plan_text.specs.Text.{PutAt}
-use Rattle.plan_text.proofs.Paste.{both, nothing}
 use Rattle.converter_text.specs.Recorded.{message_text}
-use Rattle.converter_text.proofs.Hex.{text-long, text-next}
-use borrow.Author.Rules.{rules}
 use Rattle.converter_text.proofs.put_message.Given as goal
 
 abbrev pub invariant-loop-i : goal.invariant-loop-i

@@ -1,6 +1,6 @@
 -- `converter_text::put_turned` meets its contract: where the message is written, k has two digits at the most and the message 9 bytes.
 -- Assumes nothing.
-use Prim.Native.Nat.{ℕ, ◌+◌, ◌*◌, ◌≤◌, ◌<◌, min}
+use Prim.Native.Nat.{ℕ, ◌≤◌, min}
 use mathlib.Core.Path.{◌≡◌, sym, ap, ◌∙◌}
 use mathlib.Core.Bool.{true}
 use mathlib.Core.List.{List}
@@ -13,7 +13,6 @@ use Rattle.plan_line.specs.Words.{is_number, value_of}
 use Rattle.converter_text.specs.declared.Direction.{Direction}
 use Rattle.converter_text.specs.Recorded.{conversion, turned}
 use Rattle.converter_text.proofs.Turned.{count_fits, k-small, turned-capped, word-short}
-use borrow.Author.Rules.{rules}
 use Rattle.converter_text.proofs.put_turned.Goals as goal
 
 module _ (d : Direction) (k : ℕ) (bytes last : List ℕ) (count : ℕ) (made : ◌≡◌ {A = Outcome} (Bytes count, last) (conversion d k bytes (replicate 9 0))) (nine : length last ≡ 9) where

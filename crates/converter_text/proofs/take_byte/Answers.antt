@@ -1,7 +1,6 @@
 -- `converter_text::take_byte` meets its contract. Assumes nothing.
 use Prim.Native.Nat.{ℕ, ◌≤◌}
 use mathlib.Core.Path.{◌≡◌, sym, ap, ◌∙◌}
-use mathlib.Core.Logic.{⊎_elim}
 use native.Mathlib.Omega.{arith}
 use lib.ListN.{length, take}
 use lib.Seq.{length-take-le, take_all}
@@ -38,8 +37,8 @@ returns c =
     let is = an-end r a.byte c.if-byte-ne10.false in
     let whole : length r.text ≡ 121 = search rules in
     let same : take n r.text ≡ bytes_in r =
-        elim c.if-r-lt121.branch [
-            then-r-lt121 w ↦ ap (λ (n : ℕ). take n r.text) w.length-is
-          | else-r-lt121 w ↦ take_all n r.text (omega arith) ∙ sym (take_all r.length r.text (omega arith))
-        ] in
+    elim c.if-r-lt121.branch [
+      | then-r-lt121 w ↦ ap (λ (n : ℕ). take n r.text) w.length-is
+      | else-r-lt121 w ↦ take_all n r.text (omega arith) ∙ sym (take_all r.length r.text (omega arith))
+    ] in
     record { is = c.line_ended.ensures ∙ sym is.0; put = rw is.1 (rw (c.next_line-line.ensures, same) at c.put_line-end.ensures) }

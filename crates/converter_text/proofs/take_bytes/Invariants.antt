@@ -1,17 +1,10 @@
 -- `converter_text::take_bytes` meets its contract. The loop's invariant: the bytes so far are taken and what is printed of them put, 80 bytes for each at the
 -- most. The measure is what is left of the input. Assumes nothing.
 use Prim.Native.Nat.{◌-◌, ◌*◌, ◌≤◌}
-use mathlib.Core.Path.{◌≡◌, refl, sym, ap, ◌∙◌}
-use native.Mathlib.Omega.{arith}
-use lib.ListN.{length, get_or, take}
-use lib.Seq.{take_all}
+use mathlib.Core.Path.{◌≡◌}
+use lib.ListN.{length, take}
 use Rattle.plan_text.specs.Text.{PutAt}
-use Rattle.plan_text.proofs.Paste.{both, nothing}
-use Rattle.converter_text.specs.declared.Recording.{Recording}
-use Rattle.plan_text.specs.Bytewise.{after_bytes, bytes_text}
-use Rattle.plan_text.proofs.Bytewise.{after_next, text-next}
-use Rattle.converter_text.specs.Calls.{after, after_byte, byte_text, text_of}
-use borrow.Author.Rules.{rules}
+use Rattle.converter_text.specs.Calls.{after, text_of}
 use Rattle.converter_text.proofs.take_bytes.Given as goal
 
 abbrev pub invariant-loop-i : goal.invariant-loop-i

@@ -1,7 +1,6 @@
 -- `converter_text::with_byte` meets its contract. Assumes nothing.
 use native.Mathlib.Omega.{arith}
 use borrow.Author.Tests.{lt-ltb, le-ltb}
-use borrow.Author.Rules.{rules}
 use Rattle.converter_text.proofs.with_byte.Goals as goal
 
 pub returns-then-at-ge121 : goal.returns-then-at-ge121

@@ -1,7 +1,7 @@
 use native.Mathlib.Omega.{arith}
 use borrow.Author.Rules.{rules}
 use borrow.Author.Tests.{le-leb, lt-leb}
-use Rattle.node_reports.proofs.Below.{every-none, every-on}
+use Rattle.node.proofs.node_reports.Below.{every-none, every-on}
 use Rattle.cover_light.proofs.Lamps.{unfit-length, unfit-base, fit-by}
 use Rattle.cover_light.proofs.bases_fit.Goals as goal
 

@@ -4,7 +4,7 @@ use mathlib.Core.Path.{◌≡◌}
 use mathlib.Core.Bool.{true}
 use lib.Dec.{leb}
 use lib.ListN.{length, get_or}
-use Rattle.node_reports.specs.Reports.{every_below}
+use Rattle.node.specs.node_reports.Reports.{every_below}
 use Rattle.cover_light.specs.Light.{brightest}
 use Rattle.cover_light.proofs.bases_fit.Given as goal
 

@@ -3,7 +3,7 @@ use Prim.Native.Nat.{◌-◌, ◌≤◌}
 use mathlib.Core.Path.{◌≡◌}
 use mathlib.Core.List.{◌++◌, map}
 use lib.ListN.{length, take, drop}
-use Rattle.slot_table.specs.Order.{numbers_from}
+use Rattle.cable.specs.slot_table.Order.{numbers_from}
 use Rattle.cover_light.specs.Light.{given_by}
 use Rattle.cover_light.proofs.fill.Given as goal
 

@@ -4,7 +4,7 @@ use mathlib.Core.Path.{ap, ◌∙◌}
 use mathlib.Core.Bool.{Bool}
 use mathlib.Core.List.{List, ◌++◌, map}
 use lib.ListN.{drop}
-use Rattle.slot_table.specs.Order.{numbers_from}
+use Rattle.cable.specs.slot_table.Order.{numbers_from}
 use Rattle.nodeset.proofs.Tests.{failed, passed}
 use Rattle.message.specs.Message.{wrote}
 use Rattle.cover_light.specs.Light.{given_by, lamp_level}

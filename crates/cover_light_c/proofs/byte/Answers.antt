@@ -1,7 +1,6 @@
 -- `cover_light_c::byte` meets its contract. Assumes nothing.
 use mathlib.Core.Path.{sym}
 use lib.ListN.{get_or-eq_default}
-use borrow.Author.Rules.{rules}
 use Rattle.cover_light_c.proofs.byte.Goals as goal
 
 pub returns-then-bytes-at : goal.returns-then-bytes-at

@@ -1,5 +1,4 @@
 -- `cover_light_c::cable_in` meets its contract. Assumes nothing.
-use borrow.Author.Rules.{rules}
 use Rattle.cover_light_c.proofs.cable_in.Goals as goal
 
 pub returns : goal.returns

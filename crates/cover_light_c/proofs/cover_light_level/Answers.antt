@@ -6,7 +6,6 @@ use Rattle.node_record.specs.Held.{setted}
 use Rattle.cover_light.specs.Light.{level_of}
 use Rattle.cover_light_c.specs.Calls.{level_in, light_number}
 use Rattle.cover_light_c.proofs.Laws.{record_is}
-use borrow.Author.Rules.{rules}
 use Rattle.cover_light_c.proofs.cover_light_level.Goals as goal
 
 pub returns-then-not-is_record : goal.returns-then-not-is_record

@@ -8,7 +8,6 @@ use Rattle.node_record.specs.Held.{setted}
 use Rattle.cover_light.specs.Light.{levels_of}
 use Rattle.cover_light_c.specs.Calls.{Few, outcome_number}
 use Rattle.cover_light_c.proofs.Laws.{record_is, few-levels, no_record, on-record}
-use borrow.Author.Rules.{rules}
 use Rattle.cover_light_c.proofs.cover_light_levels.Goals as goal
 
 pub returns-then-not-is_record : goal.returns-then-not-is_record

@@ -1,6 +1,5 @@
 -- `cover_light_c::is_record` meets its contract. Assumes nothing.
 use Rattle.cover_light_c.specs.Records.{is_record}
-use borrow.Author.Rules.{rules}
 use Rattle.cover_light_c.proofs.is_record.Goals as goal
 
 pub returns : goal.returns

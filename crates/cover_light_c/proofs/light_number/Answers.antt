@@ -1,7 +1,6 @@
 -- `cover_light_c::light_number` meets its contract. Assumes nothing.
 use mathlib.Core.Path.{sym, ap, ◌∙◌}
 use Rattle.cover_light_c.specs.Calls.{light_number}
-use borrow.Author.Rules.{rules}
 use Rattle.cover_light_c.proofs.light_number.Goals as goal
 
 pub returns-in-Level : goal.returns-in-Level

@@ -3,7 +3,6 @@ use Prim.Native.Nat.{◌+◌, ◌-◌}
 use mathlib.Core.Path.{◌∙◌}
 use native.Mathlib.Omega.{arith}
 use Rattle.cover_light_c.proofs.Laws.{part-kept}
-use borrow.Author.Rules.{rules}
 use Rattle.cover_light_c.proofs.places.Goals as goal
 
 pub returns : goal.returns

@@ -1,6 +1,5 @@
 -- `cover_light_c::word` meets its contract. Assumes nothing.
 use Rattle.cover_light_c.specs.Records.{word_at}
-use borrow.Author.Rules.{rules}
 use Rattle.cover_light_c.proofs.word.Goals as goal
 
 pub returns : goal.returns

@@ -3,7 +3,6 @@ use Prim.Native.Nat.{◌≤◌}
 use mathlib.Core.Path.{sym, ap, ◌∙◌, subst}
 use native.Mathlib.Omega.{arith}
 use Rattle.cover_light_c.specs.Calls.{Few, written_number}
-use borrow.Author.Rules.{rules}
 use Rattle.cover_light_c.proofs.written_number.Goals as goal
 
 pub overflow_add-result : goal.overflow_add-result

@@ -2,7 +2,7 @@
 -- record's own row. Assumes nothing.
 use borrow.Author.Rules.{rules}
 use Prim.Native.Nat.{◌+◌}
-use mathlib.Core.Path.{sym, ap, ◌∙◌}
+use mathlib.Core.Path.{refl, sym, ap, ◌∙◌}
 use borrow.Author.Tests.{le-leb, lt-leb}
 use Rattle.ring.proofs.nodeset.Tests.{failed, passed, chosen, otherwise}
 use Rattle.node_record.proofs.ring_laws.Speakers.{is-sender, no-refusal}
@@ -26,12 +26,10 @@ returns-then-v-ge-LIMIT c =
     chosen _ _ (passed c.is_sound.ensures c.if-not-is_sound.false) ∙ chosen _ _ (le-leb _ _ c.if-v-ge-LIMIT.true)))
 
 pub returns-in_default : goal.returns-in_default
-unfolding step_of
 returns-in_default c =
-    let p = c in
-    let v = p.args.v in
-    let good = passed p.is_sound.ensures p.if-not-is_sound.false in
-    absurd (no-refusal v.cable (v.slots + 1) _ c.sender-speaker.result (clauses (setted v) good).choices.ring c.sender-speaker.ensures c.enum_told.given.1)
+    let v = c.args.v in
+    let good = passed c.is_sound.ensures c.if-not-is_sound.false in
+    absurd (no-refusal v.cable (v.slots + 1) c.in_default.field-0 _ (clauses (setted v) good).choices.ring c.in_default.ensures refl)
 
 pub returns : goal.returns
 unfolding step_of
@@ -40,6 +38,6 @@ returns c =
     let a = q.args in
     let v = a.v in
     let good = passed q.is_sound.ensures q.if-not-is_sound.false in
-    let s = is-sender v.cable (v.slots + 1) _ q.sender-speaker.result (clauses (setted v) good).choices.ring q.sender-speaker.ensures c.speaker.given.1 in
+    let s = is-sender v.cable (v.slots + 1) _ _ (clauses (setted v) good).choices.ring c.in-Node.ensures refl in
     ap (λ (x : Held). record { node = x; answer = Done }) (slot-held v good _ a.heard _ _ c.after_slot-w.ensures c.digest_of-digest.ensures s)
     ∙ sym (ap (held_as v) (chosen _ _ good ∙ otherwise _ _ (lt-leb _ _ q.if-v-ge-LIMIT.false)))

@@ -22,5 +22,5 @@ unfolding off_of
 returns c =
     let v = c.args.v in
     let good = passed c.is_sound.ensures c.if-not-is_sound.false in
-    ap (λ (x : Held). record { node = x; answer = Done }) (c.out_for-w.ensures ∙ on-held v good (changes.out_for-w SwitchedOff) (rules.out_for-w SwitchedOff) (out-held SwitchedOff))
+    ap (λ (x : Held). record { node = x; answer = Done }) (c.out_for-w.ensures ∙ on-held v good (changes.out_for SwitchedOff) (rules.out_for SwitchedOff) (out-held SwitchedOff))
     ∙ sym (ap (held_as v) (chosen _ _ good))

@@ -1,6 +1,6 @@
 -- `node::reporter` meets its contract: on a ring the sender is never refused. Assumes nothing.
 use Prim.Native.Nat.{ℕ, ◌+◌}
-use mathlib.Core.Path.{sym, ap, ◌∙◌}
+use mathlib.Core.Path.{refl, sym, ap, ◌∙◌}
 use mathlib.Core.Bool.{cond}
 use borrow.Author.Rules.{rules}
 use Rattle.ring.proofs.nodeset.Tests.{told, chosen, otherwise}
@@ -8,19 +8,13 @@ use Rattle.node_record.proofs.ring_laws.Speakers.{is-sender, no-refusal}
 use Rattle.node.specs.Inner.{hears_held, reporter_held}
 use Rattle.node.proofs.reporter.Goals as goal
 
-pub returns-in_default : goal.returns-in_default
-returns-in_default c =
-    let q = c in
-    let v = q.args.v in
-    absurd (no-refusal v.cable (v.slots + 1) _ q.sender-speaker.result q.requires q.sender-speaker.ensures c.enum_told.given.1)
-
 pub returns-then-hears_report : goal.returns-then-hears_report
 unfolding reporter_held
 returns-then-hears_report c =
     let q = c in
     let a = q.args in
     let v = a.v in
-    let s = is-sender v.cable (v.slots + 1) _ q.sender-speaker.result q.requires q.sender-speaker.ensures c.speaker.given.1 in
+    let s = is-sender v.cable (v.slots + 1) _ _ q.requires c.in-Node.ensures refl in
     sym (chosen _ 0 (told c.hears_report.ensures c.if-hears_report.true)) ∙ ap (λ (x : ℕ). cond (hears_held x a.heard v) x 0) s
 
 pub returns : goal.returns
@@ -29,5 +23,5 @@ returns c =
     let q = c in
     let a = q.args in
     let v = a.v in
-    let s = is-sender v.cable (v.slots + 1) _ q.sender-speaker.result q.requires q.sender-speaker.ensures c.speaker.given.1 in
+    let s = is-sender v.cable (v.slots + 1) _ _ q.requires c.in-Node.ensures refl in
     sym (otherwise _ 0 (told c.hears_report.ensures c.if-hears_report.false)) ∙ ap (λ (x : ℕ). cond (hears_held x a.heard v) x 0) s

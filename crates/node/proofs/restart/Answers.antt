@@ -27,5 +27,5 @@ unfolding restart_of
 returns c =
     let v = c.args.v in
     let good = passed c.is_sound.ensures c.if-not-is_sound.false in
-    ap (λ (x : Held). record { node = x; answer = Done }) (c.fresh-w.ensures ∙ on-held v good changes.fresh-w rules.fresh-w (listening-held 0))
+    ap (λ (x : Held). record { node = x; answer = Done }) (c.fresh-w.ensures ∙ on-held v good changes.fresh rules.fresh (listening-held 0))
     ∙ sym (ap (held_as v) (chosen _ _ good ∙ chosen _ _ (passed c.is_out.ensures c.if-not-is_out.false)))

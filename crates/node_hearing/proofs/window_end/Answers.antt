@@ -13,15 +13,13 @@ returns-then-not-clean c =
 pub returns-then-w : goal.returns-then-w
 unfolding window_end
 returns-then-w c =
-    let d = c in
-    let w = d.args.w in
+    let w = c.args.w in
     c.following_with.ensures
-    ∙ sym (chosen _ _ (passed d.clean.ensures d.if-not-clean.false) ∙ chosen _ _ (eq-eqb w.last w.heard c.if-w.true))
+    ∙ sym (chosen _ _ (passed c.clean.ensures c.if-not-clean.false) ∙ chosen _ _ (eq-eqb w.last w.heard c.if-w.true))
 
 pub returns : goal.returns
 unfolding window_end
 returns c =
-    let d = c in
-    let w = d.args.w in
+    let w = c.args.w in
     c.listening_after-2.ensures
-    ∙ sym (chosen _ _ (passed d.clean.ensures d.if-not-clean.false) ∙ otherwise _ _ (ne_eqb w.last w.heard c.if-w.false))
+    ∙ sym (chosen _ _ (passed c.clean.ensures c.if-not-clean.false) ∙ otherwise _ _ (ne_eqb w.last w.heard c.if-w.false))

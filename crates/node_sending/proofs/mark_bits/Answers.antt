@@ -35,8 +35,7 @@ loop-j-smaller c = omega arith
 pub loop-j-preserved : goal.loop-j-preserved
 loop-j-preserved c =
     let l = c.loop-j in
-    let asked = c in
-    let v = asked.args.v in
+    let v = c.args.v in
     record {
       below = omega arith;
       so_far =
@@ -44,13 +43,12 @@ loop-j-preserved c =
           ∙ ap (λ (b : Bool). with_if b l.bits (l.j + 1)) c.has-marked.ensures
           ∙ one-more v l.j l.bits c.back-member.result l.invariant.so_far
           (c.back-member.ensures
-          ∙ ap₂ (λ (p : ℕ) (here : Bool). back_in v.row p here (l.j + 1 + v.cable.lag)) asked.rank-p.ensures asked.has-here.ensures);
+          ∙ ap₂ (λ (p : ℕ) (here : Bool). back_in v.row p here (l.j + 1 + v.cable.lag)) c.rank-p.ensures c.has-here.ensures);
     }
 
 pub returns : goal.returns
 returns c =
-    let asked = c in
-    let v = asked.args.v in
-    let most = asked.sponsors-most in
+    let v = c.args.v in
+    let most = c.sponsors-most in
     let last : c.loop-j.j ≡ most.result = omega (arith, c.loop-j.invariant.below) in
     c.loop-j.invariant.so_far ∙ ap (λ (m : ℕ). mark_bits m v) (last ∙ most.ensures)

@@ -14,17 +14,15 @@ returns-then-is_out c = sym (chosen _ _ (told c.is_out.ensures c.if-is_out.true)
 pub returns-then-is_listening : goal.returns-then-is_listening
 unfolding after_by
 returns-then-is_listening c =
-    let h = c in
-    let a = h.args in
+    let a = c.args in
     c.listening_slot.ensures
-    ∙ ap (λ (r : Reading). listening_by a.s r a.v) h.heard_from-told.ensures
-    ∙ sym (otherwise _ _ (told h.is_out.ensures h.if-is_out.false) ∙ chosen _ _ (told c.is_listening.ensures c.if-is_listening.true))
+    ∙ ap (λ (r : Reading). listening_by a.s r a.v) c.heard_from-told.ensures
+    ∙ sym (otherwise _ _ (told c.is_out.ensures c.if-is_out.false) ∙ chosen _ _ (told c.is_listening.ensures c.if-is_listening.true))
 
 pub returns : goal.returns
 unfolding after_by
 returns c =
-    let h = c in
-    let a = h.args in
+    let a = c.args in
     c.tracking_slot.ensures
-    ∙ ap (λ (r : Reading). tracking_by a.digest a.s r a.v) h.heard_from-told.ensures
-    ∙ sym (otherwise _ _ (told h.is_out.ensures h.if-is_out.false) ∙ otherwise _ _ (told c.is_listening.ensures c.if-is_listening.false))
+    ∙ ap (λ (r : Reading). tracking_by a.digest a.s r a.v) c.heard_from-told.ensures
+    ∙ sym (otherwise _ _ (told c.is_out.ensures c.if-is_out.false) ∙ otherwise _ _ (told c.is_listening.ensures c.if-is_listening.false))

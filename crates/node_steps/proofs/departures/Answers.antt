@@ -68,11 +68,8 @@ loop-times-smaller c = omega arith
 
 pub loop-times-preserved : goal.loop-times-preserved
 loop-times-preserved c =
-    let w = c in
-    let i = w in
-    let t = i in
-    let l = t.loop-times in
-    let a = t.args in
+    let l = c.loop-times in
+    let a = c.args in
     let some : suc (l.times - 1) ≡ l.times = omega arith in
-    one-leaves (l.times - 1) l.m a.s l.row a.v w.without-row.result c.decided-m.result (told t.stays_on.ensures t.if-stays_on.false) i.if-m-v.false w.without-row.ensures c.decided-m.ensures
+    one-leaves (l.times - 1) l.m a.s l.row a.v c.without-row.result c.decided-m.result (told c.stays_on.ensures c.if-stays_on.false) c.if-m-v.false c.without-row.ensures c.decided-m.ensures
     ∙ ap (λ (x : ℕ). departures x l.m a.s l.row a.v) some ∙ l.invariant

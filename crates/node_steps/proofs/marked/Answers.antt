@@ -6,7 +6,6 @@ use Rattle.node_steps.proofs.marked.Goals as goal
 
 pub returns : goal.returns
 returns c =
-    let k = c in
-    let a = k.args in
+    let a = c.args in
     c.with_marks.ensures
-    ∙ ap (λ (b : Bool). with_marks a.effect.marks a.effect.yes (a.v.return_heard || (b && a.effect.returned)) a.v) k.is_knocking.ensures
+    ∙ ap (λ (b : Bool). with_marks a.effect.marks a.effect.yes (a.v.return_heard || (b && a.effect.returned)) a.v) c.is_knocking.ensures

@@ -17,15 +17,13 @@ with-found said v marks denied e f = rw (e, f) refl
 
 pub returns-then-has-v : goal.returns-then-has-v
 returns-then-has-v c =
-    let u = c in
-    let a = u.args in
+    let a = c.args in
     c.without.ensures
     ∙ sym (chosen _ _ c.if-has-v.true)
-    ∙ with-found a.said (setted a.v) u.union-marks.result c.has.result u.union-marks.ensures c.has.ensures
+    ∙ with-found a.said (setted a.v) c.union-marks.result c.has.result c.union-marks.ensures c.has.ensures
 
 pub returns : goal.returns
 returns c =
-    let u = c in
-    let a = u.args in
+    let a = c.args in
     sym (otherwise _ _ c.if-has-v.false)
-    ∙ with-found a.said (setted a.v) u.union-marks.result c.has.result u.union-marks.ensures c.has.ensures
+    ∙ with-found a.said (setted a.v) c.union-marks.result c.has.result c.union-marks.ensures c.has.ensures

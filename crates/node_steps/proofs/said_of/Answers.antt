@@ -47,12 +47,10 @@ loop-j-smaller c = omega arith
 
 pub loop-j-preserved : goal.loop-j-preserved
 loop-j-preserved c =
-    let h = c in
-    let b = h in
-    let l = b.loop-j in
-    let a = b.args in
-    let it : b.back-node.result ≡ sponsored_row a.cable a.row a.s (l.j + 1)
-    = b.back-node.ensures ∙ ap₂ (λ (p : ℕ) (here : Bool). back_in a.row p here (l.j + 1 + a.cable.lag)) l.invariant.rank_is l.invariant.here-is in
+    let l = c.loop-j in
+    let a = c.args in
+    let it : c.back-node.result ≡ sponsored_row a.cable a.row a.s (l.j + 1)
+    = c.back-node.ensures ∙ ap₂ (λ (p : ℕ) (here : Bool). back_in a.row p here (l.j + 1 + a.cable.lag)) l.invariant.rank_is l.invariant.here-is in
     record {
       below = omega arith;
       count = l.invariant.count;
@@ -60,10 +58,10 @@ loop-j-preserved c =
       here-is = l.invariant.here-is;
       so_far =
           c.with_if-yes.ensures
-          ∙ one-more true (with 0 a.s) a.s a.bits a.cable a.row l.j l.«yes» b.back-node.result h.has-bit.result h.has-bit.ensures l.invariant.so_far it;
+          ∙ one-more true (with 0 a.s) a.s a.bits a.cable a.row l.j l.«yes» c.back-node.result c.has-bit.result c.has-bit.ensures l.invariant.so_far it;
       others =
           c.with_if-no.ensures
-          ∙ one-more false 0 a.s a.bits a.cable a.row l.j l.«no» b.back-node.result h.has-bit.result h.has-bit.ensures l.invariant.others it;
+          ∙ one-more false 0 a.s a.bits a.cable a.row l.j l.«no» c.back-node.result c.has-bit.result c.has-bit.ensures l.invariant.others it;
     }
 
 pub returns : goal.returns

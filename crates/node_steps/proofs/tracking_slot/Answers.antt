@@ -33,39 +33,28 @@ departs i e m s x v w d f g h = ap (ended i s w) h ∙ ap₂ (λ (y : ℕ) (u : 
 
 pub returns-then-inside-effect : goal.returns-then-inside-effect
 returns-then-inside-effect c =
-    let f = c in
-    let a = f.args in
+    let a = c.args in
     c.leave.ensures
     ∙ sym (chosen _ _ c.if-inside-effect.true)
-    ∙ with-found a.digest a.s a.heard a.v f.has-inside.result f.effect_of-effect.result (decided_by a.digest a.s a.v) f.has-inside.ensures f.effect_of-effect.ensures refl
+    ∙ with-found a.digest a.s a.heard a.v c.has-inside.result c.effect_of-effect.result (decided_by a.digest a.s a.v) c.has-inside.ensures c.effect_of-effect.ensures refl
 
 pub returns-then-departure : goal.returns-then-departure
 returns-then-departure c =
-    let p = c in
-    let x = p in
-    let d = x in
-    let t = d in
-    let f = t in
-    let a = f.args in
-    let i = f.has-inside.result in
+    let a = c.args in
+    let i = c.has-inside.result in
     c.leave-then-departure.ensures
     ∙ sym (chosen _ _ c.if-departure.true)
-    ∙ departs i f.effect_of-effect.result d.decided_by.result a.s x.decided_where-m.result a.v t.taken-w.result p.departures-departure.result t.taken-w.ensures x.decided_where-m.ensures p.departures-departure.ensures
-    ∙ sym (otherwise _ _ t.if-inside-effect.false)
-    ∙ with-found a.digest a.s a.heard a.v i f.effect_of-effect.result d.decided_by.result f.has-inside.ensures f.effect_of-effect.ensures d.decided_by.ensures
+    ∙ departs i c.effect_of-effect.result c.decided_by.result a.s c.decided_where-m.result a.v c.taken-w.result c.departures-departure.result c.taken-w.ensures c.decided_where-m.ensures c.departures-departure.ensures
+    ∙ sym (otherwise _ _ c.if-inside-effect.false)
+    ∙ with-found a.digest a.s a.heard a.v i c.effect_of-effect.result c.decided_by.result c.has-inside.ensures c.effect_of-effect.ensures c.decided_by.ensures
 
 pub returns : goal.returns
 returns c =
-    let p = c in
-    let x = p in
-    let d = x in
-    let t = d in
-    let f = t in
-    let a = f.args in
-    let i = f.has-inside.result in
+    let a = c.args in
+    let i = c.has-inside.result in
     c.settle.ensures
     ∙ ap (settle i a.s) c.with_row.ensures
     ∙ sym (otherwise _ _ c.if-departure.false)
-    ∙ departs i f.effect_of-effect.result d.decided_by.result a.s x.decided_where-m.result a.v t.taken-w.result p.departures-departure.result t.taken-w.ensures x.decided_where-m.ensures p.departures-departure.ensures
-    ∙ sym (otherwise _ _ t.if-inside-effect.false)
-    ∙ with-found a.digest a.s a.heard a.v i f.effect_of-effect.result d.decided_by.result f.has-inside.ensures f.effect_of-effect.ensures d.decided_by.ensures
+    ∙ departs i c.effect_of-effect.result c.decided_by.result a.s c.decided_where-m.result a.v c.taken-w.result c.departures-departure.result c.taken-w.ensures c.decided_where-m.ensures c.departures-departure.ensures
+    ∙ sym (otherwise _ _ c.if-inside-effect.false)
+    ∙ with-found a.digest a.s a.heard a.v i c.effect_of-effect.result c.decided_by.result c.has-inside.ensures c.effect_of-effect.ensures c.decided_by.ensures

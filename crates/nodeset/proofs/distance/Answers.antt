@@ -1,6 +1,5 @@
 -- `nodeset::distance` meets its contract: the differing bits are those of the exclusive or. Assumes nothing.
 use mathlib.Core.Path.{◌∙◌}
-use borrow.Author.Rules.{rules}
 use Rattle.nodeset.proofs.Counts.{size-xor}
 use Rattle.nodeset.proofs.distance.Goals as goal
 

@@ -1,5 +1,4 @@
 -- `nodeset::with_if` meets its contract. Assumes nothing.
-use borrow.Author.Rules.{rules}
 use mathlib.Core.Path.{sym, ◌∙◌}
 use Rattle.nodeset.proofs.Tests.{chosen}
 use Rattle.nodeset.proofs.with_if.Goals as goal

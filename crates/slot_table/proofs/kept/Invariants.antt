@@ -1,13 +1,8 @@
 -- `slot_table::kept` meets its contract. The invariant: the first i places are copied, the others 0. Assumes nothing.
-use Prim.Native.Nat.{ℕ, suc, ◌+◌, ◌-◌, ◌≤◌, ◌<◌, min}
-use mathlib.Core.Path.{◌≡◌, refl, sym, ap, ◌∙◌}
-use mathlib.Core.List.{List, ◌++◌}
-use native.Mathlib.Omega.{arith}
-use native.Mathlib.Numerals.{add-one}
-use borrow.Author.Rules.{rules}
-use lib.ListN.{length, get_or, take, replicate, set}
-use lib.Seq.{take-suc, length-take-le, set_at, append_snoc}
-use Rattle.slot_table.specs.Order.{kept}
+use Prim.Native.Nat.{◌-◌, ◌≤◌, min}
+use mathlib.Core.Path.{◌≡◌}
+use mathlib.Core.List.{◌++◌}
+use lib.ListN.{length, take, replicate}
 use Rattle.slot_table.proofs.kept.Given as goal
 
 abbrev pub invariant-loop-i : goal.invariant-loop-i

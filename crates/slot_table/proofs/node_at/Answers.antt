@@ -1,8 +1,6 @@
 -- `slot_table::node_at` meets its contract: there are 32 places. Assumes nothing.
-use Prim.Native.Nat.{◌-◌}
 use mathlib.Core.Path.{sym, ap}
 use native.Mathlib.Omega.{arith}
-use borrow.Author.Rules.{rules}
 use Rattle.slot_table.specs.Order.{node_at}
 use Rattle.slot_table.proofs.Entries.{node-entry, no_node}
 use Rattle.slot_table.proofs.node_at.Goals as goal

@@ -1,14 +1,9 @@
 -- `slot_table::plain` meets its contract. The invariant: the first i places are numbered, the others 0. Assumes nothing.
-use Prim.Native.Nat.{ℕ, zero, suc, ◌+◌, ◌-◌, ◌≤◌, ◌<◌, min}
-use mathlib.Core.Path.{◌≡◌, refl, sym, ap, ◌∙◌}
-use mathlib.Core.List.{List, [], ◌∷◌, ◌++◌}
-use native.Mathlib.Omega.{arith}
-use native.Mathlib.Numerals.{add-one}
-use borrow.Author.Rules.{rules}
-use lib.ListN.{replicate, set}
-use lib.Seq.{set_at, append_snoc}
-use Rattle.slot_table.specs.Order.{numbers_from, plain}
-use Rattle.slot_table.proofs.Numbers.{count_of}
+use Prim.Native.Nat.{◌-◌, ◌≤◌, min}
+use mathlib.Core.Path.{◌≡◌}
+use mathlib.Core.List.{◌++◌}
+use lib.ListN.{replicate}
+use Rattle.slot_table.specs.Order.{numbers_from}
 use Rattle.slot_table.proofs.plain.Given as goal
 
 abbrev pub invariant-loop-i : goal.invariant-loop-i

@@ -1,12 +1,7 @@
 -- `slot_table::spare_empty` meets its contract. The invariant: the places after place n up to place p were looked at. Assumes nothing.
-use Prim.Native.Nat.{ℕ, suc, ◌+◌, ◌-◌, ◌≤◌}
-use mathlib.Core.Path.{◌≡◌, ap, ◌∙◌}
-use mathlib.Core.Bool.{Bool, ◌&&◌}
-use mathlib.Core.List.{List}
-use native.Mathlib.Omega.{arith}
-use borrow.Author.Rules.{rules}
-use lib.Dec.{eqb}
-use Rattle.slot_table.specs.Order.{node_at, spare_empty}
+use Prim.Native.Nat.{◌-◌, ◌≤◌}
+use mathlib.Core.Path.{◌≡◌}
+use Rattle.slot_table.specs.Order.{spare_empty}
 use Rattle.slot_table.proofs.spare_empty.Given as goal
 
 abbrev pub invariant-loop-p : goal.invariant-loop-p

@@ -1,5 +1,4 @@
 -- `bench_orders::orders::fate_of` meets its contract: its tests are those of the definition. Assumes nothing.
-use borrow.Author.Rules.{rules}
 use mathlib.Core.Path.{sym, ◌∙◌}
 use Rattle.nodeset.proofs.Tests.{failed, passed, told, chosen, otherwise}
 use Rattle.bench_orders.proofs.orders.fate_of.Goals as goal

@@ -1,5 +1,4 @@
 -- `bench_orders::orders::look_order` meets its contract: its test is that of the definition. Assumes nothing.
-use borrow.Author.Rules.{rules}
 use mathlib.Core.Path.{sym, ap, ◌∙◌}
 use Rattle.nodeset.proofs.Tests.{failed, passed, chosen, otherwise}
 use Rattle.bench.specs.declared.Fate.{Fate}

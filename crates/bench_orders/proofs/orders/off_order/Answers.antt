@@ -1,5 +1,4 @@
 -- `bench_orders::orders::off_order` meets its contract: its tests are those of the definition. Assumes nothing.
-use borrow.Author.Rules.{rules}
 use mathlib.Core.Path.{refl, sym, ◌∙◌}
 use Rattle.nodeset.proofs.Tests.{failed, passed, chosen, otherwise}
 use Rattle.bench_orders.proofs.orders.off_order.Goals as goal

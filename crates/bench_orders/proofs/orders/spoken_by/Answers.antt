@@ -1,5 +1,4 @@
 -- `bench_orders::orders::spoken_by` meets its contract: its tests are those of the definition. Assumes nothing.
-use borrow.Author.Rules.{rules}
 use mathlib.Core.Path.{sym, ap₂, ◌∙◌}
 use Rattle.nodeset.proofs.Tests.{failed, passed, chosen, otherwise}
 use Rattle.message.specs.declared.Reading.TheVariants.{Heard}

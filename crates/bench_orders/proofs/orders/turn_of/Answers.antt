@@ -1,5 +1,4 @@
 -- `bench_orders::orders::turn_of` meets its contract: its parts are those of the definition. Assumes nothing.
-use borrow.Author.Rules.{rules}
 use Prim.Native.Nat.{ℕ, ◌+◌}
 use mathlib.Core.Path.{ap, ◌∙◌}
 use Rattle.bench.specs.declared.Fate.{Fate}

@@ -1,5 +1,4 @@
 -- `bench_orders::records::heard_at` meets its contract: its test is that of the definition. Assumes nothing.
-use borrow.Author.Rules.{rules}
 use mathlib.Core.Path.{sym}
 use Rattle.nodeset.proofs.Tests.{told, chosen, otherwise}
 use Rattle.bench_orders.proofs.records.heard_at.Goals as goal

@@ -1,5 +1,4 @@
 -- `bench_orders::records::restart_at` meets its contract: its test is that of the definition. Assumes nothing.
-use borrow.Author.Rules.{rules}
 use mathlib.Core.Path.{sym, ◌∙◌}
 use Rattle.nodeset.proofs.Tests.{chosen, otherwise}
 use borrow.Author.Tests.{eq-eqb, ne_eqb}

@@ -1,5 +1,4 @@
 -- `bench_orders::records::step_at` meets its contract: what its node hears and the record that is stepped are those of the definition. Assumes nothing.
-use borrow.Author.Rules.{rules}
 use mathlib.Core.Path.{ap, ◌∙◌}
 use Rattle.message.specs.declared.Reading.{Reading}
 use Rattle.node_record.specs.declared.Held.{Held}

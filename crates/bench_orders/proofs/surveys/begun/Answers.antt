@@ -1,5 +1,4 @@
 -- `bench_orders::surveys::begun` meets its contract: the sender is that of the definition. Assumes nothing.
-use borrow.Author.Rules.{rules}
 use mathlib.Core.Path.{ap}
 use Prim.Native.Nat.{ℕ}
 use Rattle.bench_orders.specs.declared.Survey.{Survey}

@@ -1,5 +1,4 @@
 -- `bench_orders::surveys::glimpsed` meets its contract. Assumes nothing.
-use borrow.Author.Rules.{rules}
 use Rattle.bench_orders.proofs.surveys.glimpsed.Goals as goal
 
 pub returns : goal.returns

@@ -1,7 +1,6 @@
 -- `bench_orders::surveys::index_of` meets its contract. Assumes nothing.
 use mathlib.Core.Path.{sym}
 use native.Mathlib.Omega.{arith}
-use borrow.Author.Rules.{rules}
 use Rattle.bench_orders.proofs.Numbers.{index_in, index-none, index-past}
 use Rattle.bench_orders.proofs.surveys.index_of.Goals as goal
 

@@ -1,5 +1,4 @@
 -- `bench_orders::surveys::is_number_at` meets its contract: own is one more than the index. Assumes nothing.
-use borrow.Author.Rules.{rules}
 use mathlib.Core.Path.{sym}
 use Rattle.bench_orders.proofs.Numbers.{not-one-more, one-more}
 use Rattle.bench_orders.proofs.surveys.is_number_at.Goals as goal

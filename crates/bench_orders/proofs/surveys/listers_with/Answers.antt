@@ -1,7 +1,6 @@
 -- `bench_orders::surveys::listers_with` meets its contract: its test is that of the definition. Assumes nothing.
 use mathlib.Core.Path.{ap, ◌∙◌}
 use mathlib.Core.Bool.{Bool}
-use borrow.Author.Rules.{rules}
 use Rattle.nodeset.specs.Sets.{with_if}
 use Rattle.bench_orders.proofs.surveys.listers_with.Goals as goal
 

@@ -1,5 +1,4 @@
 -- `bench_orders::surveys::stands` meets its contract: its tests are those of the definition. Assumes nothing.
-use borrow.Author.Rules.{rules}
 use mathlib.Core.Path.{ap, ap₂}
 use lib.Dec.{eqb}
 use mathlib.Core.Bool.{Bool, ◌&&◌}
