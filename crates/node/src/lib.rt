@@ -2,6 +2,7 @@
 // held with its set as a row (document 02, request l). It goes in by value and comes back beside the
 // answer; every record is taken, and one that is not sound is refused.
 #![tactic(auto)]
+
 ghost use Rattle.std.specs.Prelude.{◌≡◌, true};
 ghost use Rattle.cable.specs.Cable.{ring_size};
 ghost use Rattle.node_steps.specs.Steps.{is_heard};

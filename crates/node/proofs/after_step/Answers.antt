@@ -1,6 +1,5 @@
 -- `node::after_step` meets its contract: its tests are in the table's order; on a ring the sender is never refused; the slot goes by the digest of the
 -- record's own row. Assumes nothing.
-use borrow.Author.Rules.{rules}
 use Prim.Native.Nat.{◌+◌}
 use mathlib.Core.Path.{refl, sym, ap, ◌∙◌}
 use borrow.Author.Tests.{le-leb, lt-leb}

@@ -1,5 +1,4 @@
 -- `node::as_set` meets its contract: the nodes in a sound row are the set that it stands for. Assumes nothing.
-use borrow.Author.Rules.{rules}
 use Prim.Native.Nat.{ℕ}
 use mathlib.Core.Path.{sym, ap, ◌∙◌}
 use Rattle.cable.specs.slot_table.Order.{numbers_from, plain}

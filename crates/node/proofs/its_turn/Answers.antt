@@ -1,10 +1,9 @@
 -- `node::its_turn` meets its contract: on a ring the sender is never refused. Assumes nothing.
-use borrow.Author.Rules.{rules}
 use Prim.Native.Nat.{ℕ, ◌+◌}
 use mathlib.Core.Path.{refl, ap₂}
 use mathlib.Core.Bool.{Bool, ◌&&◌}
 use lib.Dec.{eqb}
-use Rattle.node_record.proofs.ring_laws.Speakers.{is-sender, no-refusal}
+use Rattle.node_record.proofs.ring_laws.Speakers.{is-sender}
 use Rattle.node.proofs.its_turn.Goals as goal
 
 pub returns : goal.returns

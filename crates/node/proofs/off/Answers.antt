@@ -1,5 +1,4 @@
 -- `node::off` meets its contract: it tests soundness first. Assumes nothing.
-use borrow.Author.Rules.{rules}
 use mathlib.Core.Path.{sym, ap, ◌∙◌}
 use Rattle.ring.proofs.nodeset.Tests.{failed, passed, chosen, otherwise}
 use Rattle.node_record.specs.declared.Held.{Held}

@@ -2,9 +2,8 @@
 use Prim.Native.Nat.{ℕ, ◌+◌}
 use mathlib.Core.Path.{refl, sym, ap, ◌∙◌}
 use mathlib.Core.Bool.{cond}
-use borrow.Author.Rules.{rules}
 use Rattle.ring.proofs.nodeset.Tests.{told, chosen, otherwise}
-use Rattle.node_record.proofs.ring_laws.Speakers.{is-sender, no-refusal}
+use Rattle.node_record.proofs.ring_laws.Speakers.{is-sender}
 use Rattle.node.specs.Inner.{hears_held, reporter_held}
 use Rattle.node.proofs.reporter.Goals as goal
 

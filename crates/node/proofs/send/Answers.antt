@@ -1,5 +1,4 @@
 -- `node::send` meets its contract: its tests are in their order, then the writer writes. Assumes nothing.
-use borrow.Author.Rules.{rules}
 use Prim.Native.Nat.{ℕ}
 use mathlib.Core.Path.{sym, ap, ap₂, ◌∙◌}
 use mathlib.Core.Bool.{Bool}

@@ -1,7 +1,6 @@
 -- `node::set_up` meets its contract. Assumes nothing.
 use mathlib.Core.Path.{ap, ◌∙◌}
 use lib.ListN.{length}
-use borrow.Author.Rules.{rules}
 use Rattle.cable.specs.declared.Cable.{Cable}
 use Rattle.node_reports.specs.Reports.{no_reports}
 use Rattle.node_record.specs.Held.{rowed}

@@ -1,6 +1,5 @@
 -- `node::slot` meets its contract: the bytes go through the reader. Assumes nothing.
 use mathlib.Core.Path.{ap, ◌∙◌}
-use borrow.Author.Rules.{rules}
 use Rattle.message.specs.declared.Received.{Received}
 use Rattle.node.specs.Held.{counted_held}
 use Rattle.node.proofs.slot.Goals as goal

@@ -1,5 +1,4 @@
 -- `node::started` meets its contract: its tests are in their order, and the record made holds that of the rules. Assumes nothing.
-use borrow.Author.Rules.{rules}
 use Prim.Native.Nat.{ℕ}
 use mathlib.Core.Path.{◌≡◌, sym, ap, ◌∙◌}
 use mathlib.Core.Bool.{true, false}

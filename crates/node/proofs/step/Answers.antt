@@ -2,7 +2,6 @@
 use Prim.Native.Nat.{ℕ, ◌+◌}
 use mathlib.Core.Path.{◌≡◌, refl, sym, ap, ap₂, ◌∙◌}
 use mathlib.Core.Bool.{Bool, true, false, cond, true≢false}
-use borrow.Author.Rules.{rules}
 use Rattle.ring.proofs.nodeset.Tests.{by_cases, failed, passed, chosen, otherwise}
 use Rattle.ring.specs.Ring.{sender}
 use Rattle.node_reports.specs.Reports.{Counts, counts_with}

@@ -1,0 +1,26 @@
+-- `bench_work::jobs_of` meets its contract, command by command. Assumes nothing.
+use borrow.Author.Rules.{rules}
+use mathlib.Core.Path.{◌≡◌, sym, ap, ◌∙◌}
+use Rattle.node_record.specs.declared.Node.{Node}
+use Rattle.node_record.specs.Held.{setted}
+use Rattle.bench.specs.declared.Command.{Command}
+use Rattle.bench_work.specs.Work.{jobs_by}
+use Rattle.bench_work.proofs.jobs_of.Goals as goal
+
+commanded : (speaker : Node) {k k' : Command} → k ≡ k' → jobs_by k' speaker ≡ jobs_by k speaker
+commanded speaker e = sym (ap (λ (k : Command). jobs_by k speaker) e)
+
+pub returns-in-SetUp : goal.returns-in-SetUp
+returns-in-SetUp c = commanded (setted c.args.speaker) c.enum_told.given.1
+
+pub returns-in-Off : goal.returns-in-Off
+returns-in-Off c = commanded (setted c.args.speaker) c.enum-told2.given.1
+
+pub returns-in-Restart : goal.returns-in-Restart
+returns-in-Restart c = commanded (setted c.args.speaker) c.enum-told3.given.1
+
+pub returns-in-Slot : goal.returns-in-Slot
+returns-in-Slot c = c.jobs_sent.ensures ∙ commanded (setted c.args.speaker) c.command.given.1
+
+pub returns-in-Look : goal.returns-in-Look
+returns-in-Look c = commanded (setted c.args.speaker) c.enum-told4.given.1

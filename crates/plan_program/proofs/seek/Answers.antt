@@ -1,0 +1,31 @@
+-- `plan_program::seek` meets its contract. Assumes nothing.
+use borrow.Author.Rules.{rules}
+use native.Mathlib.Omega.{arith}
+use Prim.Native.Nat.{ℕ, ◌≤◌, ◌+◌, ◌-◌}
+use mathlib.Core.Path.{ap, ◌∙◌}
+use mathlib.Core.List.{◌++◌}
+use lib.Dec.{ltb}
+use lib.ListN.{length, take, drop}
+use Rattle.plan_line.proofs.Lists.{part-in}
+use Rattle.plan_program.specs.declared.Part.{Part}
+use Rattle.plan_program.specs.Calls.{bytes_in, part_in}
+use Rattle.plan_program.specs.Inner.{sought, with_line}
+use Rattle.plan_program.proofs.seek.Goals as goal
+
+-- the line ends in the input
+ends : (c : goal.After-part_end-end) → (c.args.g.at ≤ c.part_end-end.result) × (c.part_end-end.result ≤ length c.args.input.now)
+ends c = part-in 10 c.args.input.now c.args.g.at c.part_end-end.result c.requires c.part_end-end.ensures
+
+pub overflow_add-end : goal.overflow_add-end
+overflow_add-end c = omega (arith, (ends c).1)
+
+pub returns : goal.returns
+unfolding sought
+returns c =
+    let a = c.args in
+    let g = a.g in
+    let input = a.input.now in
+    let e = c.part_end-end.result in
+    c.with_line.ensures
+    ∙ ap (λ (text : Part). with_line g text (ltb e (length input)) (e + 1)) c.longer-text.ensures
+    ∙ ap (λ (k : ℕ). with_line g (part_in g.part.text (take 121 (bytes_in g.part ++ take (k - g.at) (drop g.at input)))) (ltb k (length input)) (k + 1)) c.part_end-end.ensures

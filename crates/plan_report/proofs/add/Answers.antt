@@ -1,0 +1,53 @@
+-- `plan_report::add` meets its contract. Assumes nothing.
+use borrow.Author.Tests.{not-true, not-false}
+use Rattle.plan_report.proofs.Sums.{Fit, fit}
+use Rattle.plan_report.specs.Figures.{add_of, all_fit, plus}
+use Rattle.plan_report.specs.declared.Figures.{Figures}
+use Rattle.nodeset.proofs.Tests.{chosen, otherwise}
+use mathlib.Core.Bool.{true, false}
+use mathlib.Core.Path.{◌≡◌, sym, ◌∙◌}
+use native.Mathlib.Omega.{arith}
+use Rattle.refusal.specs.Causes.{cause}
+use Rattle.node.specs.declared.Answer.TheVariants.{Done, Refused}
+use borrow.Author.Rules.{rules}
+use Rattle.plan_report.proofs.add.Reads as reads
+use Rattle.plan_report.proofs.add.Lts as lts
+use Rattle.plan_report.proofs.all_fit.Reads as all-fit-reads
+use Rattle.plan_report.proofs.add.Goals as goal
+
+refused : (t f : Figures) → all_fit t f ≡ false → add_of t f ≡ record { totals = t; answer = Refused (cause 19) }
+unfolding add_of
+refused t f e = otherwise _ _ e
+
+summed : (t f : Figures) → all_fit t f ≡ true → add_of t f ≡ record { totals = plus t f; answer = Done }
+unfolding add_of
+summed t f e = chosen _ _ e
+
+fitting : (c : goal.Else-not-all_fit) → all_fit c.args.totals c.args.figures ≡ true
+fitting c = sym c.all_fit.ensures ∙ not-false c.all_fit.result c.if-not-all_fit.false
+
+made : (c : goal.Else-not-all_fit) → Fit c.args.totals c.args.figures
+made c = fit c.args.totals c.args.figures (fitting c)
+
+pub returns-then-not-all_fit : goal.returns-then-not-all_fit
+returns-then-not-all_fit c =
+    let a = c.args in
+    sym (refused a.totals a.figures (sym c.all_fit.ensures ∙ not-true c.all_fit.result c.if-not-all_fit.true))
+
+pub overflow_add-sums : goal.overflow_add-sums
+overflow_add-sums c = omega (arith, (made c).slots)
+
+pub overflow_add-sums-2 : goal.overflow_add-sums-2
+overflow_add-sums-2 c = omega (arith, (made c).members)
+
+pub overflow_add-sums-3 : goal.overflow_add-sums-3
+overflow_add-sums-3 c = omega (arith, (made c).listed)
+
+pub overflow_add-sums-4 : goal.overflow_add-sums-4
+overflow_add-sums-4 c = omega (arith, (made c).apart)
+
+pub returns : goal.returns
+returns c =
+    let q = c in
+    let a = q.args in
+    sym (summed a.totals a.figures (fitting q))

@@ -1,0 +1,8 @@
+-- `plan_report::fits` meets its contract. Assumes nothing.
+use native.Mathlib.Omega.{arith}
+use borrow.Author.Rules.{rules}
+use Rattle.plan_report.proofs.Sums.{fits-is}
+use Rattle.plan_report.proofs.fits.Goals as goal
+
+pub returns : goal.returns
+returns c = fits-is c.args.a c.args.b (omega arith)

@@ -1,0 +1,32 @@
+-- `plan_report::line_done` meets its contract: what is printed of a slot tells its figures. Assumes nothing.
+use Prim.Native.Nat.{ℕ}
+use mathlib.Core.Path.{◌≡◌, sym, ap, ◌∙◌}
+use mathlib.Core.Bool.{Bool, cond}
+use mathlib.Core.Logic.{⊎_elim}
+use borrow.Author.Rules.{rules}
+use Rattle.plan_program.specs.declared.Plan.{Plan}
+use Rattle.plan_program.specs.Program.{after_line}
+use Rattle.plan_program.specs.Calls.{bytes_in}
+use Rattle.plan_report.specs.Report.{fault_in}
+use Rattle.plan_report.specs.Tallies.{figures_after}
+use Rattle.plan_report.specs.Inner.{figures_by}
+use Rattle.plan_report.proofs.Told.{tells}
+use Rattle.plan_report.proofs.line_done.Goals as goal
+
+pub returns : goal.returns
+returns c =
+    let entry = c in
+    let t = entry.args.t in
+    let q = after_line t.plan (bytes_in entry.args.part) in
+    let ran = c.run_line-next.ensures in
+    let figures : c.figures_by-figures.result ≡ figures_after t.figures q =
+    c.figures_by-figures.ensures
+    ∙ ap (λ (p : Plan). figures_by t.figures p p.outcome) ran
+    ∙ tells t.figures t.plan (bytes_in entry.args.part) entry.requires in
+    let either : Bool → ℕ = λ over. cond over t.fault (fault_in q.outcome) in
+    let fault : c.if-plan.fault ≡ either t.plan.over =
+    ⊎_elim
+    (λ w. w.1 ∙ ap either (sym w.0.taken))
+    (λ w. w.2 ∙ w.1.ensures ∙ ap (λ (p : Plan). fault_in p.outcome) ran ∙ ap either (sym w.0.left))
+    c.if-plan.branch in
+    cc (ran, figures, fault)

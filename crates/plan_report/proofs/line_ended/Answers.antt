@@ -1,0 +1,6 @@
+-- `plan_report::line_ended` meets its contract. Assumes nothing.
+use borrow.Author.Rules.{rules}
+use Rattle.plan_report.proofs.line_ended.Goals as goal
+
+pub returns : goal.returns
+returns c = rw c.after_Line.ensures

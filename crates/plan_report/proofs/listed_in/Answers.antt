@@ -1,0 +1,21 @@
+-- `plan_report::listed_in` meets its contract. Assumes nothing.
+use Rattle.nodeset.proofs.Counts.{size_none}
+use Rattle.bench.specs.Runs.{set_in}
+use Rattle.bench.specs.declared.Listed.{Listed}
+use Rattle.nodeset.specs.Sets.{size}
+use mathlib.Core.Path.{sym, ap, ◌∙◌}
+use borrow.Author.Rules.{rules}
+use Rattle.plan_report.proofs.listed_in.Reads as reads
+use Rattle.plan_report.proofs.listed_in.Lts as lts
+use Rattle.nodeset.proofs.size.Reads as size-reads
+use Rattle.plan_report.proofs.listed_in.Goals as goal
+
+pub returns-in-Set : goal.returns-in-Set
+returns-in-Set c =
+    let a = c.args in
+    c.size.ensures ∙ ap (λ (l : Listed). size a.n (set_in l)) (sym c.list.given.1)
+
+pub returns-in-Nobody : goal.returns-in-Nobody
+returns-in-Nobody c =
+    let a = c.args in
+    sym (size_none a.n) ∙ ap (λ (l : Listed). size a.n (set_in l)) (sym c.enum_told.given.1)

@@ -1,0 +1,9 @@
+-- `plan_report::raised_by` meets its contract. Assumes nothing.
+use borrow.Author.Rules.{rules}
+use Rattle.plan_report.proofs.raised_by.Reads as reads
+use Rattle.plan_report.proofs.raised_by.Lts as lts
+use Rattle.plan_report.proofs.raised.Reads as raised-reads
+use Rattle.plan_report.proofs.raised_by.Goals as goal
+
+pub returns : goal.returns
+returns c = cc (c.raised.ensures, c.raised-2.ensures, c.raised-3.ensures, c.raised-4.ensures)

@@ -1,0 +1,10 @@
+-- `plan_run::beside_of` meets its contract, case by case. Assumes nothing.
+use mathlib.Core.Path.{sym, ap}
+use Rattle.cable.specs.slot_table.Order.{numbers_from, plain}
+use Rattle.plan_run.specs.Inner.{beside_of}
+use borrow.Author.Rules.{rules}
+use Rattle.plan_run.proofs.beside_of.Goals as goal
+
+pub returns-in-Refuse : goal.returns-in-Refuse
+unfolding plain numbers_from
+returns-in-Refuse c = sym (ap beside_of c.enum_told.given.1)
