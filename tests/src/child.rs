@@ -7,11 +7,11 @@ use std::path::PathBuf;
 use std::process::{Child, ChildStdin, Command, Stdio};
 use std::thread;
 
-/// The first argument, or the program that `rt check NAME` builds.
+/// The first argument, or the program that `rt run` and `rt ci` build in the folder of the crate of that name.
 fn path(name: &str) -> PathBuf {
     match std::env::args_os().nth(1) {
         Some(path) => path.into(),
-        None => [env!("CARGO_MANIFEST_DIR"), "../target/bin", name].iter().collect(),
+        None => [env!("CARGO_MANIFEST_DIR"), "../crates", name, "out", name].iter().collect(),
     }
 }
 

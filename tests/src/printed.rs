@@ -38,7 +38,7 @@ pub fn samples(extension: &str) -> Result<Vec<Sample>, String> {
     Ok(found)
 }
 
-/// A program that `rt check NAME` builds, and the arguments that it is given. The first argument of the comparison
+/// A program that `rt run` and `rt ci` build, and the arguments that it is given. The first argument of the comparison
 /// names another one to be tested in its place.
 #[derive(Clone, Copy)]
 pub struct Program {
@@ -50,7 +50,7 @@ impl Program {
     fn path(&self) -> PathBuf {
         match std::env::args_os().nth(1) {
             Some(path) => path.into(),
-            None => repository("target/bin").join(self.name),
+            None => repository("crates").join(self.name).join("out").join(self.name),
         }
     }
 

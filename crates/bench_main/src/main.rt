@@ -2,6 +2,7 @@
 // slot to standard output. What is printed of which bytes is proved in `plan_program`; here pieces of
 // the input are read, handed over in turn, and what is printed of each is written at once.
 #![tactic(auto)]
+
 use plan_program::{Fed, Part, Plan};
 use plan_text::Written;
 use std::io;
@@ -42,11 +43,7 @@ fn end_plan(
 
 // Reads pieces until the input ends or the plan is over. The output holds 80 bytes for each byte of a
 // piece, all that can be printed of it. Nobody reads u64::MAX pieces.
-fn run_plan(
-    rt: &(impl Input + Print + Eprint),
-    input: &mut [u8; 4096],
-    output: &mut [u8; 327680],
-) {
+fn run_plan(rt: &(impl Input + Print + Eprint), input: &mut [u8; 4096], output: &mut [u8; 327680]) {
     let mut plan = plan_program::no_plan();
     let mut part = plan_program::no_part();
     let mut reader = rt.reader();

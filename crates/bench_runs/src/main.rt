@@ -28,6 +28,7 @@
 // ledger has no entry, and all figures are 0; no array is lent, and all counts are 0; the slot table has
 // no place.
 #![tactic(auto)]
+
 mod answers;
 mod arrays;
 mod entries;

@@ -3,6 +3,7 @@
 // bytes is proved in `converter_text`; here pieces of the input are read, handed over in turn, and what
 // is printed of each is written at once.
 #![tactic(auto)]
+
 use converter_text::{Direction, Fed, Recording};
 use plan_text::Written;
 use std::io;
@@ -71,7 +72,12 @@ fn convert(
 fn convert_to(rt: &(impl Input + Print + Eprint), direction: Direction) {
     let mut input: [u8; 4096] = [0; 4096];
     let mut output: [u8; 327680] = [0; 327680];
-    convert(rt, converter_text::start(direction), &mut input, &mut output);
+    convert(
+        rt,
+        converter_text::start(direction),
+        &mut input,
+        &mut output,
+    );
 }
 
 // The form that the first argument names; none where there is no such argument.

@@ -2,6 +2,7 @@
 // a test. The functions are safe and end, and a refused call leaves every byte of the record and every
 // count; no contract says more.
 #![tactic(auto)]
+
 pub mod bytes;
 pub mod calls;
 pub mod counts;

@@ -118,6 +118,7 @@ pub fn following_with(set: u32, v: Held) -> Held
 }
 
 // A node that must leave.
+#[tactic(auto, unfolding(crate::specs::Held::leave))]
 pub fn leave(cause: Cause, v: Held) -> Held
     ensures { result ≡ leave cause v }
 {

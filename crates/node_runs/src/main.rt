@@ -21,6 +21,7 @@
 // counts, 32 rows of 8, eight bytes each. A U or S that is refused leaves record and counts, and A always
 // does. Any other byte ends the run. Before the first command all counts are 0.
 #![tactic(auto)]
+
 use node_bytes::calls::Outcome;
 use node_bytes::{bytes, calls, counts};
 use run_io::block::Block;
@@ -101,7 +102,13 @@ fn read<R: Read>(input: &mut Source<R>, left: Unread, block: &mut Block) -> Comm
 }
 
 // The number, and the first `length` bytes of a record.
-fn answer<W: Write>(output: &mut Sink<W>, held: usize, number: u32, record: &Block, length: u8) -> usize {
+fn answer<W: Write>(
+    output: &mut Sink<W>,
+    held: usize,
+    number: u32,
+    record: &Block,
+    length: u8,
+) -> usize {
     let held = output::put(output, held, (number % 256) as u8);
     output::put_block(output, held, record, length)
 }

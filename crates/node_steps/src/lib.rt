@@ -201,6 +201,7 @@ fn marked(effect: Effect, v: Held) -> Held
 }
 
 // Step 2: a knock is noted, or this node knocks.
+#[tactic(auto, unfolding(crate::specs::Held::noted_by))]
 fn noted(s: u32, heard: bool, v: Held) -> Held
     ensures { result ≡ noted_by s heard v }
 {

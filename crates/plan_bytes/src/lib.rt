@@ -10,6 +10,7 @@
 // and the distance (four each). A refusal has its number for the sender, and is loaded as that by 12; what
 // an outcome does not have is 0. The functions are safe and end; no contract says more.
 #![tactic(auto)]
+
 use bench::{Fate, Listed, Outcome};
 use node_bytes::{bytes, rows};
 use node_record::Held;

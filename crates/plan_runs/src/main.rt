@@ -14,6 +14,7 @@
 // the plan and by the part.
 // Any other letter ends the run.
 #![tactic(auto)]
+
 use plan_program::{Part, Plan};
 use plan_text::Written;
 use run_io::block::Block;

@@ -15,6 +15,7 @@
 // byte), lines and length (eight bytes each) and 121 bytes.
 // Any other letter ends the run. Before the first command the recording is that of `N 0`.
 #![tactic(auto)]
+
 use converter_text::{Direction, Fed, Recording};
 use run_io::block::Block;
 use run_io::input::{Head, Source, Unread};

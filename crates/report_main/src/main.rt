@@ -2,6 +2,7 @@
 // one for the totals to standard output. What is printed of which bytes is proved in `plan_report`; here
 // pieces of the input are read, handed over in turn, and what is printed of each is written at once.
 #![tactic(auto)]
+
 use plan_report::{Fed, Report};
 use plan_text::Written;
 use std::io;
@@ -41,11 +42,7 @@ fn end_report(
 
 // Reads pieces until the input ends. The output holds 110 bytes for each byte of a piece, all that can be
 // printed of it. Nobody reads u64::MAX pieces.
-fn run(
-    rt: &(impl Input + Print + Eprint),
-    input: &mut [u8; 4096],
-    output: &mut [u8; 450560],
-) {
+fn run(rt: &(impl Input + Print + Eprint), input: &mut [u8; 4096], output: &mut [u8; 450560]) {
     let mut report = plan_report::start();
     let mut reader = rt.reader();
     for _ in 0..u64::MAX {

@@ -17,6 +17,7 @@
 // the totals.
 // Any other letter ends the run. Before the first command the report is that of `N 0`.
 #![tactic(auto)]
+
 ghost use Rattle.std.specs.Prelude.{◌≤◌};
 
 use node::Answer;

@@ -102,13 +102,17 @@ module _ (n : ℕ) (order : List ℕ) (kept : is_kept n order ≡ true) where
   node_row s x h l =
       ap₂ (λ (a b : Bool). a && (b && elem x (as_row order s).nodes)) (le-leb 1 x h) (le-leb x 32 (omega (arith, table.most))) ∙ node-elem n order table s x h l
 
-  -- Its length is how many are in the set.
-  pub size-row : (s : ℕ) → (as_row order s).length ≡ size n s
-  size-row s =
+  -- its length
+  length-row : (s : ℕ) → (as_row order s).length ≡ size n s
+  length-row s =
       length-is order s ∙ ap length (front-keep n order table s)
       ∙ ranked-sum order s table.full n table.most
       ∙ over-nodes n order table.ordered (λ x. num (has s x))
       ∙ sym (size_is n s)
+
+  -- Its length is how many are in the set.
+  pub size-row : (s : ℕ) → (as_row order s).length ≡ size n s
+  size-row s = length-row s
 
   -- one that is not there, at its place
   put-row : (s x : ℕ) → 1 ≤ x → x ≤ n → has s x ≡ false → (p : ℕ) × (1 ≤ p) × (p ≤ n) × (node_at order p ≡ x) → with_row order (as_row order s) x ≡ as_row order (with s x)
@@ -120,7 +124,7 @@ module _ (n : ℕ) (order : List ℕ) (kept : is_kept n order ≡ true) where
       let after : List ℕ = keep (has s) (drop (suc i) order) in
       let old : keep (has s) order ≡ before ++ after = kept-without n order table i low x at h s e in
       let new : keep (has (with s x)) order ≡ before ++ x ∷ after = kept-with n order table i low x at h s (omega (arith, table.most)) in
-      let room : (as_row order s).length < 32 = omega (arith, size-row s, size-with n s x h l (omega (arith, table.most)) e, size-le n (with s x), table.most) in
+      let room : (as_row order s).length < 32 = omega (arith, length-row s, size-with n s x h l (omega (arith, table.most)) e, size-le n (with s x), table.most) in
       let first : place order x - 1 ≡ i = omega (arith, here) in
       let rank : rank_in order (as_row order s) x ≡ length before =
       ap (λ (k : ℕ). passed k order (as_row order s).nodes) first ∙ passed_is order s table.full i (omega (arith, table.most)) in
@@ -260,7 +264,7 @@ back-row cable kept s x h l p here rank own j = go (node-place n order t.ordered
         let at : place order x ≡ q = ap (place order) (sym e) ∙ place_of n order t.ordered t.most q a b in
         let there : here ≡ has s (node_at order (place order x)) = own ∙ ap (has s) (sym (ap (node_at order) at ∙ e)) in
         ap (λ (k : ℕ). back_in (as_row order s) k here j) (rank ∙ rank_is cable turns t s x (omega (arith, at)) (omega (arith, at)))
-        ∙ places-back cable turns t s (size-row n order kept s) (place order x) (omega (arith, at)) (omega (arith, at)) here there j
+        ∙ places-back cable turns t s (length-row n order kept s) (place order x) (omega (arith, at)) (omega (arith, at)) here there j
         ∙ sym (ap member_in (before-is cable turns s x j))
 
 pub before-row : (cable : Cable) → is_kept cable.n cable.order ≡ true → (s x j : ℕ) → 1 ≤ x → x ≤ cable.n

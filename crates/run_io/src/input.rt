@@ -62,12 +62,7 @@ pub fn next<R: Read>(input: &mut Source<R>, left: Unread) -> Taken {
 }
 
 // The next `length` bytes go into the start of `block`.
-pub fn fill<R: Read>(
-    input: &mut Source<R>,
-    left: Unread,
-    block: &mut Block,
-    length: u8,
-) -> Unread {
+pub fn fill<R: Read>(input: &mut Source<R>, left: Unread, block: &mut Block, length: u8) -> Unread {
     let mut left = left;
     for i in 0..length {
         let taken = next(input, left);

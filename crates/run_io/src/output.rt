@@ -34,12 +34,7 @@ pub fn put<W: Write>(output: &mut Sink<W>, held: usize, byte: u8) -> usize {
 }
 
 // The first `length` bytes of `block`.
-pub fn put_block<W: Write>(
-    output: &mut Sink<W>,
-    held: usize,
-    block: &Block,
-    length: u8,
-) -> usize {
+pub fn put_block<W: Write>(output: &mut Sink<W>, held: usize, block: &Block, length: u8) -> usize {
     let mut held = held;
     for i in 0..length {
         held = put(output, held, block[i as usize]);

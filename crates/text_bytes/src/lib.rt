@@ -1,6 +1,7 @@
 // Texts that come in pieces, as bytes of commands and answers, for the programs that run calls on them for
 // a test. The functions are safe and end; no contract of a result says more.
 #![tactic(auto)]
+
 ghost use Rattle.std.specs.Prelude.{◌≤◌};
 
 use plan_text::Written;
@@ -46,7 +47,12 @@ pub fn put_written<W: Write>(output: &mut Sink<W>, held: usize, written: Written
 }
 
 // How many bytes of a line have come (eight bytes), and the 121 that hold them.
-pub fn put_text<W: Write>(output: &mut Sink<W>, held: usize, length: usize, text: [u8; 121]) -> usize {
+pub fn put_text<W: Write>(
+    output: &mut Sink<W>,
+    held: usize,
+    length: usize,
+    text: [u8; 121],
+) -> usize {
     let mut answer = [0u8; 255];
     block::set_long_word(&mut answer, 0, length as u64);
     let held = output::put_block(output, held, &answer, 8);

@@ -31,10 +31,10 @@ struct Programs {
     model: PathBuf,
 }
 
-/// The program under test is the argument with this number, or the one that `rt check` builds; the model's lies
+/// The program under test is the argument with this number, or the one that `rt run` builds; the model's lies
 /// beside this one.
 fn programs(number: usize, name: &str, model: &str) -> Programs {
-    let built = Path::new(env!("CARGO_MANIFEST_DIR")).join("../target/bin").join(name);
+    let built = Path::new(env!("CARGO_MANIFEST_DIR")).join("../crates").join(name).join("out").join(name);
     let here = env::current_exe().expect("the path of this program");
     Programs {
         tested: env::args_os().nth(number).map_or(built, PathBuf::from),
