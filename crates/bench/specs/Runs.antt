@@ -1,6 +1,6 @@
 -- Sequences of bench calls from a common start, and what each of their slots was (document 01, "The bench"). The calls are folded over the definitions of
 -- specs/Calls, of which those that the bench's contracts cite are made: with ledger, counts and job byte the tests of these, 13, 4 and 8, come to them (specs/Kept, `OnlyRefuses`). A sequence of calls is a list with THE LATEST FIRST.
-use Rattle.std.specs.Prelude.{ℕ, ◌+◌, ◌-◌, Bool, true, false, cond, not, ◌&&◌, List, [], ◌∷◌, eqb}
+use Rattle.std.specs.Prelude.{ℕ, ◌+◌, Bool, true, false, cond, not, ◌&&◌, List, [], ◌∷◌, eqb}
 use Rattle.cable.specs.nodeset.Sums.{sum, num}
 use Rattle.cable.specs.nodeset.Sets.{has}
 use Rattle.node.specs.node_record.States.{is_member}

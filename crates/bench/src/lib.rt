@@ -2,6 +2,7 @@
 // does is specs/Calls, Pairs and Outcomes; with a ledger and counts, Ledger, Reports and Kept; on the table
 // as it is held, Held; sequences of calls are specs/Runs. The code is in `bench_calls`.
 #![tactic(auto)]
+
 use cable::Choices;
 use refusal::Refusal;
 

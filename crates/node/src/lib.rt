@@ -139,6 +139,7 @@ pub fn off(v: Held) -> Stepped
 }
 
 // Restarts a node that is out: it listens. Refuses by 4 and 11.
+#[tactic(auto, unfolding(crate::specs::Calls::restart_of))]
 pub fn restart(v: Held) -> Stepped
     ensures { result ≡ restart_held v }
 {

@@ -24,6 +24,7 @@ fn heard_from(s: u32, heard: Reading, v: Held) -> Reading
 
 // The record after a slot of which s is the sender, by what the slot means to those who hold one row.
 // The slot count is the slot's number already.
+#[tactic(auto, unfolding(crate::specs::Held::after_by))]
 pub fn after_slot(s: u32, heard: Reading, digest: Digest, v: Held) -> Held
     ensures { result ≡ after_by digest s heard v }
 {

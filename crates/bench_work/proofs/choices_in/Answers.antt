@@ -9,13 +9,13 @@ commanded : {k k' : Command} → k ≡ k' → choices_in k' ≡ choices_in k
 commanded e = sym (ap choices_in e)
 
 pub returns-in-Off : goal.returns-in-Off
-returns-in-Off c = commanded c.enum_told.given.1
+returns-in-Off c = commanded c.in-Off.is
 
 pub returns-in-Restart : goal.returns-in-Restart
-returns-in-Restart c = commanded c.enum-told2.given.1
+returns-in-Restart c = commanded c.in-Restart.is
 
 pub returns-in-Slot : goal.returns-in-Slot
-returns-in-Slot c = commanded c.enum-told3.given.1
+returns-in-Slot c = commanded c.in-Slot.is
 
 pub returns-in-Look : goal.returns-in-Look
-returns-in-Look c = commanded c.enum-told4.given.1
+returns-in-Look c = commanded c.in-Look.is

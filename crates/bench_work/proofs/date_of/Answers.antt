@@ -6,4 +6,4 @@ use Rattle.bench_work.specs.Work.{date_by}
 use Rattle.bench_work.proofs.date_of.Goals as goal
 
 pub returns-in-Slot : goal.returns-in-Slot
-returns-in-Slot c = c.one_more-next.ensures ∙ sym (ap (λ (o : Order). date_by o c.args.slots) c.enum-told5.given.1)
+returns-in-Slot c = c.one_more-next.ensures ∙ sym (ap (λ (o : Order). date_by o c.args.slots) c.in-Slot.is)

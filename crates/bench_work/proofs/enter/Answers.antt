@@ -18,23 +18,23 @@ dated : (slots : ℕ) (m : Notes) (ledger : Ledger) {o o' : Order} {date : ℕ} 
 dated slots m ledger d e is = ap (λ (x : ℕ). entered x m.moves.left m.moves.joined ledger) (d ∙ ap (λ (o : Order). date_by o slots) e) ∙ is ∙ ordered slots m ledger e
 
 pub returns-in-Refuse : goal.returns-in-Refuse
-returns-in-Refuse c = let a = c.args in ordered a.s.slots a.work.notes a.ledger.now c.enum_told.given.1
+returns-in-Refuse c = let a = c.args in ordered a.s.slots a.work.notes a.ledger.now c.in-Refuse.is
 
 pub returns-in-Start : goal.returns-in-Start
-returns-in-Start c = let a = c.args in ordered a.s.slots a.work.notes a.ledger.now c.enum-told2.given.1
+returns-in-Start c = let a = c.args in ordered a.s.slots a.work.notes a.ledger.now c.in-Start.is
 
 pub returns-in-Off : goal.returns-in-Off
 returns-in-Off c =
     let a = c.args in
-    c.enter.ensures ∙ dated a.s.slots a.work.notes a.ledger.now c.date_of-date.ensures c.enum-told3.given.1 refl
+    c.enter.ensures ∙ dated a.s.slots a.work.notes a.ledger.now c.date_of-date.ensures c.in-Off.is refl
 
 pub returns-in-Restart : goal.returns-in-Restart
-returns-in-Restart c = let a = c.args in ordered a.s.slots a.work.notes a.ledger.now c.enum-told4.given.1
+returns-in-Restart c = let a = c.args in ordered a.s.slots a.work.notes a.ledger.now c.in-Restart.is
 
 pub returns-in-Slot : goal.returns-in-Slot
 returns-in-Slot c =
     let a = c.args in
-    c.enter-in-Slot.ensures ∙ dated a.s.slots a.work.notes a.ledger.now c.date_of-date.ensures c.enum-told5.given.1 refl
+    c.enter-in-Slot.ensures ∙ dated a.s.slots a.work.notes a.ledger.now c.date_of-date.ensures c.in-Slot.is refl
 
 pub returns-in-Look : goal.returns-in-Look
-returns-in-Look c = let a = c.args in ordered a.s.slots a.work.notes a.ledger.now c.enum-told6.given.1
+returns-in-Look c = let a = c.args in ordered a.s.slots a.work.notes a.ledger.now c.in-Look.is

@@ -6,4 +6,4 @@ use Rattle.bench_work.specs.Work.{hearers_by}
 use Rattle.bench_work.proofs.hearers_of.Goals as goal
 
 pub returns-in-Slot : goal.returns-in-Slot
-returns-in-Slot c = c.hearers_in.ensures ∙ sym (ap (λ (o : Order). hearers_by o c.args.listers) c.order.given.1)
+returns-in-Slot c = c.hearers_in.ensures ∙ sym (ap (λ (o : Order). hearers_by o c.args.listers) c.in-Slot.is)

@@ -11,16 +11,16 @@ commanded : (speaker : Node) {k k' : Command} → k ≡ k' → jobs_by k' speake
 commanded speaker e = sym (ap (λ (k : Command). jobs_by k speaker) e)
 
 pub returns-in-SetUp : goal.returns-in-SetUp
-returns-in-SetUp c = commanded (setted c.args.speaker) c.enum_told.given.1
+returns-in-SetUp c = commanded (setted c.args.speaker) c.in-SetUp.is
 
 pub returns-in-Off : goal.returns-in-Off
-returns-in-Off c = commanded (setted c.args.speaker) c.enum-told2.given.1
+returns-in-Off c = commanded (setted c.args.speaker) c.in-Off.is
 
 pub returns-in-Restart : goal.returns-in-Restart
-returns-in-Restart c = commanded (setted c.args.speaker) c.enum-told3.given.1
+returns-in-Restart c = commanded (setted c.args.speaker) c.in-Restart.is
 
 pub returns-in-Slot : goal.returns-in-Slot
-returns-in-Slot c = c.jobs_sent.ensures ∙ commanded (setted c.args.speaker) c.command.given.1
+returns-in-Slot c = c.jobs_sent.ensures ∙ commanded (setted c.args.speaker) c.in-Slot.is
 
 pub returns-in-Look : goal.returns-in-Look
-returns-in-Look c = commanded (setted c.args.speaker) c.enum-told4.given.1
+returns-in-Look c = commanded (setted c.args.speaker) c.in-Look.is

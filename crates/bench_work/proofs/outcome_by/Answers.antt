@@ -11,10 +11,10 @@ ordered : (list : Listed) (apart : ℕ) {o o' : Order} → o ≡ o' → outcome_
 ordered list apart e = sym (ap (λ (o : Order). outcome_by o list apart) e)
 
 pub returns-in-Refuse : goal.returns-in-Refuse
-returns-in-Refuse c = ordered c.args.list c.args.apart c.order.given.1
+returns-in-Refuse c = ordered c.args.list c.args.apart c.in-Refuse.is
 
 pub returns-in-Slot : goal.returns-in-Slot
-returns-in-Slot c = ordered c.args.list c.args.apart c.order2.given.1
+returns-in-Slot c = ordered c.args.list c.args.apart c.in-Slot.is
 
 pub returns-in-Look : goal.returns-in-Look
-returns-in-Look c = ordered c.args.list c.args.apart c.order3.given.1
+returns-in-Look c = ordered c.args.list c.args.apart c.in-Look.is

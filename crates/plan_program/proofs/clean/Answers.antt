@@ -10,32 +10,25 @@ use lib.Seq.{length-take-le, take_all}
 use Rattle.plan_program.specs.declared.Part.{Part}
 use Rattle.plan_program.specs.Calls.{bytes_in, part_in, part_of}
 use Rattle.plan_program.proofs.clean.Goals as goal
-
-whole : (c : goal.After-struct_known-1) → length c.args.part.text ≡ 121
-whole c = search rules
-
-most : (c : goal.Joined-part-lt121) → c.if-part-lt121.length ≤ 121
-most c = ⊎_elim (λ w. omega arith) (λ w. omega arith) c.if-part-lt121.branch
-
-same : (c : goal.Joined-part-lt121) → take c.if-part-lt121.length c.args.part.text ≡ bytes_in c.args.part
-same c =
-    let p = c.args.part in
-    ⊎_elim
-    (λ w. ap (λ (n : ℕ). take n p.text) w.1)
-    (λ w. take_all c.if-part-lt121.length p.text (omega (arith, whole c)) ∙ sym (take_all p.length p.text (omega (arith, whole c))))
-    c.if-part-lt121.branch
+use Rattle.plan_program.proofs.clean.Goals.{else-part-lt121, then-part-lt121}
 
 pub slice_bounds-text-end : goal.slice_bounds-text-end
-slice_bounds-text-end c = omega (arith, whole c, most c)
-
-pub slice_bounds-longer-end : goal.slice_bounds-longer-end
-slice_bounds-longer-end c = sym (length-take-le c.if-part-lt121.length c.args.part.text (array-share-prefix-text c))
+slice_bounds-text-end c =
+    let whole : length c.args.part.text ≡ 121 = search rules in
+    let most : c.if-part-lt121.length ≤ 121 = elim c.if-part-lt121.branch [ then-part-lt121 w ↦ omega arith | else-part-lt121 w ↦ omega arith ] in
+    omega (arith, whole, most)
 
 pub returns : goal.returns
 returns c =
-    let j = c in
-    let text = j.args.part.text in
-    let n = j.if-part-lt121.length in
+    let p = c.args.part in
+    let n = c.if-part-lt121.length in
+    let whole : length c.args.part.text ≡ 121 = search rules in
+    let most : c.if-part-lt121.length ≤ 121 = elim c.if-part-lt121.branch [ then-part-lt121 w ↦ omega arith | else-part-lt121 w ↦ omega arith ] in
+    let same : take c.if-part-lt121.length p.text ≡ bytes_in p =
+    elim c.if-part-lt121.branch [
+      then-part-lt121 w ↦ ap (λ (n : ℕ). take n p.text) w.length-is
+    | else-part-lt121 w ↦ take_all c.if-part-lt121.length p.text (omega (arith, whole)) ∙ sym (take_all p.length p.text (omega (arith, whole)))
+    ] in
     c.longer.ensures
-    ∙ ap (λ (p : Part). part_in p.text (take 121 (bytes_in p ++ take n text))) c.no_part.ensures
-    ∙ ap part_of (take_all 121 (take n text) (omega (arith, length-take-le n text (omega (arith, whole j, most j)), most j)) ∙ same j)
+    ∙ ap (λ (q : Part). part_in q.text (take 121 (bytes_in q ++ take n p.text))) c.no_part.ensures
+    ∙ ap part_of (take_all 121 (take n p.text) (omega (arith, length-take-le n p.text (omega (arith, whole, most)), most)) ∙ same)

@@ -8,16 +8,12 @@ use Rattle.plan_program.proofs.end_of.Goals as goal
 
 pub returns-in_default : goal.returns-in_default
 unfolding end_of
-returns-in_default c = rw c.enum_told.given.1
+returns-in_default c = search rules
 
 pub returns-then-count-at : goal.returns-then-count-at
 unfolding end_of
-returns-then-count-at c =
-    let count = c.written.given.0.0 in
-    rw c.written.given.1 (simp (le-leb (c.args.at + count) 18446744073709551615 (omega arith)))
+returns-then-count-at c = rw c.in-Bytes.is (simp (le-leb (c.args.at + c.in-Bytes.count) 18446744073709551615 (omega arith)))
 
 pub returns-else-count-at : goal.returns-else-count-at
 unfolding end_of
-returns-else-count-at c =
-    let count = c.written.given.0.0 in
-    rw c.written.given.1 (simp (lt-leb (c.args.at + count) 18446744073709551615 (omega arith)))
+returns-else-count-at c = rw c.in-Bytes.is (simp (lt-leb (c.args.at + c.in-Bytes.count) 18446744073709551615 (omega arith)))

@@ -1,7 +1,7 @@
 -- `plan_program::feed` meets its contract: each refusal by the test that fails, else what the loop over the lines leaves. Assumes nothing.
 use Prim.Native.Nat.{◌*◌}
 use mathlib.Core.Path.{◌≡◌, sym, ◌∙◌}
-use mathlib.Core.Bool.{true, false}
+use mathlib.Core.Bool.{false}
 use borrow.Author.Rules.{rules}
 use borrow.Author.Tests.{leb-true, not-true, not-false}
 use lib.ListN.{length}
@@ -9,32 +9,25 @@ use Rattle.plan_program.specs.Calls.{has_room, plan_sound}
 use Rattle.plan_program.proofs.Pieces.{fed-unsound, fed-short, fed-run}
 use Rattle.plan_program.proofs.feed.Goals as goal
 
-sound : (c : goal.Else-not-is_sound) → plan_sound c.args.plan ≡ true
-sound c = sym c.is_sound.ensures ∙ not-false c.is_sound.result c.if-not-is_sound.false
-
-room : (c : goal.Else-not-has_room) → has_room c.args.input.now c.args.out.now ≡ true
-room c = sym c.has_room.ensures ∙ not-false c.has_room.result c.if-not-has_room.false
-
 pub returns-then-not-is_sound : goal.returns-then-not-is_sound
 returns-then-not-is_sound c =
     let a = c.args in
-    let unsound : plan_sound a.plan ≡ false = sym c.is_sound.ensures ∙ not-true c.is_sound.result c.if-not-is_sound.true in
+    let unsound : plan_sound a.plan ≡ false = sym c.is_sound.ensures ∙ c.if-not-is_sound.true in
     sym (fed-unsound a.plan a.part a.input.now a.out.now unsound)
 
 pub returns-then-not-has_room : goal.returns-then-not-has_room
 returns-then-not-has_room c =
     let a = c.args in
-    let short : has_room a.input.now a.out.now ≡ false = sym c.has_room.ensures ∙ not-true c.has_room.result c.if-not-has_room.true in
-    sym (fed-short a.plan a.part a.input.now a.out.now (sound c) short)
+    let short : has_room a.input.now a.out.now ≡ false = sym c.has_room.ensures ∙ c.if-not-has_room.true in
+    sym (fed-short a.plan a.part a.input.now a.out.now (sym c.is_sound.ensures ∙ c.if-not-is_sound.false) short)
 
 pub run_lines-ran-requires : goal.run_lines-ran-requires
 run_lines-ran-requires c =
     let a = c.args in
-    (sound c, leb-true (80 * length a.input.now) (length a.out.now) (room c))
+    (sym c.is_sound.ensures ∙ c.if-not-is_sound.false, leb-true (80 * length a.input.now) (length a.out.now) (sym c.has_room.ensures ∙ c.if-not-has_room.false))
 
 pub returns : goal.returns
 returns c =
-    let ran = c in
-    let tested = ran in
-    let a = tested.args in
-    fed-run a.plan a.part a.input.now a.out.now ran.run_lines-ran.result c.clean-rest.result c.clean-rest.ensures (sound tested) (room tested) ran.run_lines-ran.ensures
+    let a = c.args in
+    fed-run a.plan a.part a.input.now a.out.now c.run_lines-ran.result c.clean-rest.result c.clean-rest.ensures (sym c.is_sound.ensures ∙ c.if-not-is_sound.false) (sym c.has_room.ensures ∙ c.if-not-has_room.false)
+    c.run_lines-ran.ensures

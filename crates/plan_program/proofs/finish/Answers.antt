@@ -19,4 +19,4 @@ pub returns : goal.returns
 returns c =
     let a = c.args in
     let none : c.put_end.result - 0 ≡ c.put_end.result = omega arith in
-    rw none at (written (end_text a.plan (bytes_in a.part)) 0 a.out.now c.put_end.result c.put_end.new.0 (omega (arith, c.if-out-lt80.false)) c.put_end.ensures)
+    rw none at (written (end_text a.plan (bytes_in a.part)) 0 a.out.now c.put_end.result c.put_end.new.out (omega (arith, c.if-out-lt80.false)) c.put_end.ensures)

@@ -7,13 +7,11 @@ use borrow.Author.Tests.{eq-eqb, ne_eqb}
 use Rattle.plan_program.proofs.Lines.{empty-is}
 use Rattle.plan_program.proofs.may_end.Goals as goal
 
-whole : (c : goal.After-struct_known-2-1) → length c.args.part.text ≡ 121
-whole c = search rules
-
 pub returns-then-plan-eq0 : goal.returns-then-plan-eq0
 returns-then-plan-eq0 c = simp (c.if-plan.false, eq-eqb c.args.plan.lines 0 c.if-plan-eq0.true)
 
 pub returns : goal.returns
 returns c =
     let a = c.args in
-    simp (c.if-plan.false, ne_eqb a.plan.lines 0 c.if-plan-eq0.false) (empty-is a.part.length a.part.text (omega (arith, whole c)))
+    let whole : length a.part.text ≡ 121 = search rules in
+    simp (c.if-plan.false, ne_eqb a.plan.lines 0 c.if-plan-eq0.false) (empty-is a.part.length a.part.text (omega (arith, whole)))

@@ -10,18 +10,15 @@ use Rattle.plan_program.proofs.Lines.{put-at, text-short}
 use Rattle.plan_program.proofs.put.Goals as goal
 
 pub returns-in-Quiet : goal.returns-in-Quiet
-returns-in-Quiet c = rw c.enum_told.given.1 (nothing c.args.at c.args.out.now).put
+returns-in-Quiet c = rw c.in-Quiet.is (nothing c.args.at c.args.out.now).put
 
 pub returns-in-Slot : goal.returns-in-Slot
 returns-in-Slot c =
-    let s = c in
-    let made = c.outcome.given in
-    let g = made.0 in
-    rw made.1 (put-at s.requires (omega (arith, s.well-formed)) (text-short 0 (outcome.Slot g.0 g.1.0 g.1.1.0 g.1.1.1.0 g.1.1.1.1.0)) c.slot_line.ensures c.end_of_lem.ensures)
+    let w = c.in-Slot in
+    rw w.is (put-at c.requires (omega arith) (text-short 0 (outcome.Slot w.slot w.sender w.fate w.shown w.distance)) c.slot_line.ensures c.end_of.ensures)
 
 pub returns-in-Refused : goal.returns-in-Refused
 returns-in-Refused c =
-    let s = c in
-    let made = c.outcome2.given in
-    rw made.1 (put-at s.requires (omega (arith, s.well-formed)) (text-short s.args.number (outcome.Refused made.0.0))
-    (c.refusal_line.ensures ∙ ap (λ (n : ℕ). written_of (refusal_text s.args.number n) s.args.at s.args.out.now) c.number.ensures) c.end_of-in-Refused.ensures)
+    let a = c.args in
+    rw c.in-Refused.is (put-at c.requires (omega arith) (text-short a.number (outcome.Refused c.in-Refused.cause))
+    (c.refusal_line.ensures ∙ ap (λ (n : ℕ). written_of (refusal_text a.number n) a.at a.out.now) c.number.ensures) c.end_of-in-Refused.ensures)

@@ -12,12 +12,8 @@ use Rattle.plan_program.specs.Calls.{bytes_in, part_in}
 use Rattle.plan_program.specs.Inner.{sought, with_line}
 use Rattle.plan_program.proofs.seek.Goals as goal
 
--- the line ends in the input
-ends : (c : goal.After-part_end-end) → (c.args.g.at ≤ c.part_end-end.result) × (c.part_end-end.result ≤ length c.args.input.now)
-ends c = part-in 10 c.args.input.now c.args.g.at c.part_end-end.result c.requires c.part_end-end.ensures
-
 pub overflow_add-end : goal.overflow_add-end
-overflow_add-end c = omega (arith, (ends c).1)
+overflow_add-end c = omega (arith, (part-in 10 c.args.input.now c.args.g.at c.part_end-end.result c.requires c.part_end-end.ensures).1)
 
 pub returns : goal.returns
 unfolding sought

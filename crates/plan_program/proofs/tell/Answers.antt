@@ -27,6 +27,6 @@ returns c =
           ∙ ap (λ (o : Outcome). after_in g L o wrote.result) shown.ensures
           ∙ ap (after_in g L O) (sym held);
       put =
-          subst (λ (k : ℕ). PutAt k g.held (text_of L O) a.out.now wrote.new.0) (sym held)
-          (subst (λ (text : List ℕ). PutAt wrote.result g.held text a.out.now wrote.new.0) (ap (λ (k : ℕ). text_of k shown.result) counted.ensures ∙ ap (text_of L) shown.ensures) wrote.ensures);
+          subst (λ (k : ℕ). PutAt k g.held (text_of L O) a.out.now wrote.new.out) (sym held)
+          (subst (λ (text : List ℕ). PutAt wrote.result g.held text a.out.now wrote.new.out) (ap (λ (k : ℕ). text_of k shown.result) counted.ensures ∙ ap (text_of L) shown.ensures) wrote.ensures);
     }

@@ -4,7 +4,7 @@ use Rattle.plan_report.proofs.Sums.{Fit, fit}
 use Rattle.plan_report.specs.Figures.{add_of, all_fit, plus}
 use Rattle.plan_report.specs.declared.Figures.{Figures}
 use Rattle.nodeset.proofs.Tests.{chosen, otherwise}
-use mathlib.Core.Bool.{true, false}
+use mathlib.Core.Bool.{Bool, true, false}
 use mathlib.Core.Path.{◌≡◌, sym, ◌∙◌}
 use native.Mathlib.Omega.{arith}
 use Rattle.refusal.specs.Causes.{cause}
@@ -23,31 +23,28 @@ summed : (t f : Figures) → all_fit t f ≡ true → add_of t f ≡ record { to
 unfolding add_of
 summed t f e = chosen _ _ e
 
-fitting : (c : goal.Else-not-all_fit) → all_fit c.args.totals c.args.figures ≡ true
-fitting c = sym c.all_fit.ensures ∙ not-false c.all_fit.result c.if-not-all_fit.false
-
-made : (c : goal.Else-not-all_fit) → Fit c.args.totals c.args.figures
-made c = fit c.args.totals c.args.figures (fitting c)
+-- the sums fit where the test says so
+made : (t f : Figures) (test : Bool) → test ≡ all_fit t f → test ≡ true → Fit t f
+made t f test is so = fit t f (sym is ∙ so)
 
 pub returns-then-not-all_fit : goal.returns-then-not-all_fit
 returns-then-not-all_fit c =
     let a = c.args in
-    sym (refused a.totals a.figures (sym c.all_fit.ensures ∙ not-true c.all_fit.result c.if-not-all_fit.true))
+    sym (refused a.totals a.figures (sym c.all_fit.ensures ∙ c.if-not-all_fit.true))
 
 pub overflow_add-sums : goal.overflow_add-sums
-overflow_add-sums c = omega (arith, (made c).slots)
+overflow_add-sums c = omega (arith, (made c.args.totals c.args.figures _ c.all_fit.ensures c.if-not-all_fit.false).slots)
 
 pub overflow_add-sums-2 : goal.overflow_add-sums-2
-overflow_add-sums-2 c = omega (arith, (made c).members)
+overflow_add-sums-2 c = omega (arith, (made c.args.totals c.args.figures _ c.all_fit.ensures c.if-not-all_fit.false).members)
 
 pub overflow_add-sums-3 : goal.overflow_add-sums-3
-overflow_add-sums-3 c = omega (arith, (made c).listed)
+overflow_add-sums-3 c = omega (arith, (made c.args.totals c.args.figures _ c.all_fit.ensures c.if-not-all_fit.false).listed)
 
 pub overflow_add-sums-4 : goal.overflow_add-sums-4
-overflow_add-sums-4 c = omega (arith, (made c).apart)
+overflow_add-sums-4 c = omega (arith, (made c.args.totals c.args.figures _ c.all_fit.ensures c.if-not-all_fit.false).apart)
 
 pub returns : goal.returns
 returns c =
-    let q = c in
-    let a = q.args in
-    sym (summed a.totals a.figures (fitting q))
+    let a = c.args in
+    sym (summed a.totals a.figures (sym c.all_fit.ensures ∙ c.if-not-all_fit.false))

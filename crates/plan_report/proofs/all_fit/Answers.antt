@@ -6,4 +6,4 @@ use Rattle.plan_report.proofs.fits.Reads as fits-reads
 use Rattle.plan_report.proofs.all_fit.Goals as goal
 
 pub returns : goal.returns
-returns c = cc (c.fits-2.ensures, c.fits-3.ensures, c.fits-4.ensures, c.fits5.ensures)
+returns c = cc (c.fits-2.ensures, c.fits-3.ensures, c.fits-4.ensures, c.fits.ensures)

@@ -8,4 +8,4 @@ use Rattle.refusal.proofs.number.Reads as number-reads
 use Rattle.plan_report.proofs.fault_in.Goals as goal
 
 pub returns-in-Refused : goal.returns-in-Refused
-returns-in-Refused c = c.number.ensures ∙ ap fault_in (sym c.outcome.given.1)
+returns-in-Refused c = c.number.ensures ∙ ap fault_in (sym c.in-Refused.is)

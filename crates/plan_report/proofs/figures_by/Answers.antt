@@ -10,4 +10,4 @@ returns-in-Slot c =
     let a = c.args in
     c.raised_by.ensures
     ∙ ap (raised_by a.f) c.told_figures.ensures
-    ∙ ap (figures_by a.f a.plan) (sym c.outcome.given.1)
+    ∙ ap (figures_by a.f a.plan) (sym c.in-Slot.is)

@@ -20,6 +20,6 @@ returns c =
     let a = c.args in
     let whole : length a.report.part.text ≡ 121 = search rules in
     let begun = ap not (empty-is a.report.part.length a.report.part.text (omega (arith, whole))) in
-    let put : PutAt c.put_last.result 0 (final_text a.report) a.out.now c.put_last.new.0 = rw begun at c.put_last.ensures in
+    let put : PutAt c.put_last.result 0 (final_text a.report) a.out.now c.put_last.new.out = rw begun at c.put_last.ensures in
     let count : c.put_last.result ≡ length (final_text a.report) = omega (arith, put.end) in
     simp (le-leb 200 (length a.out.now) (omega arith)) (cc (count, put.bytes))

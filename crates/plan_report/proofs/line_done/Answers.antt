@@ -12,6 +12,7 @@ use Rattle.plan_report.specs.Tallies.{figures_after}
 use Rattle.plan_report.specs.Inner.{figures_by}
 use Rattle.plan_report.proofs.Told.{tells}
 use Rattle.plan_report.proofs.line_done.Goals as goal
+use Rattle.plan_report.proofs.line_done.Goals.{then-plan, else-plan}
 
 pub returns : goal.returns
 returns c =
@@ -25,8 +26,8 @@ returns c =
     ∙ tells t.figures t.plan (bytes_in entry.args.part) entry.requires in
     let either : Bool → ℕ = λ over. cond over t.fault (fault_in q.outcome) in
     let fault : c.if-plan.fault ≡ either t.plan.over =
-    ⊎_elim
-    (λ w. w.1 ∙ ap either (sym w.0.taken))
-    (λ w. w.2 ∙ w.1.ensures ∙ ap (λ (p : Plan). fault_in p.outcome) ran ∙ ap either (sym w.0.left))
-    c.if-plan.branch in
+    elim c.if-plan.branch [
+      then-plan w ↦ w.fault-is ∙ ap either (sym w.if-plan.true)
+    | else-plan w ↦ w.fault-is ∙ w.fault_in-fault.ensures ∙ ap (λ (p : Plan). fault_in p.outcome) ran ∙ ap either (sym w.if-plan.false)
+    ] in
     cc (ran, figures, fault)

@@ -3,4 +3,4 @@ use borrow.Author.Rules.{rules}
 use Rattle.plan_report.proofs.line_ended.Goals as goal
 
 pub returns : goal.returns
-returns c = rw c.after_Line.ensures
+returns c = rw c.after_line-tally.ensures

@@ -13,9 +13,9 @@ use Rattle.plan_report.proofs.listed_in.Goals as goal
 pub returns-in-Set : goal.returns-in-Set
 returns-in-Set c =
     let a = c.args in
-    c.size.ensures ∙ ap (λ (l : Listed). size a.n (set_in l)) (sym c.list.given.1)
+    c.size.ensures ∙ ap (λ (l : Listed). size a.n (set_in l)) (sym c.in-Set.is)
 
 pub returns-in-Nobody : goal.returns-in-Nobody
 returns-in-Nobody c =
     let a = c.args in
-    sym (size_none a.n) ∙ ap (λ (l : Listed). size a.n (set_in l)) (sym c.enum_told.given.1)
+    sym (size_none a.n) ∙ ap (λ (l : Listed). size a.n (set_in l)) (sym c.in-Nobody.is)

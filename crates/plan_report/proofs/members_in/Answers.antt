@@ -18,7 +18,7 @@ pub loop-i-init : goal.loop-i-init
 unfolding members_in
 loop-i-init c =
     let few = few-rows c.args.rows c.args.n (search rules) in
-    (omega (arith, c.rows_of_lem.ensures, few), omega arith, refl)
+    (omega (arith, c.rows_of-end.ensures, few), omega arith, refl)
 
 pub offset_bounds-rows-i : goal.offset_bounds-rows-i
 offset_bounds-rows-i c = omega arith
@@ -53,6 +53,6 @@ returns c =
     let rows = c.args.rows in
     let n = c.args.n in
     let whole : length rows ≡ 32 = search rules in
-    let end : loop.i ≡ node_count (table_of n rows) = omega (arith, loop.invariant.1, c.rows_of_lem.ensures) in
+    let end : loop.i ≡ node_count (table_of n rows) = omega (arith, loop.invariant.1, c.rows_of-end.ensures) in
     let same : take loop.i rows ≡ take n rows = ap (λ (m : ℕ). take m rows) end ∙ first_rows rows n in
     loop.invariant.2 ∙ ap (λ (t : List Held). members_in (setted_all t)) same

@@ -4,9 +4,9 @@ use borrow.Author.Rules.{rules}
 use Rattle.plan_report.proofs.put_verdict.Goals as goal
 
 pub returns-in-Counted : goal.returns-in-Counted
-returns-in-Counted c = rw c.enum_told.given.1 c.put_figures.ensures
+returns-in-Counted c = rw c.in-Counted.is c.put_figures.ensures
 
 pub returns-in-Refused : goal.returns-in-Refused
 returns-in-Refused c =
     let line = c.put_refusal.ensures in
-    rw c.verdict.given.1 record { put = line.put; few = omega (arith, line.few) }
+    rw c.in-Refused.is record { put = line.put; few = omega (arith, line.few) }

@@ -6,9 +6,10 @@ use borrow.Author.Rules.{rules}
 use borrow.Author.Tests.{leb-true, leb-false}
 use Rattle.plan_report.specs.Figures.{last64}
 use Rattle.plan_report.proofs.raised.Goals as goal
+use Rattle.plan_report.proofs.raised.Goals.{Then-fits}
 
-room : (c : goal.Then-fits) → c.args.x + c.args.by ≤ last64
-room c = let a = c.args in leb-true (a.x + a.by) last64 (sym c.fits2.ensures ∙ c.if-fits.true)
+room : (c : Then-fits) → c.args.x + c.args.by ≤ last64
+room c = let a = c.args in leb-true (a.x + a.by) last64 (sym c.fits.ensures ∙ c.if-fits.true)
 
 pub overflow_add-result : goal.overflow_add-result
 overflow_add-result c = omega (arith, room c)
@@ -17,4 +18,4 @@ pub returns-then-fits : goal.returns-then-fits
 returns-then-fits c = omega (arith, room c)
 
 pub returns : goal.returns
-returns c = let a = c.args in omega (arith, leb-false (a.x + a.by) last64 (sym c.fits2.ensures ∙ c.if-fits.false))
+returns c = let a = c.args in omega (arith, leb-false (a.x + a.by) last64 (sym c.fits.ensures ∙ c.if-fits.false))

@@ -6,11 +6,14 @@ use lib.ListN.{length}
 use Rattle.plan_report.proofs.Counting.{rows-count}
 use Rattle.plan_report.proofs.rows_of.Goals as goal
 
-whole : (c : goal.Start) → length c.args.rows ≡ 32
-whole c = search rules
-
 pub returns-then-n-all : goal.returns-then-n-all
-returns-then-n-all c = let a = c.args in omega (arith, whole c, rows-count a.rows a.n)
+returns-then-n-all c =
+    let a = c.args in
+    let whole : length a.rows ≡ 32 = search rules in
+    omega (arith, whole, rows-count a.rows a.n)
 
 pub returns : goal.returns
-returns c = let a = c.args in omega (arith, whole c, rows-count a.rows a.n)
+returns c =
+    let a = c.args in
+    let whole : length a.rows ≡ 32 = search rules in
+    omega (arith, whole, rows-count a.rows a.n)

@@ -39,7 +39,7 @@ loop-i-preserved c =
     let took = c.take_byte-taken in
     let below = c.loop-i-test.true in (
       omega arith,
-      took.auto.1.1.0 ∙ loop.invariant.1,
+      took.auto.out ∙ loop.invariant.1,
       omega (arith, took.ensures.put.few, loop.invariant.2),
       took.ensures.is ∙ ap (λ (r : Report). after_byte r byte) loop.invariant.3 ∙ sym (after_next after_byte a.r input loop.i below),
       rw (text-next after_byte a.r input loop.i below byte_text) (both (omega arith) loop.invariant.4 (rw loop.invariant.3 at took.ensures.put.put)),

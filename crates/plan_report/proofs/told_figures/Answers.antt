@@ -11,4 +11,4 @@ pub returns : goal.returns
 returns c =
     let distance = c.args.distance in
     let apart : c.with_one.result ≡ num (ltb 0 distance) = omega (arith, c.with_one.ensures, num-few (ltb 0 distance)) in
-    cc (c.members_in.ensures, c.rows_of_lem.ensures, c.listed_in.ensures, apart)
+    cc (c.members_in.ensures, c.rows_of.ensures, c.listed_in.ensures, apart)

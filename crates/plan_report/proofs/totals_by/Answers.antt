@@ -9,4 +9,4 @@ use Rattle.plan_report.proofs.totals_by.Goals as goal
 pub returns-in-Counted : goal.returns-in-Counted
 returns-in-Counted c =
     let a = c.args in
-    ap (λ (d : Added). d.totals) c.add-added.ensures ∙ ap (λ (v : Verdict). totals_by v a.t) (sym c.enum_told.given.1)
+    ap (λ (d : Added). d.totals) c.add-added.ensures ∙ ap (λ (v : Verdict). totals_by v a.t) (sym c.in-Counted.is)

@@ -37,7 +37,7 @@ returns-then-plan-begun c =
     ap (λ (n : ℕ). Refused n 12) c.next_line.ensures ∙ sym (unended a.t a.begun c.if-plan.false c.if-plan-begun.true)
 
 pub returns-in-Done : goal.returns-in-Done
-returns-in-Done c = let a = c.args in sym (counted a.t a.begun c.if-plan.false c.if-plan-begun.false (ap (λ (d : Added). is_done d.answer) (sym c.add-added.ensures) ∙ ap is_done c.enum_told.given.1))
+returns-in-Done c = let a = c.args in sym (counted a.t a.begun c.if-plan.false c.if-plan-begun.false (ap (λ (d : Added). is_done d.answer) (sym c.add-added.ensures) ∙ ap is_done c.in-Done.is))
 
 pub returns-in-Refused : goal.returns-in-Refused
-returns-in-Refused c = let a = c.args in sym (passed a.t a.begun c.if-plan.false c.if-plan-begun.false (ap (λ (d : Added). is_done d.answer) (sym c.add-added.ensures) ∙ ap is_done c.enum-told2.given.1))
+returns-in-Refused c = let a = c.args in sym (passed a.t a.begun c.if-plan.false c.if-plan-begun.false (ap (λ (d : Added). is_done d.answer) (sym c.add-added.ensures) ∙ ap is_done c.in-Refused.is))

@@ -5,19 +5,19 @@ use Rattle.plan_run.specs.Run.{act_of}
 use Rattle.plan_run.proofs.act_of.Goals as goal
 
 pub returns-in-Ok : goal.returns-in-Ok
-returns-in-Ok c = sym (ap act_of c.enum_told.given.1)
+returns-in-Ok c = sym (ap act_of c.in-Ok.is)
 
 pub returns-in-Lost : goal.returns-in-Lost
-returns-in-Lost c = sym (ap act_of c.enum-told2.given.1)
+returns-in-Lost c = sym (ap act_of c.in-Lost.is)
 
 pub returns-in-Miss : goal.returns-in-Miss
-returns-in-Miss c = sym (ap act_of c.line.given.1)
+returns-in-Miss c = sym (ap act_of c.in-Miss.is)
 
 pub returns-in-Off : goal.returns-in-Off
-returns-in-Off c = sym (ap act_of c.line2.given.1)
+returns-in-Off c = sym (ap act_of c.in-Off.is)
 
 pub returns-in-On : goal.returns-in-On
-returns-in-On c = sym (ap act_of c.line3.given.1)
+returns-in-On c = sym (ap act_of c.in-On.is)
 
 pub returns-in-Refused : goal.returns-in-Refused
-returns-in-Refused c = sym (ap act_of c.line4.given.1)
+returns-in-Refused c = sym (ap act_of c.in-Refused.is)

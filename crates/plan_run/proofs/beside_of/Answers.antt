@@ -7,4 +7,4 @@ use Rattle.plan_run.proofs.beside_of.Goals as goal
 
 pub returns-in-Refuse : goal.returns-in-Refuse
 unfolding plain numbers_from
-returns-in-Refuse c = sym (ap beside_of c.enum_told.given.1)
+returns-in-Refuse c = sym (ap beside_of c.in-Refuse.is)

@@ -5,7 +5,7 @@ use borrow.Author.Rules.{rules}
 use Rattle.plan_run.proofs.first_act.Goals as goal
 
 pub returns-in-Ring : goal.returns-in-Ring
-returns-in-Ring c = sym (ap opening_act c.opening.given.1) ∙ ap opening_act c.opening_of-opening.ensures
+returns-in-Ring c = sym (ap opening_act c.in-Ring.is) ∙ ap opening_act c.opening_of-opening.ensures
 
 pub returns-in-Refused : goal.returns-in-Refused
-returns-in-Refused c = sym (ap opening_act c.opening2.given.1) ∙ ap opening_act c.opening_of-opening.ensures
+returns-in-Refused c = sym (ap opening_act c.in-Refused.is) ∙ ap opening_act c.opening_of-opening.ensures

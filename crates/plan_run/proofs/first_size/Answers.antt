@@ -11,8 +11,8 @@ said o = (opened_by o).n
 
 pub returns-in-Ring : goal.returns-in-Ring
 unfolding opened_of
-returns-in-Ring c = sym (ap said c.opening.given.1) ∙ ap said c.opening_of-opening.ensures
+returns-in-Ring c = sym (ap said c.in-Ring.is) ∙ ap said c.opening_of-opening.ensures
 
 pub returns-in-Refused : goal.returns-in-Refused
 unfolding opened_of
-returns-in-Refused c = sym (ap said c.enum_told.given.1) ∙ ap said c.opening_of-opening.ensures
+returns-in-Refused c = sym (ap said c.in-Refused.is) ∙ ap said c.opening_of-opening.ensures

@@ -6,7 +6,7 @@ use borrow.Author.Rules.{rules}
 use Rattle.plan_run.proofs.order_by.Goals as goal
 
 pub returns-in-Call : goal.returns-in-Call
-returns-in-Call c = c.order_of.ensures ∙ sym (ap (λ (a : Act). order_by a c.args.s c.args.size c.args.beside) c.act.given.1)
+returns-in-Call c = c.order_of.ensures ∙ sym (ap (λ (a : Act). order_by a c.args.s c.args.size c.args.beside) c.in-Call.is)
 
 pub returns-in-Refuse : goal.returns-in-Refuse
-returns-in-Refuse c = sym (ap (λ (a : Act). order_by a c.args.s c.args.size c.args.beside) c.act2.given.1)
+returns-in-Refuse c = sym (ap (λ (a : Act). order_by a c.args.s c.args.size c.args.beside) c.in-Refuse.is)
