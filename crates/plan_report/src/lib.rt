@@ -2,6 +2,7 @@
 // in pieces, and what is printed of it goes into lent bytes. `feed` runs the lines that end in a piece,
 // `finish` ends the text; `add` adds the figures of a plan to the totals.
 #![tactic(auto)]
+
 ghost use Rattle.std.specs.Prelude.{◌≡◌, true, ◌+◌, ◌*◌, ◌≤◌, ◌++◌, leb, length};
 ghost use Rattle.plan_program.specs.bench_by_value.ByValue.{table_of};
 ghost use Rattle.nodeset.specs.Sums.{num};

@@ -22,12 +22,12 @@ loop-i-init c =
 
 pub bounds-text-length : goal.bounds-text-length
 bounds-text-length c =
-    let room : c.loop-i.length + 1 ≤ 121 = omega (arith, ltb-true c.loop-i.length 121 c.if-length-lt121.true) in
+    let room : c.loop-i.length + 1 ≤ 121 = omega arith in
     omega (arith, room, c.loop-i.invariant.3)
 
 pub overflow_add-length : goal.overflow_add-length
 overflow_add-length c =
-    let room : c.loop-i.length + 1 ≤ 121 = omega (arith, ltb-true c.loop-i.length 121 c.if-length-lt121.true) in
+    let room : c.loop-i.length + 1 ≤ 121 = omega arith in
     omega (arith, room)
 
 pub loop-i-preserved : goal.loop-i-preserved
@@ -35,7 +35,7 @@ loop-i-preserved c =
     let p = c.args.part in
     let loop = c.loop-i in
     let bytes = c.args.bytes.now in
-    let room : c.loop-i.length + 1 ≤ 121 = omega (arith, ltb-true c.loop-i.length 121 c.if-length-lt121.true) in
+    let room : c.loop-i.length + 1 ≤ 121 = omega arith in
     (
       omega arith,
       room,
@@ -61,7 +61,7 @@ returns-else-length-lt121 c =
     let size : ListN.length (take c.if-part-lt121.length p.text) ≡ c.if-part-lt121.length = length-take-le c.if-part-lt121.length p.text (omega (arith, whole, most)) in
     part-made loop.text p.text loop.length (omega (arith, loop.invariant.1, loop.invariant.3))
     (loop.invariant.4
-    ∙ all_room (take c.if-part-lt121.length p.text) bytes 121 loop.i (omega (arith, size, ltb-false loop.length 121 c.if-length-lt121.false))
+    ∙ all_room (take c.if-part-lt121.length p.text) bytes 121 loop.i (omega (arith, size, c.if-length-lt121.false))
     ∙ ap (λ (x : List ℕ). take 121 (x ++ bytes)) begun)
     loop.invariant.5
 

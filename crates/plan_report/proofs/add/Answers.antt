@@ -1,5 +1,4 @@
 -- `plan_report::add` meets its contract. Assumes nothing.
-use borrow.Author.Tests.{not-true, not-false}
 use Rattle.plan_report.proofs.Sums.{Fit, fit}
 use Rattle.plan_report.specs.Figures.{add_of, all_fit, plus}
 use Rattle.plan_report.specs.declared.Figures.{Figures}
@@ -9,10 +8,6 @@ use mathlib.Core.Path.{◌≡◌, sym, ◌∙◌}
 use native.Mathlib.Omega.{arith}
 use Rattle.refusal.specs.Causes.{cause}
 use Rattle.node.specs.declared.Answer.TheVariants.{Done, Refused}
-use borrow.Author.Rules.{rules}
-use Rattle.plan_report.proofs.add.Reads as reads
-use Rattle.plan_report.proofs.add.Lts as lts
-use Rattle.plan_report.proofs.all_fit.Reads as all-fit-reads
 use Rattle.plan_report.proofs.add.Goals as goal
 
 refused : (t f : Figures) → all_fit t f ≡ false → add_of t f ≡ record { totals = t; answer = Refused (cause 19) }

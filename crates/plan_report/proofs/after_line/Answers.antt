@@ -2,7 +2,6 @@
 use mathlib.Core.Path.{sym, ◌∙◌}
 use Rattle.plan_program.specs.Calls.{bytes_in}
 use Rattle.plan_report.proofs.Lines.{goes-on, next-ends}
-use borrow.Author.Rules.{rules}
 use Rattle.plan_report.proofs.after_line.Goals as goal
 
 pub returns-then-is_next : goal.returns-then-is_next

@@ -1,8 +1,4 @@
 -- `plan_report::all_fit` meets its contract. Assumes nothing.
-use borrow.Author.Rules.{rules}
-use Rattle.plan_report.proofs.all_fit.Reads as reads
-use Rattle.plan_report.proofs.all_fit.Lts as lts
-use Rattle.plan_report.proofs.fits.Reads as fits-reads
 use Rattle.plan_report.proofs.all_fit.Goals as goal
 
 pub returns : goal.returns

@@ -2,7 +2,6 @@
 use mathlib.Core.Path.{sym, ap, ◌∙◌}
 use Rattle.plan_report.specs.Tallies.{raised_by}
 use Rattle.plan_report.specs.Inner.{figures_by}
-use borrow.Author.Rules.{rules}
 use Rattle.plan_report.proofs.figures_by.Goals as goal
 
 pub returns-in-Slot : goal.returns-in-Slot

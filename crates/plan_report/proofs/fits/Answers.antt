@@ -1,6 +1,5 @@
 -- `plan_report::fits` meets its contract. Assumes nothing.
 use native.Mathlib.Omega.{arith}
-use borrow.Author.Rules.{rules}
 use Rattle.plan_report.proofs.Sums.{fits-is}
 use Rattle.plan_report.proofs.fits.Goals as goal
 

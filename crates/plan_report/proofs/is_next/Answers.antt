@@ -1,10 +1,9 @@
 -- `plan_report::is_next` meets its contract. Assumes nothing.
-use Prim.Native.Nat.{ℕ, ◌≤◌}
+use Prim.Native.Nat.{ℕ}
 use mathlib.Core.Path.{◌≡◌, sym, ap, ◌∙◌}
-use mathlib.Core.Logic.{⊎_elim}
 use native.Mathlib.Omega.{arith}
 use lib.ListN.{length, take}
-use lib.Seq.{length-take-le, take_all}
+use lib.Seq.{take_all}
 use Rattle.plan_program.specs.Calls.{bytes_in}
 use Rattle.plan_report.specs.Report.{is_next}
 use borrow.Author.Rules.{rules}
@@ -24,7 +23,7 @@ returns c =
     -- so many bytes are those of the part
     let same : take c.if-part-lt121.length p.text ≡ bytes_in p =
     elim c.if-part-lt121.branch [
-      then-part-lt121 w ↦ ap (λ (n : ℕ). take n p.text) w.length-is
-    | else-part-lt121 w ↦ take_all c.if-part-lt121.length p.text (omega (arith, whole)) ∙ sym (take_all p.length p.text (omega (arith, whole)))
+      | then-part-lt121 w ↦ ap (λ (n : ℕ). take n p.text) w.length-is
+      | else-part-lt121 w ↦ take_all c.if-part-lt121.length p.text (omega (arith, whole)) ∙ sym (take_all p.length p.text (omega (arith, whole)))
     ] in
     c.same.ensures ∙ ap is_next same

@@ -2,8 +2,6 @@
 use Prim.Native.Nat.{ℕ}
 use mathlib.Core.Path.{◌≡◌, sym, ap, ◌∙◌}
 use mathlib.Core.Bool.{Bool, cond}
-use mathlib.Core.Logic.{⊎_elim}
-use borrow.Author.Rules.{rules}
 use Rattle.plan_program.specs.declared.Plan.{Plan}
 use Rattle.plan_program.specs.Program.{after_line}
 use Rattle.plan_program.specs.Calls.{bytes_in}
@@ -27,7 +25,7 @@ returns c =
     let either : Bool → ℕ = λ over. cond over t.fault (fault_in q.outcome) in
     let fault : c.if-plan.fault ≡ either t.plan.over =
     elim c.if-plan.branch [
-      then-plan w ↦ w.fault-is ∙ ap either (sym w.if-plan.true)
-    | else-plan w ↦ w.fault-is ∙ w.fault_in-fault.ensures ∙ ap (λ (p : Plan). fault_in p.outcome) ran ∙ ap either (sym w.if-plan.false)
+      | then-plan w ↦ w.fault-is ∙ ap either (sym w.if-plan.true)
+      | else-plan w ↦ w.fault-is ∙ w.fault_in-fault.ensures ∙ ap (λ (p : Plan). fault_in p.outcome) ran ∙ ap either (sym w.if-plan.false)
     ] in
     cc (ran, figures, fault)

@@ -1,5 +1,4 @@
 -- `plan_report::line_ended` meets its contract. Assumes nothing.
-use borrow.Author.Rules.{rules}
 use Rattle.plan_report.proofs.line_ended.Goals as goal
 
 pub returns : goal.returns

@@ -4,10 +4,6 @@ use Rattle.bench.specs.Runs.{set_in}
 use Rattle.bench.specs.declared.Listed.{Listed}
 use Rattle.nodeset.specs.Sets.{size}
 use mathlib.Core.Path.{sym, ap, ◌∙◌}
-use borrow.Author.Rules.{rules}
-use Rattle.plan_report.proofs.listed_in.Reads as reads
-use Rattle.plan_report.proofs.listed_in.Lts as lts
-use Rattle.nodeset.proofs.size.Reads as size-reads
 use Rattle.plan_report.proofs.listed_in.Goals as goal
 
 pub returns-in-Set : goal.returns-in-Set

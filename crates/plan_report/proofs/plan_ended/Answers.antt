@@ -4,7 +4,6 @@ use mathlib.Core.Path.{ap, ◌∙◌}
 use Rattle.plan_text.specs.Text.{next_line}
 use Rattle.plan_report.specs.declared.Verdict.{Verdict}
 use Rattle.plan_report.specs.Tallies.{tally_with, totals_by}
-use borrow.Author.Rules.{rules}
 use Rattle.plan_report.proofs.plan_ended.Goals as goal
 
 pub returns : goal.returns

@@ -8,7 +8,6 @@ use Rattle.plan_text.specs.Text.{PutAt, number_then}
 use Rattle.plan_report.specs.declared.Figures.{Figures}
 use Rattle.plan_text.proofs.Paste.{Sofar, more, nothing}
 use Rattle.plan_text.proofs.Digits.{number_short}
-use borrow.Author.Rules.{rules}
 use Rattle.plan_report.proofs.put_figures.Goals as goal
 
 -- after one number, two and three

@@ -3,7 +3,6 @@ use mathlib.Core.Path.{ap}
 use native.Mathlib.Omega.{arith}
 use Rattle.plan_text.proofs.Paste.{both}
 use Rattle.plan_report.specs.declared.Tally.{Tally}
-use borrow.Author.Rules.{rules}
 use Rattle.plan_report.proofs.put_last.Goals as goal
 
 pub returns : goal.returns

@@ -4,7 +4,6 @@ use native.Mathlib.Omega.{arith}
 use Rattle.plan_text.proofs.Paste.{nothing}
 use Rattle.plan_program.specs.Calls.{bytes_in}
 use Rattle.plan_report.proofs.Lines.{next-text, no_text}
-use borrow.Author.Rules.{rules}
 use Rattle.plan_report.proofs.put_line.Goals as goal
 
 pub returns-then-is_next : goal.returns-then-is_next

@@ -9,7 +9,6 @@ use Rattle.plan_text.specs.Text.{PutAt, next_line, number_then}
 use Rattle.plan_text.proofs.Paste.{Sofar, more, nothing, both}
 use Rattle.plan_text.proofs.Digits.{number_short}
 use Rattle.plan_report.specs.Report.{plan_text}
-use borrow.Author.Rules.{rules}
 use Rattle.plan_report.proofs.put_plan.Goals as goal
 
 -- after the word and the number

@@ -2,7 +2,6 @@
 use native.Mathlib.Omega.{arith}
 use Rattle.plan_text.proofs.Paste.{both}
 use Rattle.plan_report.specs.Report.{total_text}
-use borrow.Author.Rules.{rules}
 use Rattle.plan_report.proofs.put_total.Goals as goal
 
 pub returns : goal.returns

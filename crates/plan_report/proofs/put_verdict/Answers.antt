@@ -1,6 +1,5 @@
 -- `plan_report::put_verdict` meets its contract. Assumes nothing.
 use native.Mathlib.Omega.{arith}
-use borrow.Author.Rules.{rules}
 use Rattle.plan_report.proofs.put_verdict.Goals as goal
 
 pub returns-in-Counted : goal.returns-in-Counted

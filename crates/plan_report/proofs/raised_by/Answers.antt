@@ -1,8 +1,4 @@
 -- `plan_report::raised_by` meets its contract. Assumes nothing.
-use borrow.Author.Rules.{rules}
-use Rattle.plan_report.proofs.raised_by.Reads as reads
-use Rattle.plan_report.proofs.raised_by.Lts as lts
-use Rattle.plan_report.proofs.raised.Reads as raised-reads
 use Rattle.plan_report.proofs.raised_by.Goals as goal
 
 pub returns : goal.returns

@@ -4,7 +4,6 @@ use native.Mathlib.Omega.{arith}
 use Rattle.plan_text.proofs.Paste.{nothing}
 use Rattle.plan_program.specs.declared.Part.{Part}
 use Rattle.plan_report.proofs.Lines.{an-end, no_end}
-use borrow.Author.Rules.{rules}
 use Rattle.plan_report.proofs.take_byte.Goals as goal
 
 pub returns-then-byte-ne10 : goal.returns-then-byte-ne10

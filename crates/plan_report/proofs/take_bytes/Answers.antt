@@ -1,18 +1,13 @@
-use Prim.Native.Nat.{◌-◌, ◌*◌, ◌≤◌}
-use mathlib.Core.Path.{◌≡◌, refl, sym, ap, ◌∙◌}
-use mathlib.Core.Bool.{true}
+use mathlib.Core.Path.{refl, sym, ap, ◌∙◌}
 use native.Mathlib.Omega.{arith}
-use lib.ListN.{length, get_or, take}
+use lib.ListN.{get_or}
 use lib.Seq.{take_all}
-use Rattle.plan_text.specs.Text.{PutAt}
 use Rattle.plan_text.specs.Bytewise.{after_bytes, bytes_text}
 use Rattle.plan_text.proofs.Paste.{both, nothing}
 use Rattle.plan_text.proofs.Bytewise.{after_next, text-next}
-use Rattle.plan_program.specs.Calls.{plan_sound}
 use Rattle.plan_report.specs.declared.Report.{Report}
-use Rattle.plan_report.specs.Calls.{after, after_byte, byte_text, text_of}
+use Rattle.plan_report.specs.Calls.{after_byte, byte_text}
 use Rattle.plan_report.proofs.Lines.{sound-byte}
-use borrow.Author.Rules.{rules}
 use Rattle.plan_report.proofs.take_bytes.Goals as goal
 
 pub loop-i-init : goal.loop-i-init

@@ -1,20 +1,12 @@
 -- `plan_report::take_bytes` meets its contract. The loop's invariant: the bytes so far are taken and what is printed of them put, 110 bytes for each at the
 -- most, and the plan can go on. The measure is what is left of the input. Assumes nothing.
 use Prim.Native.Nat.{◌-◌, ◌*◌, ◌≤◌}
-use mathlib.Core.Path.{◌≡◌, refl, sym, ap, ◌∙◌}
+use mathlib.Core.Path.{◌≡◌}
 use mathlib.Core.Bool.{true}
-use native.Mathlib.Omega.{arith}
-use lib.ListN.{length, get_or, take}
-use lib.Seq.{take_all}
+use lib.ListN.{length, take}
 use Rattle.plan_text.specs.Text.{PutAt}
-use Rattle.plan_text.specs.Bytewise.{after_bytes, bytes_text}
-use Rattle.plan_text.proofs.Paste.{both, nothing}
-use Rattle.plan_text.proofs.Bytewise.{after_next, text-next}
 use Rattle.plan_program.specs.Calls.{plan_sound}
-use Rattle.plan_report.specs.declared.Report.{Report}
-use Rattle.plan_report.specs.Calls.{after, after_byte, byte_text, text_of}
-use Rattle.plan_report.proofs.Lines.{sound-byte}
-use borrow.Author.Rules.{rules}
+use Rattle.plan_report.specs.Calls.{after, text_of}
 use Rattle.plan_report.proofs.take_bytes.Given as goal
 
 abbrev pub invariant-loop-i : goal.invariant-loop-i

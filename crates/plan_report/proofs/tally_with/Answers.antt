@@ -2,10 +2,6 @@
 use Rattle.plan_report.specs.Figures.{no_figures}
 use Rattle.plan_program.specs.declared.Plan.{Plan}
 use mathlib.Core.Path.{ap}
-use borrow.Author.Rules.{rules}
-use Rattle.plan_report.proofs.tally_with.Reads as reads
-use Rattle.plan_report.proofs.tally_with.Lts as lts
-use Rattle.plan_program.proofs.no_plan.Reads as no-plan-reads
 use Rattle.plan_report.proofs.tally_with.Goals as goal
 
 pub returns : goal.returns

@@ -4,7 +4,6 @@ use native.Mathlib.Omega.{arith}
 use lib.Dec.{ltb}
 use Rattle.nodeset.specs.Sums.{num}
 use Rattle.plan_report.proofs.Counting.{num-few}
-use borrow.Author.Rules.{rules}
 use Rattle.plan_report.proofs.told_figures.Goals as goal
 
 pub returns : goal.returns

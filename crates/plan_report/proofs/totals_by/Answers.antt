@@ -3,7 +3,6 @@ use mathlib.Core.Path.{sym, ap, ◌∙◌}
 use Rattle.plan_report.specs.declared.Added.{Added}
 use Rattle.plan_report.specs.declared.Verdict.{Verdict}
 use Rattle.plan_report.specs.Tallies.{totals_by}
-use borrow.Author.Rules.{rules}
 use Rattle.plan_report.proofs.totals_by.Goals as goal
 
 pub returns-in-Counted : goal.returns-in-Counted

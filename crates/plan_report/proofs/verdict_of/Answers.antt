@@ -11,19 +11,21 @@ use Rattle.plan_report.specs.declared.Verdict.TheVariants.{Counted, Refused}
 use Rattle.plan_report.specs.Figures.{add_of}
 use Rattle.plan_report.specs.Report.{verdict_with}
 use Rattle.plan_report.specs.Tallies.{verdict_of}
-use borrow.Author.Rules.{rules}
 use Rattle.plan_report.proofs.verdict_of.Goals as goal
 
 module _ (t : Tally) (begun : Bool) where
   was-refused : t.plan.over ≡ true → verdict_of t begun ≡ Refused t.plan.lines t.fault
   unfolding verdict_with
   was-refused e = simp e
+
   unended : t.plan.over ≡ false → (eqb t.plan.lines 0 || begun) ≡ true → verdict_of t begun ≡ Refused (next_line t.plan.lines) 12
   unfolding verdict_with
   unended e f = simp (e, f)
+
   counted : t.plan.over ≡ false → (eqb t.plan.lines 0 || begun) ≡ false → is_done (add_of t.totals t.figures).answer ≡ true → verdict_of t begun ≡ Counted
   unfolding verdict_with
   counted e f g = simp (e, f, g)
+
   passed : t.plan.over ≡ false → (eqb t.plan.lines 0 || begun) ≡ false → is_done (add_of t.totals t.figures).answer ≡ false → verdict_of t begun ≡ Refused t.plan.lines 19
   unfolding verdict_with
   passed e f g = simp (e, f, g)

@@ -1,9 +1,6 @@
 -- `plan_report::with_byte` meets its contract. Assumes nothing.
 use borrow.Author.Tests.{lt-ltb, le-ltb}
 use native.Mathlib.Omega.{arith}
-use borrow.Author.Rules.{rules}
-use Rattle.plan_report.proofs.with_byte.Reads as reads
-use Rattle.plan_report.proofs.with_byte.Lts as lts
 use Rattle.plan_report.proofs.with_byte.Goals as goal
 
 pub returns-then-at-ge121 : goal.returns-then-at-ge121

@@ -2,7 +2,6 @@
 use mathlib.Core.Path.{◌≡◌}
 use native.Mathlib.Omega.{arith}
 use Rattle.plan_report.specs.Tallies.{raised}
-use borrow.Author.Rules.{rules}
 use Rattle.plan_report.proofs.with_one.Goals as goal
 
 pub returns-then-yes : goal.returns-then-yes
