@@ -13,7 +13,7 @@ use Rattle.plan_program.specs.Inner.{sought, with_line}
 use Rattle.plan_program.proofs.seek.Goals as goal
 
 pub slice_bounds-longer-end : goal.slice_bounds-longer-end
-slice_bounds-longer-end c = ?
+slice_bounds-longer-end c = (part-in 10 c.args.input.now c.args.g.at c.part_end-end.result c.requires c.part_end-end.ensures).1
 
 pub overflow_add-end : goal.overflow_add-end
 overflow_add-end c = omega (arith, (part-in 10 c.args.input.now c.args.g.at c.part_end-end.result c.requires c.part_end-end.ensures).1)
