@@ -46,14 +46,6 @@ size_in n low high = simp (le-ltb n 1 low, le-ltb 32 n high)
 size-past : (n : ℕ) → 32 < n → size_of n ≡ 32
 size-past n high = simp (le-ltb n 1 (omega (arith, high)), lt-ltb 32 n high)
 
-pub size-range : (n : ℕ) → (1 ≤ size_of n) × (size_of n ≤ 32)
-size-range n = go (dec_le 1 n) (dec_le n 32)
-  where
-    go : Dec (1 ≤ n) → Dec (n ≤ 32) → (1 ≤ size_of n) × (size_of n ≤ 32)
-    go (yes low) (yes high) = (omega (arith, size_in n low high, low), omega (arith, size_in n low high, high))
-    go (yes low) (no high) = (omega (arith, size-past n (omega arith)), omega (arith, size-past n (omega arith)))
-    go (no low) high = let is : size_of n ≡ 1 = simp (lt-ltb n 1 (omega arith)) in (omega (arith, is), omega (arith, is))
-
 -- they are the table, where there is one
 module _ (n : ℕ) (rows : Rows) (all : length rows ≡ 32) (some : 1 ≤ n) where
   lent-table : take (size_of n) rows ≡ take n rows

@@ -4,10 +4,8 @@ use mathlib.Core.Path.{◌≡◌, refl, sym, ap, ◌∙◌}
 use mathlib.Core.Bool.{Bool, true, false, cond}
 use mathlib.Core.List.{List, [], ◌∷◌, ◌++◌}
 use lib.Dec.{eqb}
-use Rattle.bench.specs.node.declared.Answer.TheVariants.{Refused}
 use Rattle.bench.specs.Table.{Table}
 use Rattle.bench.specs.Runs.{Call, table_after}
-use Rattle.bench_by_value.specs.ByValue as by_value
 use Rattle.bench_by_value.specs.ByValue.{table_of}
 use Rattle.plan_line.specs.declared.Opening.{Opening}
 use Rattle.plan_line.specs.declared.Opening.TheVariants.{Ring}

@@ -2,6 +2,7 @@
 // in pieces, and what is printed of it goes into lent bytes. `feed` runs the lines that end in a piece,
 // `finish` ends the text, `print_plan` takes it all at once.
 #![tactic(auto)]
+
 ghost use Rattle.std.specs.Prelude.{◌≡◌, true, false, ◌++◌, [], ◌+◌, ◌≤◌, ◌*◌, leb, length, take};
 ghost use Rattle.bench.specs.Table.{table_sound};
 ghost use Rattle.bench_by_value.specs.ByValue.{table_of};

@@ -2,6 +2,7 @@
 // rows, of which the first n are its table; a line is carried out on the table alone, which is lent. It
 // is tested where a piece of the plan begins (`plan_program`), and not again for each line.
 #![tactic(auto)]
+
 ghost use Rattle.std.specs.Prelude.{◌≡◌, ◌≤◌, length};
 ghost use Rattle.bench_orders.specs.Orders.{carried_from};
 ghost use Rattle.plan_line.specs.Plan.{line_of, opening_of};

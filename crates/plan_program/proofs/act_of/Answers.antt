@@ -1,5 +1,4 @@
 -- `plan_program::act_of` meets its contract. Assumes nothing.
-use borrow.Author.Rules.{rules}
 use borrow.Author.Tests.{eq-eqb, ne_eqb}
 use Rattle.plan_program.proofs.act_of.Goals as goal
 

@@ -1,5 +1,4 @@
 -- `plan_program::after` meets its contract. Assumes nothing.
-use borrow.Author.Rules.{rules}
 use Rattle.plan_program.proofs.after.Goals as goal
 
 pub returns : goal.returns

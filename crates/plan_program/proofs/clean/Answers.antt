@@ -2,7 +2,6 @@
 use borrow.Author.Rules.{rules}
 use native.Mathlib.Omega.{arith}
 use mathlib.Core.Path.{◌≡◌, ◌∙◌, sym, ap}
-use mathlib.Core.Logic.{⊎_elim}
 use mathlib.Core.List.{◌++◌}
 use Prim.Native.Nat.{ℕ, ◌≤◌}
 use lib.ListN.{length, take}
@@ -26,8 +25,8 @@ returns c =
     let most : c.if-part-lt121.length ≤ 121 = elim c.if-part-lt121.branch [ then-part-lt121 w ↦ omega arith | else-part-lt121 w ↦ omega arith ] in
     let same : take c.if-part-lt121.length p.text ≡ bytes_in p =
     elim c.if-part-lt121.branch [
-      then-part-lt121 w ↦ ap (λ (n : ℕ). take n p.text) w.length-is
-    | else-part-lt121 w ↦ take_all c.if-part-lt121.length p.text (omega (arith, whole)) ∙ sym (take_all p.length p.text (omega (arith, whole)))
+      | then-part-lt121 w ↦ ap (λ (n : ℕ). take n p.text) w.length-is
+      | else-part-lt121 w ↦ take_all c.if-part-lt121.length p.text (omega (arith, whole)) ∙ sym (take_all p.length p.text (omega (arith, whole)))
     ] in
     c.longer.ensures
     ∙ ap (λ (q : Part). part_in q.text (take 121 (bytes_in q ++ take n p.text))) c.no_part.ensures

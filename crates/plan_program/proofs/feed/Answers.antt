@@ -2,8 +2,7 @@
 use Prim.Native.Nat.{◌*◌}
 use mathlib.Core.Path.{◌≡◌, sym, ◌∙◌}
 use mathlib.Core.Bool.{false}
-use borrow.Author.Rules.{rules}
-use borrow.Author.Tests.{leb-true, not-true, not-false}
+use borrow.Author.Tests.{leb-true}
 use lib.ListN.{length}
 use Rattle.plan_program.specs.Calls.{has_room, plan_sound}
 use Rattle.plan_program.proofs.Pieces.{fed-unsound, fed-short, fed-run}

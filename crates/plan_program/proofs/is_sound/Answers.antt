@@ -1,5 +1,4 @@
 -- `plan_program::is_sound` meets its contract. Assumes nothing.
-use borrow.Author.Rules.{rules}
 use borrow.Author.Tests.{eq-eqb, ne_eqb}
 use Rattle.plan_program.specs.Calls.{plan_sound}
 use Rattle.plan_program.proofs.is_sound.Goals as goal

@@ -3,7 +3,6 @@ use Prim.Native.Nat.{ℕ}
 use mathlib.Core.Path.{◌≡◌, refl, ap, ◌∙◌}
 use mathlib.Core.Bool.{Bool, true, false, not}
 use mathlib.Core.List.{List, [], ◌∷◌}
-use borrow.Author.Rules.{rules}
 use Rattle.bench.specs.node_reports.Reports.{Counts, no_reports}
 use Rattle.bench.specs.declared.Command.TheVariants.{Look}
 use Rattle.bench.specs.Table.{table_sound}

@@ -1,5 +1,4 @@
 -- `plan_program::lines_after` meets its contract. Assumes nothing.
-use borrow.Author.Rules.{rules}
 use Rattle.plan_program.proofs.lines_after.Goals as goal
 
 pub returns : goal.returns

@@ -1,10 +1,8 @@
-use Prim.Native.Nat.{ℕ, ◌≤◌, ◌+◌, ◌-◌}
+use Prim.Native.Nat.{ℕ, ◌≤◌, ◌+◌}
 use mathlib.Core.Path.{◌≡◌, refl, ap, sym, ◌∙◌}
-use mathlib.Core.Logic.{⊎_elim}
 use mathlib.Core.List.{List, ◌++◌, append-nil}
 use native.Mathlib.Omega.{arith}
 use borrow.Author.Rules.{rules}
-use borrow.Author.Tests.{ltb-true, ltb-false}
 use lib.ListN.{get_or, take, drop, length-set}
 use lib.ListN as ListN
 use lib.Seq.{length-take-le, take_all}
@@ -35,8 +33,7 @@ loop-i-preserved c =
     let p = c.args.part in
     let loop = c.loop-i in
     let bytes = c.args.bytes.now in
-    let room : c.loop-i.length + 1 ≤ 121 = omega arith in
-    (
+    let room : c.loop-i.length + 1 ≤ 121 = omega arith in (
       omega arith,
       room,
       omega arith,
@@ -54,8 +51,8 @@ returns-else-length-lt121 c =
     let most : c.if-part-lt121.length ≤ 121 = elim c.if-part-lt121.branch [ then-part-lt121 w ↦ omega arith | else-part-lt121 w ↦ omega arith ] in
     let begun : take c.if-part-lt121.length p.text ≡ bytes_in p =
     elim c.if-part-lt121.branch [
-      then-part-lt121 w ↦ ap (λ (n : ℕ). take n p.text) w.length-is
-    | else-part-lt121 w ↦ take_all c.if-part-lt121.length p.text (omega (arith, whole)) ∙ sym (take_all p.length p.text (omega (arith, whole)))
+      | then-part-lt121 w ↦ ap (λ (n : ℕ). take n p.text) w.length-is
+      | else-part-lt121 w ↦ take_all c.if-part-lt121.length p.text (omega (arith, whole)) ∙ sym (take_all p.length p.text (omega (arith, whole)))
     ] in
     -- so many bytes were there
     let size : ListN.length (take c.if-part-lt121.length p.text) ≡ c.if-part-lt121.length = length-take-le c.if-part-lt121.length p.text (omega (arith, whole, most)) in
@@ -74,8 +71,8 @@ returns-after-loop-i c =
     let most : c.if-part-lt121.length ≤ 121 = elim c.if-part-lt121.branch [ then-part-lt121 w ↦ omega arith | else-part-lt121 w ↦ omega arith ] in
     let begun : take c.if-part-lt121.length p.text ≡ bytes_in p =
     elim c.if-part-lt121.branch [
-      then-part-lt121 w ↦ ap (λ (n : ℕ). take n p.text) w.length-is
-    | else-part-lt121 w ↦ take_all c.if-part-lt121.length p.text (omega (arith, whole)) ∙ sym (take_all p.length p.text (omega (arith, whole)))
+      | then-part-lt121 w ↦ ap (λ (n : ℕ). take n p.text) w.length-is
+      | else-part-lt121 w ↦ take_all c.if-part-lt121.length p.text (omega (arith, whole)) ∙ sym (take_all p.length p.text (omega (arith, whole)))
     ] in
     -- so many bytes were there
     let size : ListN.length (take c.if-part-lt121.length p.text) ≡ c.if-part-lt121.length = length-take-le c.if-part-lt121.length p.text (omega (arith, whole, most)) in

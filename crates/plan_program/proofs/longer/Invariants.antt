@@ -1,17 +1,10 @@
 -- `plan_program::longer` meets its contract. The loop's invariant: the part's bytes are those that were there and the first `i` that come, and what stands
 -- after them is as it was. The measure is what is left of those that come. Assumes nothing.
-use Prim.Native.Nat.{ℕ, ◌≤◌, ◌+◌, ◌-◌}
-use mathlib.Core.Path.{◌≡◌, refl, ap, sym, ◌∙◌}
-use mathlib.Core.Logic.{⊎_elim}
-use mathlib.Core.List.{List, ◌++◌, append-nil}
-use native.Mathlib.Omega.{arith}
-use borrow.Author.Rules.{rules}
-use borrow.Author.Tests.{ltb-true, ltb-false}
+use Prim.Native.Nat.{◌≤◌, ◌+◌, ◌-◌}
+use mathlib.Core.Path.{◌≡◌}
+use mathlib.Core.List.{◌++◌}
 use lib.ListN.{get_or, take, drop, length-set}
 use lib.ListN as ListN
-use lib.Seq.{length-take-le, take_all}
-use Rattle.plan_program.specs.Calls.{bytes_in}
-use Rattle.plan_program.proofs.Lines.{one-more, all_room, all-bytes, after-set, part-made}
 use Rattle.plan_program.proofs.longer.Given as goal
 
 abbrev pub invariant-loop-i : goal.invariant-loop-i

@@ -1,5 +1,4 @@
 -- `plan_program::no_plan` meets its contract. Assumes nothing.
-use borrow.Author.Rules.{rules}
 use Rattle.plan_program.proofs.no_plan.Goals as goal
 
 pub returns : goal.returns

@@ -1,5 +1,4 @@
 -- `plan_program::put_end` meets its contract. Assumes nothing.
-use borrow.Author.Rules.{rules}
 use mathlib.Core.Path.{sym, ◌∙◌}
 use Rattle.plan_text.proofs.Paste.{nothing}
 use Rattle.plan_program.specs.Calls.{bytes_in}

@@ -1,5 +1,4 @@
 -- `plan_program::rows_for` meets its contract. Assumes nothing.
-use borrow.Author.Rules.{rules}
 use native.Mathlib.Omega.{arith}
 use borrow.Author.Tests.{eq-eqb, ne_eqb}
 use Rattle.plan_program.proofs.rows_for.Goals as goal

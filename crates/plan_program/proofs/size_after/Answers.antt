@@ -1,5 +1,4 @@
 -- `plan_program::size_after` meets its contract. Assumes nothing.
-use borrow.Author.Rules.{rules}
 use native.Mathlib.Omega.{arith}
 use borrow.Author.Tests.{eq-eqb, ne_eqb}
 use Rattle.plan_program.proofs.size_after.Goals as goal

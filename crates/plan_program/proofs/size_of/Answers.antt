@@ -1,5 +1,4 @@
 -- `plan_program::size_of` meets its contract. Assumes nothing.
-use borrow.Author.Rules.{rules}
 use native.Mathlib.Omega.{arith}
 use borrow.Author.Tests.{le-ltb, lt-ltb}
 use Rattle.plan_program.proofs.size_of.Goals as goal

@@ -1,11 +1,10 @@
 -- `plan_program::with_line` meets its contract. Assumes nothing.
 use borrow.Author.Rules.{rules}
 use native.Mathlib.Omega.{arith}
-use Prim.Native.Nat.{ℕ, ◌≤◌}
+use Prim.Native.Nat.{ℕ}
 use mathlib.Core.Path.{◌≡◌, ◌∙◌, sym, ap}
-use mathlib.Core.Logic.{⊎_elim}
 use lib.ListN.{length, take}
-use lib.Seq.{length-take-le, take_all}
+use lib.Seq.{take_all}
 use Rattle.plan_program.specs.Calls.{bytes_in}
 use Rattle.plan_program.specs.Inner.{act_in, size_after}
 use Rattle.plan_program.proofs.with_line.Goals as goal
@@ -29,8 +28,8 @@ returns c =
     -- so many bytes are those of the part
     let same : take c.if-part-lt121.length p.text ≡ bytes_in p =
     elim c.if-part-lt121.branch [
-      then-part-lt121 w ↦ ap (λ (n : ℕ). take n p.text) w.length-is
-    | else-part-lt121 w ↦ take_all c.if-part-lt121.length p.text (omega (arith, whole)) ∙ sym (take_all p.length p.text (omega (arith, whole)))
+      | then-part-lt121 w ↦ ap (λ (n : ℕ). take n p.text) w.length-is
+      | else-part-lt121 w ↦ take_all c.if-part-lt121.length p.text (omega (arith, whole)) ∙ sym (take_all p.length p.text (omega (arith, whole)))
     ] in
     let does = c.act_of-act.ensures ∙ ap (act_in a.g.lines a.g.n a.g.over) same in
     let size = c.size_after-size.ensures ∙ ap (size_after a.g.lines a.g.n a.g.over) same in

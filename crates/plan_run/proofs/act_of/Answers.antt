@@ -1,5 +1,4 @@
 -- `plan_run::act_of` meets its contract, case by case. Assumes nothing.
-use borrow.Author.Rules.{rules}
 use mathlib.Core.Path.{sym, ap}
 use Rattle.plan_run.specs.Run.{act_of}
 use Rattle.plan_run.proofs.act_of.Goals as goal

@@ -4,7 +4,6 @@ use Rattle.cable.specs.slot_table.Order.{numbers_from, plain}
 use Rattle.cable.specs.declared.Cable.{Cable}
 use Rattle.bench_orders.specs.Orders.{all_fit}
 use Rattle.plan_run.specs.Inner.{beside_by}
-use borrow.Author.Rules.{rules}
 use Rattle.plan_run.proofs.beside_by.Goals as goal
 
 pub returns-in-SetUp : goal.returns-in-SetUp

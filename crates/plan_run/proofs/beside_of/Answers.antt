@@ -2,7 +2,6 @@
 use mathlib.Core.Path.{sym, ap}
 use Rattle.cable.specs.slot_table.Order.{numbers_from, plain}
 use Rattle.plan_run.specs.Inner.{beside_of}
-use borrow.Author.Rules.{rules}
 use Rattle.plan_run.proofs.beside_of.Goals as goal
 
 pub returns-in-Refuse : goal.returns-in-Refuse

@@ -4,7 +4,6 @@ use Rattle.bench_orders.specs.declared.Beside.{Beside}
 use Rattle.bench_orders.specs.declared.Order.{Order}
 use Rattle.bench_orders.specs.Orders.{errand_of}
 use Rattle.plan_run.specs.Inner.{order_by}
-use borrow.Author.Rules.{rules}
 use Rattle.plan_run.proofs.errand_by.Goals as goal
 
 pub returns : goal.returns

@@ -1,7 +1,6 @@
 -- `plan_run::first_act` meets its contract, case by case. Assumes nothing.
 use mathlib.Core.Path.{sym, ap, ◌∙◌}
 use Rattle.plan_run.specs.Inner.{opening_act}
-use borrow.Author.Rules.{rules}
 use Rattle.plan_run.proofs.first_act.Goals as goal
 
 pub returns-in-Ring : goal.returns-in-Ring

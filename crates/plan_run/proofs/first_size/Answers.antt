@@ -3,7 +3,6 @@ use Prim.Native.Nat.{ℕ}
 use mathlib.Core.Path.{sym, ap, ◌∙◌}
 use Rattle.plan_line.specs.declared.Opening.{Opening}
 use Rattle.plan_run.specs.Run.{opened_by, opened_of}
-use borrow.Author.Rules.{rules}
 use Rattle.plan_run.proofs.first_size.Goals as goal
 
 abbrev said : Opening → ℕ

@@ -1,7 +1,6 @@
 -- `plan_run::later_act` meets its contract. Assumes nothing.
 use mathlib.Core.Path.{ap, ◌∙◌}
 use Rattle.plan_run.specs.Run.{act_of}
-use borrow.Author.Rules.{rules}
 use Rattle.plan_run.proofs.later_act.Goals as goal
 
 pub returns : goal.returns

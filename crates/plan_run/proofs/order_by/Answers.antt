@@ -2,7 +2,6 @@
 use mathlib.Core.Path.{sym, ap, ◌∙◌}
 use Rattle.plan_run.specs.declared.Act.{Act}
 use Rattle.plan_run.specs.Inner.{order_by}
-use borrow.Author.Rules.{rules}
 use Rattle.plan_run.proofs.order_by.Goals as goal
 
 pub returns-in-Call : goal.returns-in-Call

@@ -1,7 +1,6 @@
 -- `plan_run::told` meets its contract. Assumes nothing.
 use mathlib.Core.Path.{ap}
 use Rattle.bench.specs.declared.Reply.{Reply}
-use borrow.Author.Rules.{rules}
 use Rattle.plan_run.proofs.told.Goals as goal
 
 pub returns : goal.returns
