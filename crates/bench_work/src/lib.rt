@@ -2,6 +2,7 @@
 // what it reads of a command and of what is lent beside the table (document 01, "The bench"; document 02, a
 // and h). No function here has the table.
 #![tactic(auto)]
+
 ghost use Rattle.std.specs.Prelude.{◌≡◌, ◌≤◌, length};
 ghost use Rattle.node_record.specs.Held.{setted};
 ghost use Rattle.bench.specs.Ledger.{ledger_fits};

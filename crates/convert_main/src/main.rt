@@ -80,7 +80,7 @@ fn convert_to(rt: &(impl Input + Print + Eprint), direction: Direction) {
     );
 }
 
-// The form that the first argument names; none where there is no such argument.
+// The form that the first argument names, if it names one.
 fn named(rt: &impl Env) -> Option<Direction> {
     let mut name: [u8; 8] = [0; 8];
     let length = rt.arg(1, &mut name).unwrap_or(0);

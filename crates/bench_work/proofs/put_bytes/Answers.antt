@@ -1,10 +1,10 @@
 use borrow.Author.Rules.{rules}
-use Prim.Native.Nat.{ℕ, ◌+◌, ◌-◌, ◌≤◌}
+use Prim.Native.Nat.{ℕ, ◌+◌}
 use mathlib.Core.Path.{◌≡◌, refl, sym, ap, ◌∙◌}
 use mathlib.Core.List.{List}
 use native.Mathlib.Omega.{arith}
 use native.Mathlib.Numerals.{add-one}
-use lib.ListN.{length, get_or, set, length-set}
+use lib.ListN.{get_or, set, length-set}
 use Rattle.bench_orders.specs.Orders.{puts}
 use Rattle.bench_work.proofs.put_bytes.Goals as goal
 
@@ -16,28 +16,7 @@ pub loop-i-init : goal.loop-i-init
 unfolding puts
 loop-i-init c = (omega arith, (search rules, (search rules, (refl, refl))))
 
-pub bounds-bytes-i : goal.bounds-bytes-i
-bounds-bytes-i c = omega (arith, c.loop-i-test.true, c.loop-i.invariant.1.0)
-
-pub bounds-pairs-i : goal.bounds-pairs-i
-bounds-pairs-i c = omega (arith, c.loop-i-test.true, c.loop-i.invariant.1.1.0, c.loop-i.invariant.1.1.1.0)
-
-pub overflow_add-i : goal.overflow_add-i
-overflow_add-i c = omega (arith, c.loop-i-test.true, c.loop-i.invariant.1.0)
-
-pub loop-i-smaller : goal.loop-i-smaller
-loop-i-smaller c = omega (arith, c.loop-i-test.true)
-
 pub loop-i-preserved : goal.loop-i-preserved
 loop-i-preserved c =
     let l = c.loop-i in
     (omega (arith, c.loop-i-test.true), (l.invariant.1.0, (l.invariant.1.1.0, (length-set l.pairs l.i _ ∙ l.invariant.1.1.1.0, one-more _ _ l.pairs l.i l.invariant.1.1.1.1))))
-
-pub shape_of-pairs : goal.shape_of-pairs
-shape_of-pairs c = c.loop-i.invariant.1.1.1.0
-
-pub returns : goal.returns
-returns c =
-    let l = c.loop-i in
-    let last : l.i ≡ c.args.end = omega (arith, l.invariant.0, c.loop-i-test.false) in
-    l.invariant.1.1.1.1 ∙ ap (λ (j : ℕ). puts c.args.bytes j c.args.pairs.now) last

@@ -1,11 +1,7 @@
 -- `bench_work::put_bytes` meets its contract. The invariant: after i turns the first i bytes are stored, and the buffer is as long as it was. Assumes nothing.
-use borrow.Author.Rules.{rules}
-use Prim.Native.Nat.{ℕ, ◌+◌, ◌-◌, ◌≤◌}
-use mathlib.Core.Path.{◌≡◌, refl, sym, ap, ◌∙◌}
-use mathlib.Core.List.{List}
-use native.Mathlib.Omega.{arith}
-use native.Mathlib.Numerals.{add-one}
-use lib.ListN.{length, get_or, set, length-set}
+use Prim.Native.Nat.{◌-◌, ◌≤◌}
+use mathlib.Core.Path.{◌≡◌}
+use lib.ListN.{length}
 use Rattle.bench_orders.specs.Orders.{puts}
 use Rattle.bench_work.proofs.put_bytes.Given as goal
 
