@@ -1,14 +1,8 @@
 -- `plan_run::beside_by` meets its contract, case by case. Assumes nothing.
-use mathlib.Core.Path.{sym, ap, ◌∙◌}
+use mathlib.Core.Path.{sym, ap}
 use Rattle.cable.specs.slot_table.Order.{numbers_from, plain}
-use Rattle.cable.specs.declared.Cable.{Cable}
-use Rattle.bench_orders.specs.Orders.{all_fit}
 use Rattle.plan_run.specs.Inner.{beside_by}
 use Rattle.plan_run.proofs.beside_by.Goals as goal
-
-pub returns-in-SetUp : goal.returns-in-SetUp
-returns-in-SetUp c =
-    ap (λ (cable : Cable). all_fit cable c.in-SetUp.choices.n) c.plain_cable-cable.ensures ∙ sym (ap beside_by c.in-SetUp.is)
 
 pub returns-in-Off : goal.returns-in-Off
 unfolding plain numbers_from
