@@ -6,11 +6,6 @@ use Rattle.nodeset.specs.Sets.{size}
 use mathlib.Core.Path.{sym, ap, ◌∙◌}
 use Rattle.plan_report.proofs.listed_in.Goals as goal
 
-pub returns-in-Set : goal.returns-in-Set
-returns-in-Set c =
-    let a = c.args in
-    c.size.ensures ∙ ap (λ (l : Listed). size a.n (set_in l)) (sym c.in-Set.is)
-
 pub returns-in-Nobody : goal.returns-in-Nobody
 returns-in-Nobody c =
     let a = c.args in
