@@ -4,6 +4,9 @@
 // is printed of each is written at once.
 #![tactic(auto)]
 
+ghost use Rattle.std.specs.Prelude.{◌≡◌, ◌≢◌, codes};
+ghost use Rattle.converter_text.specs.declared.Direction.TheVariants.{Three, Two};
+
 use converter_text::{Direction, Fed, Recording};
 use plan_text::Written;
 use std::io;
@@ -80,18 +83,26 @@ fn convert_to(rt: &(impl Input + Print + Eprint), direction: Direction) {
     );
 }
 
+// The form that a word names, if it names one.
+fn form_of(word: &[u8]) -> Option<Direction>
+    ensures three { word.now ≡ codes "three" → result ≡ Some Three }
+    ensures two { word.now ≡ codes "two" → result ≡ Some Two }
+    ensures other { word.now ≢ codes "three" → word.now ≢ codes "two" → result ≡ None }
+{
+    if word == b"three".as_slice() {
+        return Some(Direction::Three);
+    }
+    if word == b"two".as_slice() {
+        return Some(Direction::Two);
+    }
+    None
+}
+
 // The form that the first argument names, if it names one.
 fn named(rt: &impl Env) -> Option<Direction> {
     let mut name: [u8; 8] = [0; 8];
     let length = rt.arg(1, &mut name).unwrap_or(0);
-    let given = name.get(..length)?;
-    if given == b"three".as_slice() {
-        return Some(Direction::Three);
-    }
-    if given == b"two".as_slice() {
-        return Some(Direction::Two);
-    }
-    None
+    form_of(name.get(..length)?)
 }
 
 fn main(rt: HostRuntime) {

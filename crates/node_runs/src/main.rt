@@ -184,14 +184,8 @@ fn run_all<R: Read, W: Write>(input: &mut Source<R>, output: &mut Sink<W>) -> us
 }
 
 fn main(rt: HostRuntime) {
-    let mut input = Source {
-        from: rt.reader(),
-        buffer: [0; 4096],
-    };
-    let mut output = Sink {
-        to: io::writer(&rt),
-        buffer: [0; 4096],
-    };
+    let mut input = input::buffered(rt.reader());
+    let mut output = output::buffered(io::writer(&rt));
     let held = run_all(&mut input, &mut output);
     output::flush(&mut output, held);
 }

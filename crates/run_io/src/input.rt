@@ -9,6 +9,14 @@ pub struct Source<R> {
     pub buffer: [u8; 4096],
 }
 
+// A source of which nothing is read yet.
+pub fn buffered<R>(from: R) -> Source<R> {
+    Source {
+        from,
+        buffer: [0; 4096],
+    }
+}
+
 // The unread bytes of the buffer are those from `at` up to `end`.
 #[derive(Clone, Copy)]
 pub struct Unread {

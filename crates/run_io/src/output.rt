@@ -10,6 +10,14 @@ pub struct Sink<W> {
     pub buffer: [u8; 4096],
 }
 
+// A sink in which nothing waits.
+pub fn buffered<W>(to: W) -> Sink<W> {
+    Sink {
+        to,
+        buffer: [0; 4096],
+    }
+}
+
 fn write_part<W: Write>(to: &mut W, buffer: &[u8], length: usize) {
     if length <= buffer.len() {
         let part = &buffer[0..length];
