@@ -14,7 +14,6 @@ use Rattle.bench.proofs.nodeset.Sums.{sum_first, sum-next, sum-rest, sum-split}
 use Rattle.bench.proofs.nodeset.Counts.{size-with, size-without}
 use Rattle.bench.proofs.nodeset.Laws.{without-part}
 use Rattle.bench.specs.cable.declared.Cable.{Cable}
-use Rattle.bench.specs.ring.declared.Found.TheVariants as found
 use Rattle.bench.specs.ring.Ring.{sender, sponsors, decided, member_in}
 use Rattle.bench.proofs.ring_laws.Senders.{sender-range}
 use Rattle.bench.proofs.ring_laws.Walks as walks
@@ -36,6 +35,7 @@ use Rattle.agreement.proofs.Outcome.{Settled, gone, kept, backed, became, joined
 use Rattle.agreement.proofs.Returns.{joins-yes, marked-is}
 use Rattle.agreement.proofs.Alike.{gone-not}
 use Rattle.bench.proofs.Choices.{choose}
+use Rattle.bench.specs.ring.Ring.{found}
 
 -- ---- how large a set can be after step 3 and what follows it
 
@@ -106,7 +106,7 @@ module _ (W : World) where
     pub second : Before W N A (sponsors cable A + lag)
     second = before W N A (sponsors cable A + lag) B.late (omega (arith, most)) most.1
 
-    pub second_is : decided cable A s ≡ found.Member (sender cable second.u) (suc second.e)
+    pub second_is : decided cable A s ≡ found (sender cable second.u) (suc second.e)
     second_is = decided-before cable A s most.0 ∙ second.it
 
     ago : second.u + suc second.e ≡ suc N
@@ -189,13 +189,13 @@ module _ (W : World) where
       abbrev m : ℕ
       m = sender cable D.u
 
-      first-is : decided_in s v₁ ≡ found.Member (sender cable D.u) (suc D.e)
+      first-is : decided_in s v₁ ≡ found (sender cable D.u) (suc D.e)
       first-is = ap₂ (λ (c : Cable) (set : ℕ). decided c set s) vc iv.set_is ∙ D.it
 
       shorter : (E D.u).sent ≡ false → without v₁.set m ≡ A
       shorter p = ap (λ (x : ℕ). without x m) iv.set_is ∙ sym (otherwise _ _ p)
 
-      then_is : decided_in s (with_set A v₁) ≡ found.Member (sender cable second.u) (suc second.e)
+      then_is : decided_in s (with_set A v₁) ≡ found (sender cable second.u) (suc second.e)
       then_is = ap (λ (c : Cable). decided c A s) vc ∙ second_is
 
       -- a second look ends where the first did

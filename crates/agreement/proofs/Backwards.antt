@@ -6,12 +6,12 @@ use native.Mathlib.Omega.{arith}
 use Rattle.bench.specs.nodeset.Sums.{sum}
 use Rattle.bench.specs.nodeset.Sets.{has, size}
 use Rattle.bench.proofs.nodeset.Sums.{num-le}
-use Rattle.bench.specs.ring.declared.Found.TheVariants.{Member}
 use Rattle.bench.specs.cable.declared.Cable.{Cable}
 use Rattle.bench.specs.ring.Ring.{turn, sender, walk, member_before}
 use Rattle.bench.proofs.ring_laws.Senders.{Turns, sender-place, size-round}
 use Rattle.bench.proofs.ring_laws.Walks as walks
 use Rattle.bench.proofs.ring_laws.Walks.{Met, walk_meets, before-is, others}
+use Rattle.bench.specs.ring.Ring.{found}
 
 module _ (cable : Cable) (turns : Turns cable) where
   open cable use {n, order}
@@ -30,7 +30,7 @@ module _ (cable : Cable) (turns : Turns cable) where
     pub recent : suc e < n
     pub listed : has L (sender cable u) ≡ true
     pub count : sum (walks.member cable turns L) u (suc e) ≡ j
-    pub it : member_before cable L (sender cable (suc N)) j ≡ Member (sender cable u) (suc e)
+    pub it : member_before cable L (sender cable (suc N)) j ≡ found (sender cable u) (suc e)
 
   pub before : (N L j : ℕ) → n ≤ N → 1 ≤ j → j < size n L → Before N L j
   before N L j hn hj hs = go (walk_meets cable turns L (n - 1) a j (omega arith) hj (omega (arith, others cable turns L a (omega arith), num-le (has L (sender cable (a + (n - 1)))))))
@@ -56,5 +56,5 @@ module _ (cable : Cable) (turns : Turns cable) where
                 before-is cable turns L (sender cable (suc N)) j
                 ∙ ap (λ (p : ℕ). walk (n - 1) cable L p j) (sender-place cable turns (suc N) ∙ ap (turn n) (sym z))
                 ∙ m.found
-                ∙ ap (Member (sender cable m.u)) back;
+                ∙ ap (found (sender cable m.u)) back;
           }

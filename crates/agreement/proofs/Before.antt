@@ -10,7 +10,7 @@ use lib.ListN.{length, get_or}
 use Rattle.bench.specs.nodeset.Sums.{num}
 use Rattle.bench.proofs.nodeset.Tests.{by_cases, chosen, otherwise}
 use Rattle.bench.specs.cable.Cable.{node_number}
-use Rattle.bench.specs.message.declared.Reading.{Reading}
+use Rattle.bench.specs.message.Answers.{Reading}
 use Rattle.bench.specs.node_record.declared.Node.{Node}
 use Rattle.bench.specs.node_record.declared.State.{State}
 use Rattle.bench.specs.node_record.declared.State.TheVariants.{Member, Listening, Following, Knocking, Out}

@@ -11,7 +11,6 @@ use Rattle.bench.proofs.nodeset.Tests.{by_cases}
 use Rattle.bench.proofs.nodeset.Sums.{sum-le, sum_first, sum-none, sum-next, sum-split, one_place, num-le}
 use Rattle.bench.proofs.nodeset.Laws.{has-without, has-without-other, without-lt, without-part}
 use Rattle.bench.proofs.nodeset.Counts.{size-without}
-use Rattle.bench.specs.ring.declared.Found.TheVariants.{Member}
 use Rattle.bench.specs.ring.Ring.{turn, sender, walk, member_before}
 use Rattle.bench.proofs.ring_laws.Senders.{turn-period, sender-range, sender-place, sender-period, same-slot}
 use Rattle.bench.proofs.ring_laws.Walks as walks
@@ -21,6 +20,7 @@ use Rattle.bench.proofs.node_steps.Answers.{At}
 use Rattle.agreement.proofs.History.{World, K, KFact, lst, one-knock, size-from, num-is, num-isnt}
 use Rattle.agreement.proofs.Marks.{no_both, not-true}
 use Rattle.agreement.proofs.Listed.{ListedSlot, other-sender, same-window}
+use Rattle.bench.specs.ring.Ring.{found}
 
 module _ (W : World) where
   open W use {cable, n_pos, turns, k_two, E, fair}
@@ -120,7 +120,7 @@ module _ (W : World) where
       pub some-way : 1 ≤ e
       pub member : has L₁ (sender cable u) ≡ true
       pub alone : sum (walks.member cable turns L₁) u e ≡ 1
-      pub it : member_before cable L₁ (sender cable w) 1 ≡ Member (sender cable u) e
+      pub it : member_before cable L₁ (sender cable w) 1 ≡ found (sender cable u) e
 
     pub nearest : (w : ℕ) → 1 ≤ w → has L₁ (sender cable w) ≡ false → Nearest w
     nearest w hw off = go (walk_meets cable turns L₁ (n - 1) (suc w) 1 (omega arith) (omega arith) (omega (arith, others cable turns L₁ (suc w) (omega arith), L₁-size, k_two, its-last)))
@@ -143,7 +143,7 @@ module _ (W : World) where
               member = m.listed;
               alone = m.count;
               it = before-is cable turns L₁ (sender cable w) 1
-                  ∙ ap (λ (p : ℕ). walk (n - 1) cable L₁ p 1) (sender-place cable turns w ∙ sym (turn-period n n_pos w hw) ∙ ap (turn n) (sym z)) ∙ m.found ∙ ap (Member (sender cable m.u)) back;
+                  ∙ ap (λ (p : ℕ). walk (n - 1) cable L₁ p 1) (sender-place cable turns w ∙ sym (turn-period n n_pos w hw) ∙ ap (turn n) (sym z)) ∙ m.found ∙ ap (found (sender cable m.u)) back;
             }
 
     -- If slot N + 1 is that of the nearest member, then k + lag listed slots have been since w.

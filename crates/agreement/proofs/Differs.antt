@@ -17,7 +17,7 @@ use Rattle.bench.proofs.nodeset.Laws.{has-with-other}
 use Rattle.bench.specs.cable.declared.Cable.{Cable}
 use Rattle.bench.specs.cable.Cable.{cable_fits}
 use Rattle.bench.specs.ring.Ring.{sender}
-use Rattle.bench.specs.message.declared.Reading.{Reading}
+use Rattle.bench.specs.message.Answers.{Reading}
 use Rattle.bench.specs.node_record.declared.Node.{Node}
 use Rattle.bench.specs.node_record.States.{is_member}
 use Rattle.bench.specs.node_record.Soundness.{sound, limit}

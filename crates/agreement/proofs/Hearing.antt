@@ -1,4 +1,5 @@
 -- A listening node keeps its invariant (Q), and follows with the right set. Assumes nothing.
+use Rattle.std.specs.Prelude.{Err, Ok}
 use Prim.Native.Nat.{ℕ, zero, suc, ◌+◌, ◌-◌, ◌^◌, ◌≤◌, ◌<◌, min}
 use mathlib.Core.Path.{◌≡◌, refl, sym, ap, ◌∙◌}
 use mathlib.Core.Logic.{◌≢◌}
@@ -17,8 +18,7 @@ use Rattle.bench.proofs.nodeset.Laws.{has-with, has-with-other, with-lt, set-ext
 use Rattle.bench.specs.cable.declared.Cable.{Cable}
 use Rattle.bench.specs.ring.Ring.{sender, ks}
 use Rattle.bench.proofs.ring_laws.Senders.{sender-range, sender-period, its-slot, size-round}
-use Rattle.bench.specs.message.declared.Reading.{Reading}
-use Rattle.bench.specs.message.declared.Reading.TheVariants as reading
+use Rattle.bench.specs.message.Answers.{Reading}
 use Rattle.bench.specs.node_record.declared.Node.{Node}
 use Rattle.bench.specs.node_record.declared.Window.{Window}
 use Rattle.bench.specs.node_changes.Changes.{listening_after, following_with, with_window}
@@ -32,6 +32,7 @@ use Rattle.agreement.proofs.Marks.{no_both, not-true, not-false}
 use Rattle.bench.proofs.Choices.{choose}
 use Rattle.agreement.proofs.Listed.{other-sender}
 use Rattle.agreement.proofs.Rounds.{K'}
+use Rattle.bench.specs.message.Answers.{heard_with}
 
 -- a knock's bits have no ones to run
 run-zero : run 0 ≡ 0
@@ -77,7 +78,7 @@ module _ (W : World) where
     unheard-yet : has v.listening.heard s ≡ false
     unheard-yet = iv.heard-only s (λ u e z l p. earlier u e z l (sym p))
 
-    yes-case : (bits : ℕ) (bit : Bool) → r ≡ reading.Heard bits bit → Heard (suc N) i (overheard s (reading.Heard bits bit) v.listening)
+    yes-case : (bits : ℕ) (bit : Bool) → r ≡ heard_with bits bit → Heard (suc N) i (overheard s (heard_with bits bit) v.listening)
     yes-case bits bit it = record {
       heard-lt = with-lt n v.listening.heard s (sender-range cable turns (suc N)).1 iv.heard-lt;
       last-lt = iv.last-lt;
@@ -135,15 +136,15 @@ module _ (W : World) where
     overheard-law = go r refl
       where
         go : (q : Reading) → r ≡ q → Heard (suc N) i (overheard s q v.listening)
-        go (reading.Heard bits bit) e = yes-case bits bit e
-        go (reading.Refused c) e = no-case (ap is_heard e)
+        go (Ok h) e = yes-case h.acknowledgements h.return_bit e
+        go (Err c) e = no-case (ap is_heard e)
 
     overheard-done : (overheard s r v.listening).done ≡ v.listening.done + 1
     overheard-done = go r
       where
         go : (q : Reading) → (overheard s q v.listening).done ≡ v.listening.done + 1
-        go (reading.Heard bits bit) = refl
-        go (reading.Refused c) = refl
+        go (Ok h) = refl
+        go (Err c) = refl
 
     clean-runs : (l : Window) → clean cable l ≡ true → ks cable (size n l.heard) ≤ l.shortest
     unfolding clean

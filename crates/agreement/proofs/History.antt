@@ -9,13 +9,13 @@ use Rattle.bench.specs.nodeset.Sets.{has, size}
 use Rattle.bench.proofs.nodeset.Tests.{by_cases}
 use Rattle.bench.proofs.nodeset.Sums.{sum-next, sum_first, sum-add, sum-split, sum-at, one_place, num-le}
 use Rattle.bench.specs.cable.declared.Cable.{Cable}
-use Rattle.bench.specs.ring.declared.Found.TheVariants.{Member}
 use Rattle.bench.specs.ring.Ring.{sender, member_before, sponsors, sponsored, decided}
 use Rattle.bench.proofs.ring_laws.Senders.{Turns, sender-range, round}
 use Rattle.bench.proofs.ring_laws.Walks as walks
 use Rattle.bench.proofs.ring.Members.{sponsored-before, decided-before}
 use Rattle.agreement.proofs.Past.{Past, no_past}
 use Rattle.agreement.proofs.Backwards as backwards
+use Rattle.bench.specs.ring.Ring.{found}
 
 -- a longer window has no smaller sum
 pub sum_more : (f : ℕ → ℕ) (a m d : ℕ) → sum f a m ≤ sum f a (m + d)
@@ -194,7 +194,7 @@ module _ (W : World) where
     pub listed : (E u).listed ≡ true
     pub member : has L (sender cable u) ≡ true
     pub exact : suc (sum lst (suc u) e) ≡ k + lag
-    pub it : decided cable L (sender cable (suc N)) ≡ Member (sender cable u) (suc e)
+    pub it : decided cable L (sender cable (suc N)) ≡ found (sender cable u) (suc e)
 
   pub decision : (N L : ℕ) → n ≤ N → K N L → k + lag < size n L → Decision N L
   decision N L hn κ hs = go (before N L (k + lag) hn (omega (arith, k_two)) hs)
@@ -220,7 +220,7 @@ module _ (W : World) where
     pub j : ℕ
     pub few : j < k
     pub back : ℕ
-    pub it : sponsored cable L (sender cable (suc N)) (suc j) ≡ Member (sender cable u) back
+    pub it : sponsored cable L (sender cable (suc N)) (suc j) ≡ found (sender cable u) back
 
   pub sponsored-since : (N L : ℕ) → n ≤ N → K N L → k + lag < size n L → (u e : ℕ) → u + e ≡ N → suc e < n → has L (sender cable u) ≡ true
       → lag ≤ sum lst (suc u) e → sum lst (suc u) e < k + lag → Sponsored N L u
@@ -243,5 +243,5 @@ module _ (W : World) where
                 j = j;
                 few = omega (arith, c, q);
                 back = suc b.e;
-                it = sponsored-before cable L (sender cable (suc N)) (suc j) (omega arith) (omega (arith, c, q, sponsors-are L hs)) ∙ b.it ∙ ap (λ (x : ℕ). Member (sender cable x) (suc b.e)) same;
+                it = sponsored-before cable L (sender cable (suc N)) (suc j) (omega arith) (omega (arith, c, q, sponsors-are L hs)) ∙ b.it ∙ ap (λ (x : ℕ). found (sender cable x) (suc b.e)) same;
               }

@@ -10,7 +10,6 @@ use Rattle.bench.specs.nodeset.Sets.{has, with}
 use Rattle.bench.proofs.nodeset.Sums.{sum-at, sum-rest}
 use Rattle.bench.proofs.nodeset.Laws.{has-with, has-with-other}
 use Rattle.bench.specs.cable.declared.Cable.{Cable}
-use Rattle.bench.specs.ring.declared.Found.TheVariants as found
 use Rattle.bench.specs.ring.Ring.{sender, member_before}
 use Rattle.bench.proofs.ring_laws.Senders.{sender-range}
 use Rattle.bench.proofs.ring_laws.Walks as walks
@@ -28,6 +27,7 @@ use Rattle.agreement.proofs.Outcome.{Gone, Settled, gone, kept, backed, became, 
 use Rattle.agreement.proofs.Listed.{ListedSlot, Hearer, same-window, off-after, on-after}
 use Rattle.agreement.proofs.Depart.{drop-sub, L₁, sender-stays, not-dropped, Nearest, nearest, enough-since}
 use Rattle.agreement.proofs.Returns.{joins-yes, joins-if, not-member, same-knock, Stays, member-stays, outsider-stays, awaits-after, lost-after, quiet-after}
+use Rattle.bench.specs.ring.Ring.{found}
 
 module _ (W : World) where
   open W use {cable, n_pos, turns, n-most, E, fair}
@@ -105,7 +105,7 @@ module _ (W : World) where
           }
             where
               ne : t.u ≢ suc N
-              ne q = no_both (joins_at κ.w (sym κ.it) (record { back = t.e; it = t.it ∙ ap (λ (x : ℕ). found.Member (sender cable x) t.e) q })) j
+              ne q = no_both (joins_at κ.w (sym κ.it) (record { back = t.e; it = t.it ∙ ap (λ (x : ℕ). found (sender cable x) t.e) q })) j
 
               not-before : t.u < suc N → ⊥
               not-before l =

@@ -12,10 +12,9 @@ use Rattle.bench.specs.nodeset.Sets.{has, size}
 use Rattle.bench.proofs.nodeset.Tests.{by_cases}
 use Rattle.bench.proofs.nodeset.Sums.{sum-at, num-le}
 use Rattle.bench.specs.cable.declared.Cable.{Cable}
-use Rattle.bench.specs.ring.declared.Found.TheVariants as found
 use Rattle.bench.specs.ring.Ring.{sender, sponsors, sponsored}
 use Rattle.bench.proofs.ring_laws.Senders.{sender-range, sender-once, same-slot}
-use Rattle.bench.specs.message.declared.Reading.{Reading}
+use Rattle.bench.specs.message.Answers.{Reading}
 use Rattle.bench.specs.node_record.declared.Node.{Node}
 use Rattle.bench.specs.node_record.States.{is_member}
 use Rattle.bench.specs.node_record.Sponsoring.{sponsors_in, sponsored_in}
@@ -25,6 +24,7 @@ use Rattle.bench.proofs.node_steps.Answers.{At, Told}
 use Rattle.agreement.proofs.History.{World, sender-most, Untold, K, lst, told-in-time, sponsors-are, Decision, sponsored-since, Sponsored, num-is}
 use Rattle.agreement.proofs.Invariant.{Tracking, Off, Lost}
 use Rattle.agreement.proofs.Marks.{no_both, not-true, not-false, WasOff, unmarked, denied, WasOn, mark-own, mark-of-sender, off-before, on-before, yes-own, yes-before}
+use Rattle.bench.specs.ring.Ring.{found}
 
 module _ (W : World) where
   open W use {cable, n_pos, turns, E, fair}
@@ -174,7 +174,7 @@ module _ (W : World) where
               i = sp.j;
               below = omega (arith, sp.few, sponsors-is);
               bit = ap not (Z.bits sp.j (sender cable u) sp.few (record { back = sp.back; it = sp.it }) ∙ sender-off Z);
-              it = record { back = sp.back; it = sponsored-is (suc sp.j) ∙ sp.it ∙ ap (λ (x : ℕ). found.Member x sp.back) (sym y ∙ sym vo) };
+              it = record { back = sp.back; it = sponsored-is (suc sp.j) ∙ sp.it ∙ ap (λ (x : ℕ). found x sp.back) (sym y ∙ sym vo) };
             }
 
         still-lost : Lost W (suc N) i u (marks_after s r v) (yes_after s r v)

@@ -1,4 +1,5 @@
 -- The laws of the marks after step 1. Assumes nothing.
+use Rattle.std.specs.Prelude.{Err, None, Option, Ok, Some}
 use Prim.Native.Nat.{ℕ, zero, suc, ◌≤◌, ◌<◌}
 use mathlib.Core.Path.{◌≡◌, refl, sym, ap, ◌∙◌}
 use mathlib.Core.Logic.{◌≢◌, ◌⊎◌, inl, inr}
@@ -10,15 +11,15 @@ use Rattle.bench.specs.nodeset.Sets.{has, with, without}
 use Rattle.bench.proofs.nodeset.Tests.{by_cases, both, all, or_else, chosen, otherwise}
 use Rattle.bench.proofs.nodeset.Laws.{has-with, has-with-other, has-without, has-without-other}
 use Rattle.bench.specs.ring.declared.Found.{Found}
-use Rattle.bench.specs.ring.declared.Found.TheVariants as found
 use Rattle.bench.specs.ring.Ring.{member_in}
-use Rattle.bench.specs.message.declared.Reading.{Reading}
-use Rattle.bench.specs.message.declared.Reading.TheVariants.{Heard, Refused}
+use Rattle.bench.specs.message.Answers.{Reading}
 use Rattle.bench.specs.node_record.declared.Node.{Node}
 use Rattle.bench.specs.node_record.Sponsoring.{sponsors_in, sponsored_in}
 use Rattle.bench.specs.node_steps.Steps.{is_heard, is_own, confirmed, hears_no, hears_yes, heard_marks, read_marks, marks_after, read_yes, yes_after}
 use Rattle.bench.specs.node_steps.Digests.{bits_heard}
 use Rattle.bench.proofs.node_steps.Answers.{At, Told, told-by, says-told}
+use Rattle.bench.specs.message.Answers.{heard_with}
+use Rattle.bench.specs.ring.Ring.{found}
 
 pub no_both : {b : Bool} → b ≡ true → b ≡ false → ⊥
 no_both p q = true≢false (sym p ∙ q)
@@ -40,18 +41,18 @@ has-with-keeps m y x h l e = go (ℕ_discrete y x)
 
 module _ (s bits : ℕ) (v : Node) (x : ℕ) (pos : 1 ≤ x) (most : x ≤ 32) where
   -- the j-th sponsored member
-  abbrev sponsor : ℕ → Found
+  abbrev sponsor : ℕ → Option Found
   sponsor j = sponsored_in s j v
 
-  found-marks : (marks : ℕ) (f : Found) → At x f → has (with marks (member_in f)) x ≡ true
+  found-marks : (marks : ℕ) (f : Option Found) → At x f → has (with marks (member_in f)) x ≡ true
   found-marks marks f a = rw a.it (has-with marks x pos most)
 
-  found-only : (marks : ℕ) (f : Found) → has (with marks (member_in f)) x ≡ true → (has marks x ≡ true) ⊎ At x f
+  found-only : (marks : ℕ) (f : Option Found) → has (with marks (member_in f)) x ≡ true → (has marks x ≡ true) ⊎ At x f
   found-only marks f e = go (ℕ_discrete (member_in f) x)
     where
-      it : (f : Found) → member_in f ≡ x → At x f
-      it (found.Member m back) p = record { back = back; it = ap (λ (y : ℕ). found.Member y back) p }
-      it found.Nobody p = let z : ⊥ = omega arith in absurd z
+      it : (f : Option Found) → member_in f ≡ x → At x f
+      it (Some f) p = record { back = f.back; it = ap (λ (y : ℕ). found y f.back) p }
+      it None p = let z : ⊥ = omega arith in absurd z
 
       go : Dec (member_in f ≡ x) → (has marks x ≡ true) ⊎ At x f
       go (yes p) = inr (it f p)
@@ -150,52 +151,52 @@ pub record WasOn (s : ℕ) (r : Reading) (v : Node) (x : ℕ) : Type 0 where
 module _ (s : ℕ) (v : Node) where
   -- of another node's slot, by what is read of it
   sender-read : (r : Reading) → 1 ≤ s → s ≤ 32 → s ≢ v.own → has (read_marks s r v) s ≡ is_heard r
-  sender-read (Heard bits return_bit) h l ne =
-      other-mark s bits v s (λ p. ne (sym p)) ∙ confirmed-keeps s bits v s h l (sponsors_in v) (has-with v.present s h l)
-  sender-read (Refused c) h l ne = has-without v.present s
+  sender-read (Ok said) h l ne =
+      other-mark s said.acknowledgements v s (λ p. ne (sym p)) ∙ confirmed-keeps s said.acknowledgements v s h l (sponsors_in v) (has-with v.present s h l)
+  sender-read (Err c) h l ne = has-without v.present s
 
   off-read : (r : Reading) (x : ℕ) → 1 ≤ x → x ≤ 32 → s ≢ x → has (read_marks s r v) x ≡ false → WasOff s r v x
-  off-read (Heard bits return_bit) x h l ne e = two (ℕ_discrete v.own x)
+  off-read (Ok said) x h l ne e = two (ℕ_discrete v.own x)
     where
-      kept : has (confirmed (sponsors_in v) s bits v) x ≡ false → WasOff s (Heard bits return_bit) v x
-      kept f = let p = plain s bits v x h l ne f in unmarked p.0 (λ _. p.1)
+      kept : has (confirmed (sponsors_in v) s said.acknowledgements v) x ≡ false → WasOff s (heard_with said.acknowledgements said.return_bit) v x
+      kept f = let p = plain s said.acknowledgements v x h l ne f in unmarked p.0 (λ _. p.1)
 
-      two : Dec (v.own ≡ x) → WasOff s (Heard bits return_bit) v x
-      two (no d) = kept (sym (other-mark s bits v x d) ∙ e)
+      two : Dec (v.own ≡ x) → WasOff s (heard_with said.acknowledgements said.return_bit) v x
+      two (no d) = kept (sym (other-mark s said.acknowledgements v x d) ∙ e)
       two (yes d) =
-          by_cases (hears_no s bits v && not v.yes_heard)
-          (λ p. denied refl (sym d) (told-by false (sponsors_in v) s bits v (both (hears_no s bits v) _ p).0))
-          (λ p. kept (ap (λ (m : ℕ). has m x) (sym (not-denied s bits v p)) ∙ e))
-  off-read (Refused c) x h l ne e = unmarked (sym (has-without-other v.present s x ne) ∙ e) (λ p t. true≢false (sym p))
+          by_cases (hears_no s said.acknowledgements v && not v.yes_heard)
+          (λ p. denied refl (sym d) (told-by false (sponsors_in v) s said.acknowledgements v (both (hears_no s said.acknowledgements v) _ p).0))
+          (λ p. kept (ap (λ (m : ℕ). has m x) (sym (not-denied s said.acknowledgements v p)) ∙ e))
+  off-read (Err c) x h l ne e = unmarked (sym (has-without-other v.present s x ne) ∙ e) (λ p t. true≢false (sym p))
 
   on_read : (r : Reading) (x : ℕ) → 1 ≤ x → x ≤ 32 → s ≢ x → has (read_marks s r v) x ≡ true → WasOn s r v x
-  on_read (Heard bits return_bit) x h l ne e = record { was = before (confirmed-only s bits v x h l (sponsors_in v) kept); undenied = λ _ own unsaid t. bites own unsaid t }
+  on_read (Ok said) x h l ne e = record { was = before (confirmed-only s said.acknowledgements v x h l (sponsors_in v) kept); undenied = λ _ own unsaid t. bites own unsaid t }
     where
-      confirming : (b : Bool) → (hears_no s bits v && not v.yes_heard) ≡ b → has (confirmed (sponsors_in v) s bits v) x ≡ true
-      confirming false p = ap (λ (m : ℕ). has m x) (sym (not-denied s bits v p)) ∙ e
+      confirming : (b : Bool) → (hears_no s said.acknowledgements v && not v.yes_heard) ≡ b → has (confirmed (sponsors_in v) s said.acknowledgements v) x ≡ true
+      confirming false p = ap (λ (m : ℕ). has m x) (sym (not-denied s said.acknowledgements v p)) ∙ e
       confirming true p = two (ℕ_discrete v.own x)
         where
-          two : Dec (v.own ≡ x) → has (confirmed (sponsors_in v) s bits v) x ≡ true
-          two (no d) = sym (other-mark s bits v x d) ∙ e
-          two (yes d) = absurd (no_both e (ap (λ (m : ℕ). has m x) (denied-own s bits v p) ∙ ap (has (without (confirmed (sponsors_in v) s bits v) v.own)) (sym d) ∙ has-without (confirmed (sponsors_in v) s bits v) v.own))
+          two : Dec (v.own ≡ x) → has (confirmed (sponsors_in v) s said.acknowledgements v) x ≡ true
+          two (no d) = sym (other-mark s said.acknowledgements v x d) ∙ e
+          two (yes d) = absurd (no_both e (ap (λ (m : ℕ). has m x) (denied-own s said.acknowledgements v p) ∙ ap (has (without (confirmed (sponsors_in v) s said.acknowledgements v) v.own)) (sym d) ∙ has-without (confirmed (sponsors_in v) s said.acknowledgements v) v.own))
 
-      kept : has (confirmed (sponsors_in v) s bits v) x ≡ true
-      kept = confirming (hears_no s bits v && not v.yes_heard) refl
+      kept : has (confirmed (sponsors_in v) s said.acknowledgements v) x ≡ true
+      kept = confirming (hears_no s said.acknowledgements v && not v.yes_heard) refl
 
-      before : (has (with v.present s) x ≡ true) ⊎ Told true s bits v x (sponsors_in v) → (has v.present x ≡ true) ⊎ ((true ≡ true) × Told true s bits v x (sponsors_in v))
+      before : (has (with v.present s) x ≡ true) ⊎ Told true s said.acknowledgements v x (sponsors_in v) → (has v.present x ≡ true) ⊎ ((true ≡ true) × Told true s said.acknowledgements v x (sponsors_in v))
       before (inl p) = inl (sym (has-with-other v.present s x ne) ∙ p)
       before (inr t) = inr (refl, t)
 
-      bites : x ≡ v.own → v.yes_heard ≡ false → Told false s bits v v.own (sponsors_in v) → ⊥
+      bites : x ≡ v.own → v.yes_heard ≡ false → Told false s said.acknowledgements v v.own (sponsors_in v) → ⊥
       bites own unsaid t =
-          let p : (hears_no s bits v && not v.yes_heard) ≡ true = all (says-told false (sponsors_in v) s bits v t) (ap not unsaid) in
-          no_both e (ap (λ (m : ℕ). has m x) (denied-own s bits v p) ∙ ap (has (without (confirmed (sponsors_in v) s bits v) v.own)) own ∙ has-without (confirmed (sponsors_in v) s bits v) v.own)
-  on_read (Refused c) x h l ne e = record { was = inl (sym (has-without-other v.present s x ne) ∙ e); undenied = λ p. absurd (true≢false (sym p)) }
+          let p : (hears_no s said.acknowledgements v && not v.yes_heard) ≡ true = all (says-told false (sponsors_in v) s said.acknowledgements v t) (ap not unsaid) in
+          no_both e (ap (λ (m : ℕ). has m x) (denied-own s said.acknowledgements v p) ∙ ap (has (without (confirmed (sponsors_in v) s said.acknowledgements v) v.own)) own ∙ has-without (confirmed (sponsors_in v) s said.acknowledgements v) v.own)
+  on_read (Err c) x h l ne e = record { was = inl (sym (has-without-other v.present s x ne) ∙ e); undenied = λ p. absurd (true≢false (sym p)) }
 
   yes-read : (r : Reading) → read_yes s r v ≡ true → (v.yes_heard ≡ true) ⊎ ((is_heard r ≡ true) × Told true s (bits_heard r) v v.own (sponsors_in v))
-  yes-read (Heard bits return_bit) e =
-      by_cases v.yes_heard (λ p. inl p) (λ p. inr (refl, told-by true (sponsors_in v) s bits v (or_else v.yes_heard (hears_yes s bits v) e p)))
-  yes-read (Refused c) e = inl e
+  yes-read (Ok h) e =
+      by_cases v.yes_heard (λ p. inl p) (λ p. inr (refl, told-by true (sponsors_in v) s h.acknowledgements v (or_else v.yes_heard (hears_yes s h.acknowledgements v) e p)))
+  yes-read (Err c) e = inl e
 
   module _ (r : Reading) where
     own-slot : s ≡ v.own → marks_after s r v ≡ with v.present v.own

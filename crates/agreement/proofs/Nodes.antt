@@ -6,11 +6,10 @@ use mathlib.Core.Bool.{true, false, cond, false≢true}
 use native.Mathlib.Omega.{arith}
 use Rattle.bench.specs.nodeset.Sets.{has, size}
 use Rattle.bench.specs.cable.declared.Cable.{Cable}
-use Rattle.bench.specs.ring.declared.Found.TheVariants as found
 use Rattle.bench.specs.ring.Ring.{sender, decided}
-use Rattle.bench.specs.message.declared.Reading.{Reading}
+use Rattle.bench.specs.message.Answers.{Reading}
 use Rattle.bench.specs.node_record.declared.Node.{Node}
-use Rattle.bench.specs.node_record.declared.State.TheVariants.{Member, Out}
+use Rattle.bench.specs.node_record.declared.State.TheVariants.{Out}
 use Rattle.bench.specs.node_record.declared.Cause.{Cause}
 use Rattle.bench.specs.node_record.declared.Cause.TheVariants.{MissedReturn}
 use Rattle.bench.specs.node_record.States.{is_member, is_listening}
@@ -37,6 +36,7 @@ use Rattle.agreement.proofs.Rounds.{K'}
 use Rattle.agreement.proofs.Hearing.{fresh-inv, listening-law, Hearkened, on, again, follows}
 use Rattle.agreement.proofs.Alike.{not-listening, listening-only, Like, gone-like, gone-not, inside-like, noted-like, member-tracks, listening-not-member, by_state, as_many}
 use Rattle.agreement.proofs.Again.{second, Once, once, shrunk}
+use Rattle.bench.specs.ring.Ring.{found}
 
 module _ (W : World) where
   open W use {cable, k_two, k_lt, E}
@@ -162,7 +162,7 @@ module _ (W : World) where
         abbrev T : Hearer W S.N S.L
         T = record { r = r; says = says; i = i; i-pos = i-pos; i-le = i-le; v = counted v; vc = nv.cable-is; vo = nv.own_is; iv = iv; h = hv }
 
-        decides-it : decided_in s v ≡ found.Member d (suc D.e)
+        decides-it : decided_in s v ≡ found d (suc D.e)
         decides-it = ap₂ (λ (c : Cable) (set : ℕ). decided c set s) nv.cable-is (nv.track tr).set_is ∙ D.it
 
         outcome : Inside s d r (counted v) (inside_slot 1 s r (counted v))

@@ -1,4 +1,5 @@
 -- What a slot makes of a tracking node, as the cases of the rules: the order of the steps (node_steps' specs/Steps) is opened here and nowhere else. Assumes nothing.
+use Rattle.std.specs.Prelude.{Option}
 use Prim.Native.Nat.{ℕ, suc}
 use mathlib.Core.Path.{◌≡◌, refl, sym, ap, ◌∙◌, subst}
 use mathlib.Core.Logic.{◌≢◌, ◌⊎◌, inl, inr}
@@ -8,9 +9,8 @@ use borrow.Author.Tests.{eqb-true, eqb-false, eq-eqb}
 use Rattle.bench.specs.nodeset.Sets.{has, with, without}
 use Rattle.bench.proofs.nodeset.Tests.{both, chosen, otherwise}
 use Rattle.bench.specs.ring.declared.Found.{Found}
-use Rattle.bench.specs.ring.declared.Found.TheVariants as found
 use Rattle.bench.specs.ring.Ring.{member_in, is_found}
-use Rattle.bench.specs.message.declared.Reading.{Reading}
+use Rattle.bench.specs.message.Answers.{Reading}
 use Rattle.bench.specs.node_record.declared.Node.{Node}
 use Rattle.bench.specs.node_record.declared.State.{State}
 use Rattle.bench.specs.node_record.declared.State.TheVariants.{Member, Listening, Following, Knocking, Out}
@@ -22,6 +22,7 @@ use Rattle.bench.specs.node_changes.Changes.{out_for, fresh, leave, with_set, wi
 use Rattle.bench.specs.node_steps.Steps.{is_heard, noted, leaves, too_few, nothing_heard, joins, state_on_list, settled_as, join, settle}
 use Rattle.bench.specs.node_steps.Inner.{read_return, read_marked, departing, inside_slot}
 use Rattle.bench.proofs.Choices.{choose}
+use Rattle.bench.specs.ring.Ring.{found}
 
 -- no longer tracking
 pub data Gone (v w : Node) : Type 0 where
@@ -123,12 +124,12 @@ departed-law s m v = go (has v.present m) refl
         (λ f. one e (eqb-false m v.own f))
 
 -- whether the decided member leaves
-pub leaves-is : (s m back : ℕ) (v : Node) → decided_in s v ≡ found.Member m back → leaves s v (member_in (decided_in s v)) ≡ not (has v.present m)
+pub leaves-is : (s m back : ℕ) (v : Node) → decided_in s v ≡ found m back → leaves s v (member_in (decided_in s v)) ≡ not (has v.present m)
 leaves-is s m back v e =
-    ap (λ (f : Found). is_found (member_in f) f && not (has v.present (member_in f))) e ∙ ap (λ (b : Bool). b && not (has v.present m)) (eq-eqb m m refl)
+    ap (λ (f : Option Found). is_found (member_in f) f && not (has v.present (member_in f))) e ∙ ap (λ (b : Bool). b && not (has v.present m)) (eq-eqb m m refl)
 
 -- one look, and what comes after it
-pub look : (times s m back : ℕ) (v : Node) → decided_in s v ≡ found.Member m back
+pub look : (times s m back : ℕ) (v : Node) → decided_in s v ≡ found m back
     → departing (suc times) s v ≡ cond (not (has v.present m)) (cond (eqb m v.own) (leave Unconfirmed v) (departing times s (with_set (without v.set m) v))) (settle true s v)
 unfolding departing
 look times s m back v e =
@@ -140,7 +141,7 @@ unfolding departing
 no-look s v = refl
 
 -- one departure at the most
-depart-law : (s m back : ℕ) (v : Node) → decided_in s v ≡ found.Member m back → Departed s m v (departing 1 s v)
+depart-law : (s m back : ℕ) (v : Node) → decided_in s v ≡ found m back → Departed s m v (departing 1 s v)
 depart-law s m back v e =
     subst (Departed s m v) (sym (look 0 s m back v e ∙ ap (λ (x : Node). cond (not (has v.present m)) (cond (eqb m v.own) (leave Unconfirmed v) x) (settle true s v)) (no-look s (with_set (without v.set m) v))))
     (departed-law s m v)
@@ -151,7 +152,7 @@ pub data Inside (s m : ℕ) (r : Reading) (v w : Node) : Type 0 where
   missed : Gone v w → Inside s m r v w
   went : read_return r v ≡ false → Departed s m (read_marked s r v) w → Inside s m r v w
 
-pub inside-law : (s m back : ℕ) (r : Reading) (v : Node) → decided_in s v ≡ found.Member m back → Inside s m r v (inside_slot 1 s r v)
+pub inside-law : (s m back : ℕ) (r : Reading) (v : Node) → decided_in s v ≡ found m back → Inside s m r v (inside_slot 1 s r v)
 unfolding inside_slot
 inside-law s m back r v e =
     choose (λ (w : Node). Inside s m r v w) (read_return r v) (leave MissedReturn v) (departing 1 s (read_marked s r v))

@@ -9,7 +9,7 @@ use lib.Dec.{eqb}
 use borrow.Author.Tests.{eq-eqb}
 use Rattle.bench.specs.nodeset.Sets.{has}
 use Rattle.bench.specs.ring.Ring.{sender}
-use Rattle.bench.specs.message.declared.Reading.{Reading}
+use Rattle.bench.specs.message.Answers.{Reading}
 use Rattle.bench.specs.node_record.declared.Node.{Node}
 use Rattle.bench.specs.node_record.declared.State.{State}
 use Rattle.bench.specs.node_record.declared.State.TheVariants.{Member, Listening, Following, Knocking, Out}

@@ -1,8 +1,8 @@
 -- Whom a message reaches: by whose slot it is, what is lost, who is named, who sends. Assumes nothing.
+use Rattle.std.specs.Prelude.{Err, Ok}
 use mathlib.Core.Path.{◌≡◌, refl, sym}
 use mathlib.Core.Bool.{Bool, true, false, cond, not, ◌&&◌, ◌||◌, true≢false, false≢true}
-use Rattle.bench.specs.message.declared.Reading.{Reading}
-use Rattle.bench.specs.message.declared.Reading.TheVariants as reading
+use Rattle.bench.specs.message.Answers.{Reading}
 use Rattle.bench.specs.node_record.declared.State.{State}
 use Rattle.bench.specs.node_record.declared.State.TheVariants.{Member, Listening, Following, Knocking, Out}
 use Rattle.bench.specs.node_record.States.{is_member, is_listening, is_following, is_out}
@@ -35,8 +35,8 @@ hear-message false false false true q e = refl
 hear-message false false false false q e = absurd (false≢true e)
 
 pub unheard-bits : (r : Reading) → is_heard r ≡ false → bits_heard r ≡ 0
-unheard-bits (reading.Heard bits bit) e = absurd (true≢false e)
-unheard-bits (reading.Refused c) e = refl
+unheard-bits (Ok h) e = absurd (true≢false e)
+unheard-bits (Err c) e = refl
 
 pub unreached : (tr lo mi ow : Bool) → (tr && not lo) ≡ false → ((tr && (not lo && not mi)) && not ow) ≡ false
 unreached false lo mi ow e = refl

@@ -1,4 +1,5 @@
 -- What a slot of the bench makes of a record, and what the message of a member says. Assumes nothing.
+use Rattle.std.specs.Prelude.{Option}
 use Prim.Native.Nat.{ℕ, suc, ◌+◌, ◌≤◌, ◌<◌}
 use mathlib.Core.Path.{◌≡◌, ap, ap₂, ◌∙◌}
 use mathlib.Core.Bool.{Bool, true, cond, ◌||◌}
@@ -10,8 +11,7 @@ use Rattle.bench.proofs.nodeset.Tests.{chosen}
 use Rattle.bench.specs.cable.declared.Cable.{Cable}
 use Rattle.bench.specs.ring.declared.Found.{Found}
 use Rattle.bench.specs.ring.Ring.{sender, sponsors, sponsored, member_in}
-use Rattle.bench.specs.message.declared.Reading.{Reading}
-use Rattle.bench.specs.message.declared.Reading.TheVariants as reading
+use Rattle.bench.specs.message.Answers.{Reading}
 use Rattle.bench.specs.node_record.declared.Node.{Node}
 use Rattle.bench.specs.node_record.States.{is_member}
 use Rattle.bench.specs.node_record.Soundness.{sound, limit}
@@ -27,17 +27,18 @@ use Rattle.bench.specs.Table.{Table, record_of, speaker}
 use Rattle.bench.specs.Calls.{transmits, unheard, spoken, heard_by, table_after_slot}
 use Rattle.bench.proofs.Counted.{step-done}
 use Rattle.bench.proofs.Runs.{heard-unless, after-slot-record}
+use Rattle.bench.specs.message.Answers.{heard_with}
 
 -- what the record with the number i reads of a slot of s
 abbrev pub read_of : ℕ → Bool → ℕ → Table → ℕ → Reading
 read_of s lost missed t i =
-    cond (eqb s (record_of t i).own) unheard (cond (lost || has missed i) unheard (cond (transmits t) (reading.Heard (bits_sent (record_of t s)) (return_sent (record_of t s))) unheard))
+    cond (eqb s (record_of t i).own) unheard (cond (lost || has missed i) unheard (cond (transmits t) (heard_with (bits_sent (record_of t s)) (return_sent (record_of t s))) unheard))
 
 pub read_is : (s : ℕ) (lost : Bool) (missed : ℕ) (t : Table) (i : ℕ) → speaker t ≡ s → cond (eqb s (record_of t i).own) unheard (heard_by lost missed t i) ≡ read_of s lost missed t i
 unfolding spoken
 read_is s lost missed t i e =
     ap (cond (eqb s (record_of t i).own) unheard)
-    (heard-unless lost missed t i ∙ ap (λ (x : ℕ). cond (lost || has missed i) unheard (cond (transmits t) (reading.Heard (bits_sent (record_of t x)) (return_sent (record_of t x))) unheard)) e)
+    (heard-unless lost missed t i ∙ ap (λ (x : ℕ). cond (lost || has missed i) unheard (cond (transmits t) (heard_with (bits_sent (record_of t x)) (return_sent (record_of t x))) unheard)) e)
 
 pub record-after : (s : ℕ) (lost : Bool) (missed : ℕ) (t : Table) (i : ℕ) → 1 ≤ i → i ≤ length t → sound (record_of t i) ≡ true → (record_of t i).slots < limit
     → sender (record_of t i).cable ((record_of t i).slots + 1) ≡ s → speaker t ≡ s
@@ -56,5 +57,5 @@ unfolding bits_sent
 sent-bits cable L s z mem c set own most j x h e =
     ap (λ (b : ℕ). has b (suc j)) (chosen _ _ mem ∙ ap (λ (q : ℕ). mark_bits q z) (ap₂ sponsors c set))
     ∙ has-mark_bits z (sponsors cable L) (suc j) (omega arith) (omega arith) most
-    ∙ ap (λ (f : Found). has z.present (member_in f))
+    ∙ ap (λ (f : Option Found). has z.present (member_in f))
     (ap₂ (λ (d : Cable) (y : ℕ). sponsored d y z.own (suc j)) c set ∙ ap (λ (y : ℕ). sponsored cable L y (suc j)) own ∙ e.it)

@@ -1,4 +1,5 @@
 -- A listed slot: departure at each node, and what the return bits tell of a knock. Assumes nothing.
+use Rattle.std.specs.Prelude.{Err, Ok}
 use Prim.Native.Nat.{ℕ, zero, suc, ◌+◌, ◌-◌, ◌≤◌, ◌<◌}
 use mathlib.Core.Path.{◌≡◌, refl, sym, ap, ◌∙◌}
 use mathlib.Core.Logic.{◌≢◌, ◌⊎◌, inl, inr}
@@ -11,11 +12,9 @@ use Rattle.bench.specs.nodeset.Sums.{num}
 use Rattle.bench.specs.nodeset.Sets.{has}
 use Rattle.bench.proofs.nodeset.Tests.{by_cases, both, all}
 use Rattle.bench.proofs.nodeset.Sums.{num-le}
-use Rattle.bench.specs.ring.declared.Found.TheVariants as found
 use Rattle.bench.specs.ring.Ring.{sender, member_before, is_found}
 use Rattle.bench.proofs.ring_laws.Senders.{sender-range}
-use Rattle.bench.specs.message.declared.Reading.{Reading}
-use Rattle.bench.specs.message.declared.Reading.TheVariants.{Heard, Refused}
+use Rattle.bench.specs.message.Answers.{Reading}
 use Rattle.bench.specs.node_record.declared.Node.{Node}
 use Rattle.bench.specs.node_record.declared.State.{State}
 use Rattle.bench.specs.node_record.declared.State.TheVariants.{Member, Listening, Following, Knocking, Out}
@@ -54,8 +53,8 @@ not-missed r v e z =
 
 -- a return bit of 1 is that of a message heard
 return-heard : (r : Reading) → return_in r ≡ true → is_heard r ≡ true
-return-heard (Heard bits return_bit) e = refl
-return-heard (Refused c) e = absurd (false≢true e)
+return-heard (Ok h) e = refl
+return-heard (Err c) e = absurd (false≢true e)
 
 pub not-knocking : (st : State) → is_member st ≡ true → is_knocking st ≡ false
 not-knocking Member f = refl

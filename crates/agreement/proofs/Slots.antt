@@ -11,11 +11,9 @@ use borrow.Author.Tests.{eq-eqb, ne_eqb}
 use Rattle.bench.specs.nodeset.Sets.{has, size}
 use Rattle.bench.proofs.nodeset.Tests.{by_cases, otherwise}
 use Rattle.bench.specs.cable.declared.Cable.{Cable}
-use Rattle.bench.specs.ring.declared.Found.TheVariants as found
 use Rattle.bench.specs.ring.Ring.{sender, sponsored}
 use Rattle.bench.proofs.ring_laws.Senders.{sender-range, sender-period}
-use Rattle.bench.specs.message.declared.Reading.{Reading}
-use Rattle.bench.specs.message.declared.Reading.TheVariants as reading
+use Rattle.bench.specs.message.Answers.{Reading}
 use Rattle.bench.specs.node_record.declared.Node.{Node}
 use Rattle.bench.specs.node_record.States.{is_member, is_listening, is_out}
 use Rattle.bench.specs.node_record.Soundness.{sound, limit}
@@ -46,6 +44,7 @@ use Rattle.bench.proofs.Runs.{after-slot-length}
 use Rattle.agreement.proofs.Records.{read_of, read_is, record-after, sent-bits}
 use Rattle.agreement.proofs.Tables.{TableInv, Witness, witness, list-is, slots_at}
 use Rattle.agreement.proofs.Reached.{hear, hear-message, unheard-bits, unreached, and_no, reached, sent-parts, not-out, listening-neither, sends-tracks}
+use Rattle.bench.specs.message.Answers.{heard_with}
 
 module _ (W : World) where
   open W use {cable, n_pos, turns, n-most, k_lt, E}
@@ -98,7 +97,7 @@ module _ (W : World) where
 
     -- its message
     abbrev pub message : Reading
-    message = reading.Heard (bits_sent (record_of t s)) (return_sent (record_of t s))
+    message = heard_with (bits_sent (record_of t s)) (return_sent (record_of t s))
 
     -- what node i hears
     abbrev pub hd : ℕ → Reading

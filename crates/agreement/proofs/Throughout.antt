@@ -1,4 +1,5 @@
 -- The distance that the bench's call tells, of a look and of a slot, is 0 after each call of a sequence that keeps the premises. Assumes nothing.
+use Rattle.std.specs.Prelude.{Err, Ok}
 use Prim.Native.Nat.{ℕ, ◌≤◌}
 use mathlib.Core.Path.{◌≡◌, sym, ap, ◌∙◌, subst}
 use mathlib.Core.Bool.{true, false≢true}
@@ -9,8 +10,7 @@ use Rattle.bench.specs.nodeset.Sets.{distance}
 use Rattle.bench.specs.cable.declared.Cable.{Cable}
 use Rattle.bench.proofs.cable.Ranges.{ring-size, fitting}
 use Rattle.bench.proofs.Ledgers.{given_made}
-use Rattle.bench.specs.node.declared.Answer.{Answer}
-use Rattle.bench.specs.node.declared.Answer.TheVariants.{Done, Refused}
+use Rattle.bench.specs.node.Answers.{Answer}
 use Rattle.bench.specs.node.Calls.{is_done}
 use Rattle.bench.specs.Table.{Table, record_of, node_count}
 use Rattle.bench.specs.Calls.{set_up_of, slot_of, look_of, greatest, Called}
@@ -61,8 +61,8 @@ module _ (cable : Cable) (pos : 1 ≤ cable.n) (start : Table) (begins : Placed 
       subst (λ (c : Called). NoDistance (slot_outcome lost t c.table c.answer)) (sym is) (go (slot_of lost missed room t).answer (sym (ap (λ (c : Called). is_done c.answer) is) ∙ e))
     where
       go : (a : Answer) → is_done a ≡ true → NoDistance (slot_outcome lost (table_after start cs) (slot_of lost missed room (table_after start cs)).table a)
-      go Done e = told-zero (slot lost missed room ∷ cs) h
-      go (Refused cause) e = absurd (false≢true e)
+      go (Ok _) e = told-zero (slot lost missed room ∷ cs) h
+      go (Err cause) e = absurd (false≢true e)
   slot-tells (off a) cs h = tt
   slot-tells (restart a) cs h = tt
 

@@ -1,9 +1,8 @@
 -- Request j: "The agreement is to be shown once for both lags." Of a cable without lag it is the demand of document 01, whose words each definition of it then has that request j changed.
-use Rattle.std.specs.Prelude.{ℕ, ◌+◌, ◌-◌, ◌≤◌, min, ◌≡◌, true, cond, ◌&&◌, List, ◌∷◌, eqb, leb, length}
+use Rattle.std.specs.Prelude.{ℕ, ◌+◌, ◌-◌, ◌≤◌, min, ◌≡◌, true, cond, ◌&&◌, List, ◌∷◌, eqb, leb, length, None}
 use Rattle.bench.specs.nodeset.Sets.{size}
 use Rattle.bench.specs.slot_table.Order.{is_kept}
 use Rattle.bench.specs.cable.declared.Cable.{Cable}
-use Rattle.bench.specs.ring.declared.Found.TheVariants.{Nobody}
 use Rattle.bench.specs.cable.Cable.{ring_size, job_count}
 use Rattle.bench.specs.ring.Ring.{sender, ks, member_before, sponsors, sponsored}
 use Rattle.bench.specs.Table.{Table, slots_of, speaker}
@@ -20,7 +19,7 @@ module _ (n k m : ℕ) (order : List ℕ) where
     -- "With c members, ks is the smaller of k and c - 1."
     pub ks-is : (c : ℕ) → ks plain c ≡ min k (c - 1)
     -- "A member sponsors the ks members before it": the j-th of those.
-    pub sponsored-is : (set x j : ℕ) → sponsored plain set x j ≡ cond (leb 1 j && leb j (sponsors plain set)) (member_before plain set x j) Nobody
+    pub sponsored-is : (set x j : ℕ) → sponsored plain set x j ≡ cond (leb 1 j && leb j (sponsors plain set)) (member_before plain set x j) None
     -- "It keeps k + 1 members if .. its set holds that many as each slot begins and as it ends."
     pub keeps-is : (run : List Call → Table) (c : Call) (cs : List Call)
         → KeepsListOn plain run c cs ≡ (is_slot c (run cs) ≡ true → (k + 1 ≤ size n (list_of (run cs))) × (k + 1 ≤ size n (list_of (run (c ∷ cs)))))

@@ -4,7 +4,7 @@ use Rattle.std.specs.Prelude.{ℕ, ◌+◌, ◌≤◌, ◌≡◌, Bool, true, co
 use Rattle.bench.specs.nodeset.Sums.{sum, num}
 use Rattle.bench.specs.nodeset.Sets.{has}
 use Rattle.bench.specs.cable.declared.Cable.{Cable}
-use Rattle.bench.specs.message.declared.Reading.{Reading}
+use Rattle.bench.specs.message.Answers.{Reading}
 use Rattle.bench.specs.node_record.declared.Node.{Node}
 use Rattle.bench.specs.node_changes.Changes.{counted}
 use Rattle.bench.specs.node_steps.Steps.{slot_with}

@@ -8,7 +8,7 @@ use Rattle.cable.specs.nodeset.Sets.{has, without}
 use Rattle.cable.proofs.nodeset.Tests.{chosen, otherwise}
 use Rattle.cable.specs.declared.Cable.{Cable}
 use Rattle.node.specs.ring.Ring.{member_in, sender}
-use Rattle.node.specs.message.declared.Reading.{Reading}
+use Rattle.node.specs.message.Answers.{Reading}
 use Rattle.node.specs.node_record.declared.Node.{Node}
 use Rattle.node.specs.node_record.declared.Window.{Window}
 use Rattle.node.specs.node_record.declared.State.{State}

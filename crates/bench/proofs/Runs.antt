@@ -15,7 +15,7 @@ use Rattle.cable.proofs.nodeset.Tests.{by_cases, both, all}
 use Rattle.cable.specs.declared.Cable.{Cable}
 use Rattle.cable.specs.Cable.{node_number, cable_fits}
 use Rattle.cable.proofs.Ranges.{fitting}
-use Rattle.node.specs.message.declared.Reading.{Reading}
+use Rattle.node.specs.message.Answers.{Reading}
 use Rattle.node.specs.node_record.declared.Node.{Node}
 use Rattle.node.specs.node_record.Soundness.{limit, sound}
 use Rattle.node.specs.node_changes.Changes.{starting}

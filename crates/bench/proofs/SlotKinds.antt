@@ -9,7 +9,7 @@ use lib.Dec.{eqb, leb, ltb}
 use Rattle.cable.specs.nodeset.Sets.{has, without, size}
 use Rattle.cable.proofs.nodeset.Tests.{both}
 use Rattle.node.specs.ring.Ring.{sender, member_in}
-use Rattle.node.specs.message.declared.Reading.{Reading}
+use Rattle.node.specs.message.Answers.{Reading}
 use Rattle.node.specs.node_record.declared.Node.{Node}
 use Rattle.node.specs.node_record.declared.Cause.{Cause}
 use Rattle.node.specs.node_record.declared.Cause.TheVariants.{Unconfirmed, NothingHeard, MissedReturn}

@@ -1,4 +1,5 @@
 -- Conversion each way loses nothing of a sound table, and what a call leaves of any held table stands for what the rules leave (specs/Held). Assumes nothing.
+use Rattle.std.specs.Prelude.{Err, Ok}
 use Prim.Native.Nat.{ℕ, suc, ◌≤◌}
 use mathlib.Core.Path.{◌≡◌, refl, sym, ap₂, subst}
 use mathlib.Core.Bool.{Bool, true, false, true≢false}
@@ -19,8 +20,7 @@ use Rattle.node.specs.node_record.States.{is_out}
 use Rattle.node.specs.node_record.Soundness.{limit, sound}
 use Rattle.node.specs.node_record.Held.{setted}
 use Rattle.node.proofs.node_record.Holding.{node-back, held_back}
-use Rattle.node.specs.declared.Answer.{Answer}
-use Rattle.node.specs.declared.Answer.TheVariants as answer
+use Rattle.node.specs.Answers.{Answer}
 use Rattle.node.specs.Calls.{is_done}
 use Rattle.bench.specs.declared.Command.{Command}
 use Rattle.bench.specs.declared.Command.TheVariants as command
@@ -202,8 +202,8 @@ pub stands : (t : HeldTable) (called : Called) → Keeps (setted_all t) called �
 stands t called keeps made = go called.answer keeps made
   where
     go : (a : Answer) → (is_done a ≡ false → called.table ≡ setted_all t) → (is_done a ≡ true → table_sound called.table ≡ true) → setted_all (if_done a (rowed_all called.table) t) ≡ called.table
-    go answer.Done k m = table_kept called.table (m refl)
-    go (answer.Refused cause) k m = sym (k refl)
+    go (Ok _) k m = table_kept called.table (m refl)
+    go (Err cause) k m = sym (k refl)
 
 pub call-stands : CallStands
 unfolding kept_held kept_of

@@ -1,26 +1,24 @@
 -- What each call of the bench answers and what table it leaves, refusals included (document 01, "The bench" and "Causes and their numbers"; the ledger of document 02 is added in specs/Kept):
 -- "Checks run in table order, except that .. 4 comes just before 3 where n is taken from a record .. Off and restart don't test 5." A refused call
 -- leaves the table as it was.
-use Rattle.std.specs.Prelude.{ℕ, max, Bool, true, false, cond, ◌||◌, List, [], ◌∷◌, eqb, leb, ltb, length}
+use Rattle.std.specs.Prelude.{ℕ, max, Bool, true, false, cond, ◌||◌, List, [], ◌∷◌, eqb, leb, ltb, length, Err, None, Ok, Some}
 use Rattle.refusal.specs.Causes.{cause}
 use Rattle.cable.specs.nodeset.Sets.{has, within, distance}
 use Rattle.cable.specs.declared.Choices.{Choices}
 use Rattle.cable.specs.declared.Cable.{Cable}
 use Rattle.cable.specs.Cable.{cable_with, cable_fits, may_set_up, node_number, fault_of}
-use Rattle.node.specs.message.declared.Reading.{Reading}
-use Rattle.node.specs.message.declared.Reading.TheVariants as reading
+use Rattle.node.specs.message.Answers.{Reading}
 use Rattle.node.specs.node_record.States.{is_member, is_out}
 use Rattle.node.specs.node_record.Soundness.{limit}
 use Rattle.node.specs.node_changes.Changes.{starting}
 use Rattle.node.specs.node_sending.Sending.{sends, bits_sent, return_sent}
-use Rattle.node.specs.declared.Answer.{Answer}
-use Rattle.node.specs.declared.Answer.TheVariants.{Done, Refused}
+use Rattle.node.specs.Answers.{Answer}
 use Rattle.node.specs.Calls as node
-use Rattle.bench.specs.declared.Listed.{Listed}
-use Rattle.bench.specs.declared.Listed.TheVariants as listed
+use Rattle.bench.specs.Answers.{Listed}
 use Rattle.bench.specs.declared.Fate.{Fate}
 use Rattle.bench.specs.declared.Fate.TheVariants as fate
 use Rattle.bench.specs.Table.{Table, record_of, each, table_sound, node_count, slots_of, speaker}
+use Rattle.node.specs.message.Answers.{heard_with}
 
 -- The table after a call, and what is answered.
 pub record Called : Type 0 where
@@ -28,12 +26,12 @@ pub record Called : Type 0 where
   pub answer : Answer
 
 abbrev pub done : Table → Called
-done t = record { table = t; answer = Done }
+done t = record { table = t; answer = Ok tt }
 
 -- What comes of a call where a test holds; where it does not, the refusal with this number.
 abbrev pub if_passed : Bool → ℕ → Table → Called → Called
 if_passed true number t called = called
-if_passed false number t called = record { table = t; answer = Refused (cause number) }
+if_passed false number t called = record { table = t; answer = Err (cause number) }
 
 -- ---- set-up: 1, 16, 2, 14, 17, 18 and 4
 
@@ -63,12 +61,12 @@ transmits t = sends (record_of t (speaker t))
 -- What is read where nothing is heard.
 -- (No bytes have the wrong length.)
 abbrev pub unheard : Reading
-unheard = reading.Refused (cause 6)
+unheard = Err (cause 6)
 
 -- What is read of the next slot's message by those that hear it. (The bytes that the node call `send` writes are read as just this: node's proofs/Sent.)
 unfoldable pub spoken : Table → Reading
 spoken t =
-    cond (transmits t) (reading.Heard (bits_sent (record_of t (speaker t))) (return_sent (record_of t (speaker t)))) unheard
+    cond (transmits t) (heard_with (bits_sent (record_of t (speaker t))) (return_sent (record_of t (speaker t)))) unheard
 
 -- "One slot takes: message lost to all or not, and which nodes miss it. .. A lost message is heard by nobody, named or not." A sender hears nothing in
 -- its own slot and in a silent slot there is nothing to hear, so that being named changes nothing there.
@@ -117,8 +115,8 @@ look_of t = if_passed (table_sound t) 4 t (done t)
 
 -- "The list is the set of the lowest-numbered member-state node".
 unfoldable pub list_in : Table → Listed
-list_in [] = listed.Nobody
-list_in (v ∷ t) = cond (is_member v.state) (listed.Set v.set) (list_in t)
+list_in [] = None
+list_in (v ∷ t) = cond (is_member v.state) (Some v.set) (list_in t)
 
 -- The greatest distance of a set from those of the members of a table.
 unfoldable pub farthest : ℕ → ℕ → Table → ℕ

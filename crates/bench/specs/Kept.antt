@@ -1,13 +1,12 @@
 -- The calls with the ledger and the counts of failure reports that are lent beside the table (document 02, requests a and h): "In slot and off, a ledger whose length is not n, or with a count
 -- above the slot count plus one: 13, just before 5." "A report count above the slot count, or not one array of counts per node in set-up or bench slot, gives 4". The other calls neither test nor change them.
-use Rattle.std.specs.Prelude.{ℕ, ◌+◌, ◌≡◌, ◌⊎◌, Bool, List, eqb, length}
+use Rattle.std.specs.Prelude.{ℕ, ◌+◌, ◌≡◌, ◌⊎◌, Bool, List, eqb, length, Err, Ok}
 use Rattle.refusal.specs.Causes.{cause}
 use Rattle.cable.specs.nodeset.Sets.{within}
 use Rattle.cable.specs.declared.Choices.{Choices}
 use Rattle.cable.specs.Cable.{cable_with, may_set_up, node_number, fault_of}
 use Rattle.node.specs.node_reports.Reports.{Counts, no_reports_at}
-use Rattle.node.specs.declared.Answer.{Answer}
-use Rattle.node.specs.declared.Answer.TheVariants as answer
+use Rattle.node.specs.Answers.{Answer}
 use Rattle.bench.specs.declared.Command.{Command}
 use Rattle.bench.specs.declared.Command.TheVariants as command
 use Rattle.bench.specs.declared.Reply.{Reply}
@@ -59,13 +58,13 @@ abbrev pub OnlyRefuses : Type 0
 OnlyRefuses =
     (c : Command) (slots : List ℕ) (room : ℕ) (ledger : Ledger) (counts : List Counts) (t : Table)
     → (called_with c slots room ledger counts t ≡ called_of c slots room t)
-    ⊎ ((called_with c slots room ledger counts t ≡ record { table = t; answer = answer.Refused (cause 13) })
-    ⊎ (called_with c slots room ledger counts t ≡ record { table = t; answer = answer.Refused (cause 4) }))
+    ⊎ ((called_with c slots room ledger counts t ≡ record { table = t; answer = Err (cause 13) })
+    ⊎ (called_with c slots room ledger counts t ≡ record { table = t; answer = Err (cause 4) }))
 
 -- What a call that was made leaves; a refused one changes nothing.
 abbrev pub if_done : {A : Type 0} → Answer → A → A → A
-if_done answer.Done after before = after
-if_done (answer.Refused cause) after before = before
+if_done (Ok _) after before = after
+if_done (Err cause) after before = before
 
 -- ---- the ledger
 

@@ -1,10 +1,9 @@
 -- What each call leaves and answers (document 01, "The bench" and "The bench program"; the ledger and the counts of document 02 are added in specs/Kept).
-use Rattle.std.specs.Prelude.{ℕ, Bool, List, ltb}
+use Rattle.std.specs.Prelude.{ℕ, Bool, List, ltb, Err, Ok}
 use Rattle.cable.specs.nodeset.Sets.{within}
 use Rattle.node.specs.message.Message.{jobs_within}
 use Rattle.node.specs.node_record.Soundness.{limit}
-use Rattle.node.specs.declared.Answer.{Answer}
-use Rattle.node.specs.declared.Answer.TheVariants as answer
+use Rattle.node.specs.Answers.{Answer}
 use Rattle.bench.specs.declared.Command.{Command}
 use Rattle.bench.specs.declared.Command.TheVariants as command
 use Rattle.bench.specs.declared.Outcome.{Outcome}
@@ -37,14 +36,14 @@ called_of (command.Look lost) slots room t = look_of t
 -- "Each slot prints: slot, sender, fate .., the set of the lowest-numbered member .., the greatest distance between sets of two members". Sender and fate are
 -- those of the table before the slot, the others those of the table after it.
 abbrev pub slot_outcome : Bool → Table → Table → Answer → Outcome
-slot_outcome lost before after answer.Done =
+slot_outcome lost before after (Ok _) =
     outcome.Slot (slots_of after) (speaker before) (fate_of lost before) (list_in after) (greatest (node_count after) after)
-slot_outcome lost before after (answer.Refused cause) = outcome.Refused cause
+slot_outcome lost before after (Err cause) = outcome.Refused cause
 
 -- "`off a` and `on a` switch or restart a node, no slot": nothing is printed of them, and nothing of line one.
 abbrev pub quiet_outcome : Answer → Outcome
-quiet_outcome answer.Done = outcome.Quiet
-quiet_outcome (answer.Refused cause) = outcome.Refused cause
+quiet_outcome (Ok _) = outcome.Quiet
+quiet_outcome (Err cause) = outcome.Refused cause
 
 -- A look leaves the table as it is: the slots done, the next slot's sender and fate, the list and the distance are all told of it.
 abbrev pub outcome_of : Command → Table → Called → Outcome

@@ -1,10 +1,9 @@
 -- The pairs of a slot (document 01, "The bench"): "two bytes per node whose state changed: node, then kind .. the bytes after them are untouched, and the
 -- number of pairs is returned." Their order is that of document 02, request c.
-use Rattle.std.specs.Prelude.{ℕ, suc, Bool, cond, not, ◌&&◌, ◌||◌, List, [], ◌∷◌, ◌++◌, eqb, length, drop}
+use Rattle.std.specs.Prelude.{ℕ, suc, Bool, cond, not, ◌&&◌, ◌||◌, List, [], ◌∷◌, ◌++◌, eqb, length, drop, Err, Ok}
 use Rattle.node.specs.node_record.declared.State.{State}
 use Rattle.node.specs.node_record.States.{is_member, is_listening, is_following, is_knocking, is_out}
-use Rattle.node.specs.declared.Answer.{Answer}
-use Rattle.node.specs.declared.Answer.TheVariants as answer
+use Rattle.node.specs.Answers.{Answer}
 use Rattle.bench.specs.Table.{Table}
 use Rattle.bench.specs.Calls.{Called}
 
@@ -60,13 +59,13 @@ abbrev pub pairs_told : Table → Called → ℕ
 pairs_told before called = go called.answer
   where
     go : Answer → ℕ
-    go answer.Done = length (pairs_in before called.table)
-    go (answer.Refused cause) = 0
+    go (Ok _) = length (pairs_in before called.table)
+    go (Err cause) = 0
 
 -- The lent bytes after a slot: the pairs, and after them what stood there; a slot that is refused changes no byte.
 abbrev pub slot_bytes : Table → Called → List ℕ → List ℕ
 slot_bytes before called out = go called.answer
   where
     go : Answer → List ℕ
-    go answer.Done = let bytes = pair_bytes (pairs_in before called.table) in bytes ++ drop (length bytes) out
-    go (answer.Refused cause) = out
+    go (Ok _) = let bytes = pair_bytes (pairs_in before called.table) in bytes ++ drop (length bytes) out
+    go (Err cause) = out

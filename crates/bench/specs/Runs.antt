@@ -1,11 +1,10 @@
 -- Sequences of bench calls from a common start, and what each of their slots was (document 01, "The bench"). The calls are folded over the definitions of
 -- specs/Calls, of which those that the bench's contracts cite are made: with ledger, counts and job byte the tests of these, 13, 4 and 8, come to them (specs/Kept, `OnlyRefuses`). A sequence of calls is a list with THE LATEST FIRST.
-use Rattle.std.specs.Prelude.{ℕ, ◌+◌, Bool, true, false, cond, not, ◌&&◌, List, [], ◌∷◌, eqb}
+use Rattle.std.specs.Prelude.{ℕ, ◌+◌, Bool, true, false, cond, not, ◌&&◌, List, [], ◌∷◌, eqb, None, Some}
 use Rattle.cable.specs.nodeset.Sums.{sum, num}
 use Rattle.cable.specs.nodeset.Sets.{has}
 use Rattle.node.specs.node_record.States.{is_member}
-use Rattle.bench.specs.declared.Listed.{Listed}
-use Rattle.bench.specs.declared.Listed.TheVariants as listed
+use Rattle.bench.specs.Answers.{Listed}
 use Rattle.bench.specs.Table.{Table, record_of, node_count, slots_of, speaker}
 use Rattle.bench.specs.Calls.{Called, slot_of, off_of, restart_of, transmits, list_in}
 use Rattle.node.specs.Calls.{is_done}
@@ -31,8 +30,8 @@ is_slot (restart a) t = false
 
 -- "The list is the set of the lowest-numbered member-state node": empty where there is none.
 abbrev pub set_in : Listed → ℕ
-set_in (listed.Set s) = s
-set_in listed.Nobody = 0
+set_in (Some s) = s
+set_in None = 0
 
 unfoldable pub list_of : Table → ℕ
 list_of t = set_in (list_in t)

@@ -18,13 +18,6 @@ pub enum Command {
     Look(bool),
 }
 
-// The set of the lowest-numbered member, if there is one.
-#[derive(Clone, Copy)]
-pub enum Listed {
-    Set(u32),
-    Nobody,
-}
-
 // What comes of a message: nothing is sent, it is lost, or it is sent, a knock or another.
 #[derive(Clone, Copy)]
 pub enum Fate {
@@ -35,12 +28,13 @@ pub enum Fate {
 }
 
 // What there is to print of a call: nothing, a slot (its number, sender, fate, and the list and the
-// distance after it), or why it is refused. A look tells the slots done, the next slot's sender and
-// fate, and the list and the distance as they are.
+// distance after it), or why it is refused. The list is the set of the lowest-numbered member, if there is
+// one. A look tells the slots done, the next slot's sender and fate, and the list and the distance as they
+// are. No `Result` of an `Option`: whoever prints takes the three cases apart at once.
 #[derive(Clone, Copy)]
 pub enum Outcome {
     Quiet,
-    Slot(u64, u32, Fate, Listed, u32),
+    Slot(u64, u32, Fate, Option<u32>, u32),
     Refused(Refusal),
 }
 

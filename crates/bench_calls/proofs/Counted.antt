@@ -26,7 +26,7 @@ use Rattle.bench.proofs.Reports.{next-sender}
 use Rattle.bench_work.specs.node_reports.Reports.{Counts, no_reports_at, counts_with, heard_from, heard_by}
 use Rattle.bench_work.specs.node_reports.Inner.{greatest_of}
 use Rattle.bench_work.proofs.node_reports.Laws.{nobody-hears}
-use Rattle.bench_orders.specs.message.declared.Reading.{Reading}
+use Rattle.bench_orders.specs.message.Answers.{Reading}
 use Rattle.bench_orders.specs.message.Message.{jobs_within}
 use Rattle.node_record.specs.declared.Node.{Node}
 use Rattle.node_record.specs.Soundness.{limit}

@@ -1,5 +1,6 @@
 -- What each call leaves and answers (bench's specs/Outcomes) is what its order leaves, through the conversion, and what is noted of it (bench_notes' specs/Notes). Of a slot and of a look: what was noted is the list of the
 -- table afterwards, and where all members hold that list the greatest distance is 0, so that only other tables are looked through for it. Assumes nothing.
+use Rattle.std.specs.Prelude.{None, Some}
 use Prim.Native.Nat.{ℕ, suc, ◌+◌, ◌≤◌, max, min}
 use mathlib.Core.Path.{◌≡◌, refl, sym, ap, ap₂, subst, ◌∙◌}
 use mathlib.Core.Bool.{Bool, true, false, cond, ◌&&◌, and_assoc, and_comm}
@@ -7,7 +8,7 @@ use mathlib.Core.List.{List, [], ◌∷◌}
 use native.Mathlib.Omega.{arith}
 use lib.Dec.{eqb, leb, ltb}
 use lib.ListN.{length, take}
-use lib.Seq.{take-length}
+use lib.Seq.{take_all}
 use borrow.Author.Tests.{eqb-true, ltb-true}
 use Rattle.bench.specs.refusal.declared.Refusal.{Refusal}
 use Rattle.bench.specs.refusal.declared.Refusal.TheVariants.{NodeNumber, Unsound, SlotLimit, OutputShort, NotOut, LedgerUnfit, SpareBit}
@@ -33,8 +34,7 @@ use Rattle.node_record.specs.States.{is_member}
 use Rattle.node_record.specs.Soundness.{limit}
 use Rattle.bench.specs.declared.Command.{Command}
 use Rattle.bench.specs.declared.Command.TheVariants as command
-use Rattle.bench.specs.declared.Listed.{Listed}
-use Rattle.bench.specs.declared.Listed.TheVariants as listed
+use Rattle.bench.specs.Answers.{Listed}
 use Rattle.bench.specs.declared.Fate.{Fate}
 use Rattle.bench.specs.declared.Outcome.{Outcome}
 use Rattle.bench.specs.declared.Outcome.TheVariants as outcome
@@ -58,7 +58,6 @@ use Rattle.bench.proofs.Standing.{length-setted, table_kept, call-sound}
 use Rattle.bench_orders.specs.Survey.{fold_from, map_from, survey_of, fine_table, no_members, members_of}
 use Rattle.bench_orders.specs.bench_notes.Notes.{list_with, lists_with, no_lists, noticed, no_notes}
 use Rattle.bench_orders.specs.Orders.{if_good, fate_by, turn_of, order_for, carried, carried_from, noticed_from, notes_of, answer_to, reach_of, outcome_by, reply_by}
-use Rattle.bench_walks.proofs.Partly.{take-least}
 use Rattle.bench_calls.proofs.Surveys.{Placed as At, placed, fine-table, said}
 use Rattle.bench_calls.proofs.Works.{called_fit, HeldCall, sent_on, called_by, slot-table, look-table, ran-by, called-by}
 use Rattle.bench_calls.proofs.Readings.{of-sound}
@@ -70,11 +69,11 @@ abbrev list-after : Listed → HeldTable → Listed
 list-after l [] = l
 list-after l (v ∷ t) = list-after (list_with l v) t
 
-list-stays : (set : ℕ) (t : HeldTable) → list-after (listed.Set set) t ≡ listed.Set set
+list-stays : (set : ℕ) (t : HeldTable) → list-after (Some set) t ≡ Some set
 list-stays set [] = refl
 list-stays set (v ∷ t) = list-stays set t
 
-list-found : (cable : Cable) (slots i : ℕ) (t : HeldTable) → placed_from cable slots i (setted_all t) ≡ true → list-after listed.Nobody t ≡ list_in (setted_all t)
+list-found : (cable : Cable) (slots i : ℕ) (t : HeldTable) → placed_from cable slots i (setted_all t) ≡ true → list-after None t ≡ list_in (setted_all t)
 unfolding list_in
 list-found cable slots i [] rows = refl
 list-found cable slots i (v ∷ t) rows =
@@ -84,9 +83,9 @@ list-found cable slots i (v ∷ t) rows =
     let u = setted_all t in
     by_cases (is_member v.state)
     (λ e.
-    ap (λ (l : Listed). list-after l t) (chosen (listed.Set nodes) listed.Nobody e) ∙ list-stays nodes t
-    ∙ ap listed.Set (set-held v p.good) ∙ sym (chosen (listed.Set set-of) (list_in u) e))
-    (λ e. ap (λ (l : Listed). list-after l t) (otherwise (listed.Set nodes) listed.Nobody e) ∙ list-found cable slots (suc i) t p.rest ∙ sym (otherwise (listed.Set set-of) (list_in u) e))
+    ap (λ (l : Listed). list-after l t) (chosen (Some nodes) None e) ∙ list-stays nodes t
+    ∙ ap Some (set-held v p.good) ∙ sym (chosen (Some set-of) (list_in u) e))
+    (λ e. ap (λ (l : Listed). list-after l t) (otherwise (Some nodes) None e) ∙ list-found cable slots (suc i) t p.rest ∙ sym (otherwise (Some set-of) (list_in u) e))
 
 abbrev lists_from : Lists → HeldTable → Lists
 lists_from s [] = s
@@ -113,7 +112,7 @@ holds row [] = true
 holds row (v ∷ t) = holds_at row v && holds row t
 
 abbrev listing : ℕ → Row → Bool → Lists
-listing x row b = record { list = listed.Set x; row = row; same = b }
+listing x row b = record { list = Some x; row = row; same = b }
 
 same-held : (b : Bool) (x : ℕ) (row : Row) (t : HeldTable) → (lists_from (listing x row b) t).same ≡ (b && holds row t)
 unfolding lists_with
@@ -169,7 +168,7 @@ same_none cable slots n i (v ∷ t) rows e = go (is_member v.state) (same_none c
     set-of = (setted v).set
 
     first : Bool → Lists
-    first b = record { list = cond b (listed.Set (nodes_in v.row)) listed.Nobody; row = cond b v.row (row_for []); same = true }
+    first b = record { list = cond b (Some (nodes_in v.row)) None; row = cond b v.row (row_for []); same = true }
 
     go : (b : Bool) → ((lists_from no_lists t).same ≡ true → greatest n u ≡ 0) → (lists_from (first b) t).same ≡ true → max (cond b (farthest n set-of u) 0) (greatest n u) ≡ 0
     go true ih e =
@@ -192,7 +191,7 @@ no-members (v ∷ t) = refl
 all-taken : (t : HeldTable) → table_sound (setted_all t) ≡ true → take 32 t ≡ t
 all-taken t ok =
     let most = (ring-size (length (setted_all t)) (said t ok).ring).1 in
-    sym (take-least 32 t) ∙ ap (λ (m : ℕ). take m t) (let e : min 32 (length t) ≡ length t = omega (arith, most, length-setted t) in e) ∙ take-length t
+    take_all 32 t (omega (arith, most, length-setted t))
 
 abbrev apart_in : Table → ℕ
 apart_in u = greatest (length u) u

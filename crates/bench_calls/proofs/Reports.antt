@@ -40,6 +40,7 @@ use Rattle.bench.specs.Pairs.{same_state, kind_from, Pair, pair_bytes, leaves, c
 use Rattle.bench_orders.specs.Survey.{fold_from, map_from, survey_of, fine_table}
 use Rattle.bench_orders.specs.bench_notes.Notes.{pushed, with_pair, no_pairs, in_group, with_one, grouped_to, ordered, noticed, no_notes}
 use Rattle.bench_orders.specs.Orders.{if_good, fate_by, turn_of, order_for, carried, noticed_from, notes_of, pairs_by, bytes_told, puts, written_by}
+use Rattle.bench_work.proofs.Puts.{all-put}
 use Rattle.bench_calls.proofs.Surveys.{placed, fine-table, said}
 use Rattle.bench_calls.proofs.Works.{called_fit, sent_on, called_by, called-by}
 
@@ -50,17 +51,6 @@ stored [] j a b h = absurd (let q : ⊥ = omega (arith, h) in q)
 stored (x ∷ []) zero a b h = absurd (let q : ⊥ = omega (arith, h) in q)
 stored (x ∷ y ∷ l) zero a b h = refl
 stored (x ∷ l) (suc j) a b h = ap {B = List ℕ} (λ r. x ∷ r) (stored l j a b (omega (arith, h)))
-
-one-put : (j : ℕ) (b out : List ℕ) → j < length b → j < length out → set (take j b ++ drop j out) j (get_or b j 0) ≡ take (suc j) b ++ drop (suc j) out
-one-put j [] out h k = absurd (let q : ⊥ = omega (arith, h) in q)
-one-put j (x ∷ b) [] h k = absurd (let q : ⊥ = omega (arith, k) in q)
-one-put zero (x ∷ b) (y ∷ out) h k = refl
-one-put (suc j) (x ∷ b) (y ∷ out) h k = ap {B = List ℕ} (λ r. x ∷ r) (one-put j b out (omega (arith, h)) (omega (arith, k)))
-
-all-put : (b out : List ℕ) (j : ℕ) → j ≤ length b → j ≤ length out → puts b j out ≡ take j b ++ drop j out
-unfolding puts
-all-put b out zero h k = refl
-all-put b out (suc j) h k = ap (λ (l : List ℕ). set l j (get_or b j 0)) (all-put b out j (omega (arith, h)) (omega (arith, k))) ∙ one-put j b out h k
 
 -- no pair is no byte
 none_written : (b out : List ℕ) → puts b (bytes_told 0 (length out)) out ≡ out

@@ -1,6 +1,7 @@
 -- An order carried out (bench_orders' specs/Orders) is, through the conversion, the call that asked for it (bench's specs/Calls): off, restart, set-up and slot. The survey decides as the table does
 -- (`Surveys.antt`), and in a sound table a record's own number is its place. In a slot each record goes by the digest of the speaker's row,
 -- or what it finds by itself (node_slot's proofs/Holding). Assumes nothing.
+use Rattle.std.specs.Prelude.{Err, Ok}
 use Prim.Native.Nat.{ℕ, suc, ◌+◌, ◌-◌, ◌<◌, ◌≤◌, ◌^◌}
 use mathlib.Core.Path.{◌≡◌, refl, sym, ap, ap₂, subst, ◌∙◌}
 use mathlib.Core.Bool.{Bool, true, false, cond, ◌||◌}
@@ -22,8 +23,7 @@ use Rattle.node_record.proofs.cable.Ranges.{ring-size, fitting, node-number}
 use Rattle.node_record.proofs.ring_laws.Senders.{turns-of, sender-range}
 use Rattle.bench.specs.Reports.{jobs_on}
 use Rattle.bench_orders.specs.message.Message.{jobs_within}
-use Rattle.bench_orders.specs.message.declared.Reading.{Reading}
-use Rattle.bench_orders.specs.message.declared.Reading.TheVariants as reading
+use Rattle.bench_orders.specs.message.Answers.{Reading}
 use Rattle.node_record.specs.declared.Node.{Node}
 use Rattle.node_record.specs.declared.Held.{Held}
 use Rattle.node_record.specs.declared.Cause.TheVariants.{SwitchedOff}
@@ -44,8 +44,7 @@ use Rattle.bench_orders.proofs.node_sending.Holding.{bits-held}
 use Rattle.bench_orders.specs.node_slot.Held.{after_by}
 use Rattle.bench_orders.proofs.node_slot.Digests.{heard-told, sound-own, sound-marks}
 use Rattle.bench_orders.proofs.node_slot.Holding.{after-held}
-use Rattle.bench.specs.node.declared.Answer.{Answer}
-use Rattle.bench.specs.node.declared.Answer.TheVariants as answer
+use Rattle.bench.specs.node.Answers.{Answer}
 use Rattle.bench.specs.node.Calls as node
 use Rattle.bench.specs.node.Calls.{Stepped, no_node}
 use Rattle.bench.proofs.node.Holding.{good_of}
@@ -70,6 +69,7 @@ use Rattle.bench_orders.specs.Survey.{map_from, survey_of, fine_table}
 use Rattle.bench_orders.specs.Orders.{if_good, spoken_by, digest_for, digest_in, turn_of, order_for, heard_at, step_at, errand_of, carried_by, carried, carried_from, fate_by, answer_to, all_fit}
 use Rattle.bench_work.specs.Work.{choices_in}
 use Rattle.bench_calls.proofs.Surveys.{Placed, placed, fine-table, Said, said}
+use Rattle.bench_orders.specs.message.Answers.{heard_with}
 
 -- ---- each record
 
@@ -144,7 +144,7 @@ abbrev pub called_by : Beside → Order → HeldTable → Called
 called_by fits o t = record { table = setted_all (carried_from (sent_on fits o t) 0 t); answer = answer_to o }
 
 refuses : (number : ℕ) (fits : Beside) (t : HeldTable) (u : Table) → ran_by fits (order.Refuse (cause number)) t ≡ held_call t (if_passed false number u (done u))
-refuses number fits t u = ap (λ (x : HeldTable). record { table = x; answer = answer.Refused (cause number) }) (refused-table (cause number) (survey_of t) fits t)
+refuses number fits t u = ap (λ (x : HeldTable). record { table = x; answer = Err (cause number) }) (refused-table (cause number) (survey_of t) fits t)
 
 -- one test after the other
 passes : {b b' : Bool} (fits : Beside) (number : ℕ) (o : Order) (t : HeldTable) (u : Table) (c : Called) → b ≡ b' → (b' ≡ true → ran_by fits o t ≡ held_call t c) → ran_by fits (if_good b (cause number) o) t ≡ held_call t (if_passed b' number u c)
@@ -155,7 +155,7 @@ passes {b} {b'} fits number o t u c e h = ap (λ (d : Bool). ran_by fits (if_goo
     go false k = refuses number fits t u
 
 -- an order that is carried out
-ran : (fits : Beside) (o : Order) (t : HeldTable) (x : Table) → answer_to o ≡ answer.Done → carried_from (sent_on fits o t) 0 t ≡ rowed_all x → ran_by fits o t ≡ held_call t (done x)
+ran : (fits : Beside) (o : Order) (t : HeldTable) (x : Table) → answer_to o ≡ Ok tt → carried_from (sent_on fits o t) 0 t ≡ rowed_all x → ran_by fits o t ≡ held_call t (done x)
 ran fits o t x a e = ap₂ (λ (w : HeldTable) (b : Answer). record { table = w; answer = b }) e a
 
 off-node : (v : Node) → sound v ≡ true → out_for SwitchedOff v ≡ (node.off_of v).node
@@ -251,11 +251,11 @@ set-up-called choices room fits t =
 -- ---- a slot
 
 -- what the speaker says, by its row, is what the rules say
-pub spoken-held : (lost : Bool) (v : Node) → sound v ≡ true → spoken_by lost (rowed v) ≡ cond lost unheard (cond (sends v) (reading.Heard (rules.bits_sent v) (return_sent v)) unheard)
+pub spoken-held : (lost : Bool) (v : Node) → sound v ≡ true → spoken_by lost (rowed v) ≡ cond lost unheard (cond (sends v) (heard_with (rules.bits_sent v) (return_sent v)) unheard)
 spoken-held lost v good =
     let c = clauses v good in
     let own = node-number v.cable.n v.own c.own in
-    ap (λ (b : ℕ). cond lost unheard (cond (sends v) (reading.Heard b (return_sent v)) unheard)) (bits-held v c.choices.order own.0 own.1)
+    ap (λ (b : ℕ). cond lost unheard (cond (sends v) (heard_with b (return_sent v)) unheard)) (bits-held v c.choices.order own.0 own.1)
 
 -- what a node hears of it
 pub hears : (lost : Bool) (missed : ℕ) (u : Table) (i : ℕ) (said' : Held) → sound (record_of u (speaker u)) ≡ true → said' ≡ rowed (record_of u (speaker u)) → cond (has missed i) unheard (spoken_by lost said') ≡ heard_by lost missed u i
@@ -268,7 +268,7 @@ hears lost missed u i v good e =
     sp : Node
     sp = record_of u (speaker u)
 
-    go : (l m : Bool) → cond m unheard (cond l unheard (cond (sends sp) (reading.Heard (rules.bits_sent sp) (return_sent sp)) unheard)) ≡ cond (l || m) unheard (spoken u)
+    go : (l m : Bool) → cond m unheard (cond l unheard (cond (sends sp) (heard_with (rules.bits_sent sp) (return_sent sp)) unheard)) ≡ cond (l || m) unheard (spoken u)
     go true true = refl
     go true false = refl
     go false true = refl

@@ -1,13 +1,12 @@
 -- Inner: what is noted as a record changes: the pairs, who left and who joined, and the list. The laws in bench_calls' proofs/ tie it to bench's specs/Pairs, specs/Outcomes and specs/Ledger.
-use Rattle.std.specs.Prelude.{ℕ, zero, suc, ◌+◌, ◌*◌, min, Bool, true, false, cond, not, ◌&&◌, List, [], eqb, leb, ltb, get_or, set, replicate}
+use Rattle.std.specs.Prelude.{ℕ, zero, suc, ◌+◌, ◌*◌, min, Bool, true, false, cond, not, ◌&&◌, List, [], eqb, leb, ltb, get_or, set, replicate, None, Some}
 use Rattle.nodeset.specs.Sets.{with_if}
 use Rattle.row.specs.declared.Row.{Row}
 use Rattle.row.specs.Rows.{row_for, nodes_in}
 use Rattle.row.specs.Inner.{same_row}
 use Rattle.node_record.specs.declared.Held.{Held}
 use Rattle.node_record.specs.States.{is_member}
-use Rattle.bench.specs.declared.Listed.{Listed}
-use Rattle.bench.specs.declared.Listed.TheVariants as listed
+use Rattle.bench.specs.Answers.{Listed}
 use Rattle.bench.specs.Pairs.{same_state, kind_from}
 use Rattle.bench_notes.specs.declared.Pairs.{Pairs}
 use Rattle.bench_notes.specs.declared.Moves.{Moves}
@@ -56,23 +55,23 @@ no_moves = record { left = 0; joined = 0 }
 -- ---- the list, and whether all members hold it
 
 abbrev pub list_with : Listed → Held → Listed
-list_with listed.Nobody v = cond (is_member v.state) (listed.Set (nodes_in v.row)) listed.Nobody
-list_with (listed.Set set) v = listed.Set set
+list_with None v = cond (is_member v.state) (Some (nodes_in v.row)) None
+list_with (Some set) v = Some set
 
 -- The same as a row.
 abbrev pub row_with : Listed → Row → Held → Row
-row_with listed.Nobody row v = cond (is_member v.state) v.row row
-row_with (listed.Set set) row v = row
+row_with None row v = cond (is_member v.state) v.row row
+row_with (Some set) row v = row
 
 abbrev pub same_with : Listed → Row → Held → Bool
-same_with (listed.Set set) row v = cond (is_member v.state) (same_row row v.row) true
-same_with listed.Nobody row v = true
+same_with (Some set) row v = cond (is_member v.state) (same_row row v.row) true
+same_with None row v = true
 
 unfoldable pub lists_with : Lists → Held → Lists
 lists_with s v = record { list = list_with s.list v; row = row_with s.list s.row v; same = s.same && same_with s.list s.row v }
 
 abbrev pub no_lists : Lists
-no_lists = record { list = listed.Nobody; row = row_for []; same = true }
+no_lists = record { list = None; row = row_for []; same = true }
 
 -- ---- notes
 

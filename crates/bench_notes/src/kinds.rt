@@ -16,7 +16,8 @@ pub fn same_state(a: State, b: State) -> bool
     }
 }
 
-// The kind of a change; 0 where it is none of those of a slot.
+// The kind of a change, 1 to 6, as it stands in the lent bytes; 0 where it is none of those of a slot, by
+// the definition `kind_from`: no pair of a slot has it (`SlotKinds`).
 pub fn kind_from(a: State, b: State) -> u8
     ensures { result ≡ kind_from a b }
 {

@@ -8,12 +8,11 @@ mod kinds;
 ghost use Rattle.std.specs.Prelude.{◌≡◌, ◌<◌, min};
 ghost use Rattle.bench_notes.specs.Notes.{pushed, with_pair, no_pairs, in_group, with_one, grouped_to, ordered, moves_with, list_with, row_with, same_with, lists_with, noticed, no_notes};
 
-use bench::Listed;
 use kinds::{kind_from, same_state};
 use node_record::Held;
 use row::Row;
 
-// Pairs of a node and a kind.
+// Pairs of a node and a kind, as bytes in an array: there is no heap.
 #[derive(Clone, Copy)]
 pub struct Pairs {
     pub count: u32,
@@ -24,7 +23,7 @@ pub struct Pairs {
 // whether all members among them hold that row.
 #[derive(Clone, Copy)]
 pub struct Lists {
-    pub list: Listed,
+    pub list: Option<u32>,
     pub row: Row,
     pub same: bool,
 }
@@ -59,6 +58,7 @@ fn pushed(p: Pairs, x: u8, kind: u8) -> Pairs
 }
 
 // The pairs with that of a record, if its state changed.
+#[tactic(auto, unfolding(crate::specs::Notes::with_pair))]
 fn with_pair(p: Pairs, before: Held, after: Held) -> Pairs
     ensures { result ≡ with_pair p before after }
 {
@@ -73,6 +73,7 @@ fn with_pair(p: Pairs, before: Held, after: Held) -> Pairs
     p
 }
 
+#[tactic(auto, unfolding(crate::specs::Notes::no_pairs))]
 fn no_pairs() -> Pairs
     ensures { result ≡ no_pairs }
 {
@@ -86,13 +87,11 @@ fn no_pairs() -> Pairs
 fn in_group(left: bool, kind: u8) -> bool
     ensures { result ≡ in_group left kind }
 {
-    if left {
-        return kind == 1;
-    }
-    kind != 1
+    if left { kind == 1 } else { kind != 1 }
 }
 
 // The pairs with one more, if it is of the group.
+#[tactic(auto, unfolding(crate::specs::Notes::with_one))]
 fn with_one(p: Pairs, left: bool, x: u8, kind: u8) -> Pairs
     ensures { result ≡ with_one left p x kind }
 {
@@ -102,30 +101,28 @@ fn with_one(p: Pairs, left: bool, x: u8, kind: u8) -> Pairs
     p
 }
 
-// The pairs with those of a group, of the first so many of 32.
-fn grouped(p: Pairs, left: bool, bytes: [u8; 64], count: u32) -> Pairs
-    ensures { result ≡ grouped_to left bytes (min count 32) p }
+// The pairs with those of a group, of the first 32 of all.
+fn grouped(p: Pairs, left: bool, all: Pairs) -> Pairs
+    ensures { result ≡ grouped_to left all.bytes (min all.count 32) p }
 {
     let mut q = p;
-    let mut i: u32 = 0;
-    while i < count && i < 32 {
-        let at = i as usize * 2;
-        q = with_one(q, left, bytes[at], bytes[at + 1]);
-        i += 1;
+    for i in 0..all.count.min(32) as usize {
+        q = with_one(q, left, all.bytes[i * 2], all.bytes[i * 2 + 1]);
     }
     q
 }
 
 // The pairs in their order: those that left, then all others.
+#[tactic(auto, unfolding(crate::specs::Notes::ordered))]
 pub fn ordered(p: Pairs) -> Pairs
     ensures { result ≡ ordered p }
 {
-    let bytes = p.bytes;
-    let left = grouped(no_pairs(), true, bytes, p.count);
-    grouped(left, false, bytes, p.count)
+    let left = grouped(no_pairs(), true, p);
+    grouped(left, false, p)
 }
 
 // Who left and who joined, with one record more.
+#[tactic(auto, unfolding(crate::specs::Notes::moves_with))]
 fn moves_with(m: Moves, before: Held, after: Held) -> Moves
     ensures { result ≡ moves_with m before after }
 {
@@ -141,43 +138,43 @@ fn moves_with(m: Moves, before: Held, after: Held) -> Moves
 }
 
 // The list, with one record more.
-fn list_with(list: Listed, v: Held) -> Listed
+fn list_with(list: Option<u32>, v: Held) -> Option<u32>
     ensures { result ≡ list_with list v }
 {
     let state = v.state;
     let row = v.row;
     match list {
-        Listed::Nobody => {
+        None => {
             if node_record::is_member(state) {
-                Listed::Set(row_sets::nodes_in(row))
+                Some(row_sets::nodes_in(row))
             } else {
-                Listed::Nobody
+                None
             }
         }
-        Listed::Set(set) => Listed::Set(set),
+        Some(set) => Some(set),
     }
 }
 
 // The list as a row, with one record more.
-fn row_with(list: Listed, row: Row, v: Held) -> Row
+fn row_with(list: Option<u32>, row: Row, v: Held) -> Row
     ensures { result ≡ row_with list row v }
 {
     let state = v.state;
     let held = v.row;
     match list {
-        Listed::Nobody => {
+        None => {
             if node_record::is_member(state) {
                 held
             } else {
                 row
             }
         }
-        Listed::Set(_) => row,
+        Some(_) => row,
     }
 }
 
 // Whether a record is no member, or holds the list as far as it is known.
-fn same_with(list: Listed, row: Row, v: Held) -> bool
+fn same_with(list: Option<u32>, row: Row, v: Held) -> bool
     ensures { result ≡ same_with list row v }
 {
     let state = v.state;
@@ -186,8 +183,8 @@ fn same_with(list: Listed, row: Row, v: Held) -> bool
         return true;
     }
     match list {
-        Listed::Set(_) => row::same(row, held),
-        Listed::Nobody => true,
+        Some(_) => row::same(row, held),
+        None => true,
     }
 }
 
@@ -208,6 +205,7 @@ fn lists_with(lists: Lists, v: Held) -> Lists
 }
 
 // The notes with those of a record.
+#[tactic(auto, unfolding(crate::specs::Notes::noticed))]
 pub fn noticed(notes: Notes, before: Held, after: Held) -> Notes
     ensures { result ≡ noticed notes before after }
 {
@@ -231,7 +229,7 @@ pub fn no_notes() -> Notes
     let moves = Moves { left: 0, joined: 0 };
     let row = row::empty();
     let lists = Lists {
-        list: Listed::Nobody,
+        list: None,
         row,
         same: true,
     };

@@ -1,14 +1,13 @@
 -- Inner: what a call has each record of a table do, what is noted of all of them (bench_notes' specs/Notes), and what is answered. The laws in bench_calls' proofs/ tie it
 -- to bench's specs/Calls, specs/Pairs, specs/Outcomes and specs/Ledger.
-use Rattle.std.specs.Prelude.{ℕ, zero, suc, ◌+◌, ◌*◌, Bool, true, cond, ◌&&◌, List, eqb, leb, ltb, length, get_or, set}
+use Rattle.std.specs.Prelude.{ℕ, zero, suc, ◌+◌, ◌*◌, Bool, true, cond, ◌&&◌, List, eqb, leb, ltb, length, get_or, set, Err, Ok}
 use Rattle.refusal.specs.declared.Refusal.{Refusal}
 use Rattle.refusal.specs.declared.Refusal.TheVariants.{NodeNumber, Unsound, SlotLimit, SpareBit, OutputShort, NotOut, LedgerUnfit}
 use Rattle.refusal.specs.Causes.{cause}
 use Rattle.nodeset.specs.Sets.{has, within}
 use Rattle.cable.specs.declared.Cable.{Cable}
 use Rattle.cable.specs.Cable.{may_set_up, node_number, fault_of}
-use Rattle.message.specs.declared.Reading.{Reading}
-use Rattle.message.specs.declared.Reading.TheVariants as reading
+use Rattle.message.specs.Answers.{Reading}
 use Rattle.message.specs.Message.{jobs_within}
 use Rattle.row.specs.declared.Row.{Row}
 use Rattle.node_record.specs.declared.Held.{Held}
@@ -21,8 +20,7 @@ use Rattle.node_steps.specs.declared.Digest.{Digest}
 use Rattle.node_steps.specs.Held.{digest_of}
 use Rattle.node_sending.specs.Sending.{sends, return_sent}
 use Rattle.node_sending.specs.Held.{bits_sent}
-use Rattle.node.specs.declared.Answer.{Answer}
-use Rattle.node.specs.declared.Answer.TheVariants as answer
+use Rattle.node.specs.Answers.{Answer}
 use Rattle.node_slot.specs.Held.{after_by}
 use Rattle.bench.specs.declared.Command.{Command}
 use Rattle.bench.specs.declared.Command.TheVariants as command
@@ -34,8 +32,7 @@ use Rattle.bench_orders.specs.declared.Turn.{Turn}
 use Rattle.bench_notes.specs.declared.Notes.{Notes}
 use Rattle.bench_notes.specs.Notes.{ordered, noticed, no_notes}
 use Rattle.bench_orders.specs.declared.Members.{Members}
-use Rattle.bench.specs.declared.Listed.{Listed}
-use Rattle.bench.specs.declared.Listed.TheVariants as listed
+use Rattle.bench.specs.Answers.{Listed}
 use Rattle.bench_orders.specs.declared.Survey.{Survey}
 use Rattle.bench.specs.declared.Fate.{Fate}
 use Rattle.bench.specs.declared.Fate.TheVariants as fate
@@ -45,6 +42,7 @@ use Rattle.bench.specs.Calls.{unheard}
 use Rattle.bench.specs.declared.Reply.{Reply}
 use Rattle.bench.specs.Held.{HeldTable}
 use Rattle.bench_orders.specs.Survey.{fold_from, map_from, survey_of, fine_table}
+use Rattle.message.specs.Answers.{heard_with}
 
 -- ---- orders
 
@@ -69,7 +67,7 @@ restart_order a s size =
 
 -- What the speaker says, where it is heard.
 abbrev pub spoken_by : Bool → Held → Reading
-spoken_by lost v = cond lost unheard (cond (sends (setted v)) (reading.Heard (bits_sent v) (return_sent (setted v))) unheard)
+spoken_by lost v = cond lost unheard (cond (sends (setted v)) (heard_with (bits_sent v) (return_sent (setted v))) unheard)
 
 -- What comes of the speaker's message.
 abbrev pub fate_by : Bool → Held → Fate
@@ -170,12 +168,12 @@ notes_of o t = noticed_from o no_notes 0 t
 -- ---- what is answered
 
 abbrev pub answer_to : Order → Answer
-answer_to (order.Refuse cause) = answer.Refused cause
-answer_to order.Start = answer.Done
-answer_to (order.Off a) = answer.Done
-answer_to (order.Restart a) = answer.Done
-answer_to (order.Slot turn) = answer.Done
-answer_to (order.Look slots sender fate) = answer.Done
+answer_to (order.Refuse cause) = Err cause
+answer_to order.Start = Ok tt
+answer_to (order.Off a) = Ok tt
+answer_to (order.Restart a) = Ok tt
+answer_to (order.Slot turn) = Ok tt
+answer_to (order.Look slots sender fate) = Ok tt
 
 -- How many records are to be looked through for the distance: none where all members hold one set.
 abbrev pub reach_of : Notes → ℕ

@@ -1,9 +1,8 @@
 -- Inner: what one look over a table finds, record by record. The laws in bench_calls' proofs/ tie it to bench's specs/Table and specs/Calls.
-use Rattle.std.specs.Prelude.{ℕ, zero, suc, ◌+◌, ◌-◌, max, Bool, true, false, cond, ◌&&◌, List, [], ◌∷◌, eqb, leb, ltb, get_or, length, set, replicate}
+use Rattle.std.specs.Prelude.{ℕ, zero, suc, ◌+◌, ◌-◌, max, Bool, true, false, cond, ◌&&◌, List, [], ◌∷◌, eqb, leb, ltb, get_or, length, set, replicate, Err, Ok}
 use Rattle.nodeset.specs.Sets.{with_if, distance}
 use Rattle.ring.specs.Answers.{sender_of}
-use Rattle.ring.specs.declared.Speaker.{Speaker}
-use Rattle.ring.specs.declared.Speaker.TheVariants as speaker
+use Rattle.ring.specs.Answers.{Speaker}
 use Rattle.row.specs.Rows.{nodes_in}
 use Rattle.row.specs.Inner.{has_row}
 use Rattle.node_record.specs.declared.Held.{Held}
@@ -31,8 +30,8 @@ map_from f i (v ∷ t) = f i v ∷ map_from f (suc i) t
 
 -- The sender of the slot that follows those of a record, and 0 where its n is no ring's.
 abbrev pub node_in : Speaker → ℕ
-node_in (speaker.Node x) = x
-node_in (speaker.Refused cause) = 0
+node_in (Ok x) = x
+node_in (Err cause) = 0
 
 unfoldable pub sender_after : Held → ℕ
 sender_after v = node_in (sender_of v.cable (v.slots + 1))

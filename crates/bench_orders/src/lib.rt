@@ -7,7 +7,7 @@ mod orders;
 mod records;
 pub mod surveys;
 
-ghost use Rattle.std.specs.Prelude.{◌≡◌, ◌<◌, ◌≤◌, max};
+ghost use Rattle.std.specs.Prelude.{◌≡◌, ◌<◌, ◌≤◌};
 ghost use Rattle.bench_orders.specs.Survey.{surveyed, unseen, fine_table, far_from, member_seen, gathered, no_members};
 ghost use Rattle.bench_orders.specs.Orders.{order_of, errand_of, carried};
 
@@ -45,7 +45,8 @@ pub struct Beside {
     pub places: usize,
 }
 
-// The sets of the members, and the greatest distance of two of them.
+// The sets of the members, the first `count` places of an array (there is no heap), and the greatest
+// distance of two of them.
 #[derive(Clone, Copy)]
 pub struct Members {
     pub count: u32,
@@ -67,7 +68,8 @@ pub struct Turn {
 }
 
 // What each record is to do. A look, which has it do nothing, holds what is told of the next slot: the
-// slots before it, its sender, what comes of its message.
+// slots before it, its sender, what comes of its message. A refusal is one thing more to do, nothing, and
+// goes to each record with the others (`carried`): no `Result` of the other five.
 #[derive(Clone, Copy)]
 pub enum Order {
     Refuse(Refusal),
@@ -78,7 +80,7 @@ pub enum Order {
     Look(u64, u32, Fate),
 }
 
-// An order, the cable that set-up is asked for, and the row of the next sender: an enum holds no array.
+// An order, the cable that set-up is asked for, and the row of the next sender: `Order` holds no array.
 #[derive(Clone, Copy)]
 pub struct Errand {
     pub order: Order,
@@ -95,6 +97,7 @@ pub fn unseen() -> Survey
 }
 
 // The survey with the record at index i, the first of which gives cable and slots.
+#[tactic(auto, unfolding(crate::specs::Survey::surveyed))]
 pub fn surveyed(s: Survey, i: usize, v: Held) -> Survey
     ensures { result ≡ surveyed s i v }
 {
@@ -109,8 +112,9 @@ pub fn is_fine(s: Survey, size: usize) -> bool
     s.fine & (s.cable.n as usize == size)
 }
 
-// What a command has a table of so many records do, where so many bytes are lent for the pairs, and
-// ledger and counts fit or not.
+// What a command has a table of so many records do, where so many bytes are lent for the pairs, and ledger
+// and counts fit or not. The survey is made record by record and does not know how many there are, so the
+// size stands beside it.
 pub fn order_of(command: Command, s: Survey, size: usize, room: usize, beside: Beside) -> Order
     ensures { result ≡ order_of command s size room beside }
 {
@@ -133,6 +137,7 @@ pub fn sent_with(order: Order, s: Survey, beside: Beside) -> Errand
 }
 
 // The record at index i after an order.
+#[tactic(auto, unfolding(crate::specs::Orders::carried_by))]
 pub fn carried(errand: Errand, i: usize, v: Held) -> Held
     ensures { result ≡ carried errand i v }
 {
@@ -149,23 +154,14 @@ pub fn carried(errand: Errand, i: usize, v: Held) -> Held
     }
 }
 
-// The greater number.
-fn larger(a: u32, b: u32) -> u32
-    ensures { result ≡ max a b }
+// The greatest distance of a set from those gathered. Requires that they are not more than there is room for.
+fn far_from(n: u32, set: u32, m: Members) -> u32
+    requires { m.count ≤ 32 }
+    ensures { result ≡ far_from n set m.sets m.count }
 {
-    if a < b { b } else { a }
-}
-
-// The greatest distance of a set from the first so many of the sets. Requires that there are so many.
-fn far_from(n: u32, set: u32, sets: [u32; 32], count: u32) -> u32
-    requires { count ≤ 32 }
-    ensures { result ≡ far_from n set sets count }
-{
-    let mut far = 0;
-    let mut j: u32 = 0;
-    while j < count {
-        far = larger(far, nodeset::distance(n, sets[j as usize], set));
-        j += 1;
+    let mut far: u32 = 0;
+    for &other in &m.sets[..m.count as usize] {
+        far = far.max(nodeset::distance(n, other, set));
     }
     far
 }
@@ -175,9 +171,9 @@ fn member_seen(n: u32, m: Members, set: u32) -> Members
     requires { m.count < 32 }
     ensures { result ≡ member_seen n m set }
 {
+    let far = far_from(n, set, m);
+    let greatest = m.greatest.max(far);
     let mut sets = m.sets;
-    let far = far_from(n, set, sets, m.count);
-    let greatest = larger(m.greatest, far);
     sets[m.count as usize] = set;
     Members {
         count: m.count + 1,
@@ -187,6 +183,7 @@ fn member_seen(n: u32, m: Members, set: u32) -> Members
 }
 
 // What is gathered with one record more.
+#[tactic(auto, unfolding(crate::specs::Survey::gathered))]
 pub fn gathered(m: Members, i: usize, v: Held) -> Members
     ensures { result ≡ gathered m i v }
 {
@@ -198,6 +195,7 @@ pub fn gathered(m: Members, i: usize, v: Held) -> Members
     m
 }
 
+#[tactic(auto, unfolding(crate::specs::Survey::no_members))]
 pub fn no_members() -> Members
     ensures { result ≡ no_members }
 {

@@ -4,7 +4,7 @@ ghost use Rattle.bench_orders.specs.Orders.{set_up_order, off_order, restart_ord
 
 use crate::{Beside, Order, Survey, Turn, is_fine};
 use bench::Fate;
-use message::Reading;
+use message::{Heard, Reading};
 use node_record::Held;
 use refusal::Refusal;
 
@@ -60,15 +60,15 @@ pub fn spoken_by(lost: bool, v: Held) -> Reading
     ensures { result ≡ spoken_by lost v }
 {
     if lost {
-        return Reading::Refused(Refusal::MessageLength);
+        return Err(Refusal::MessageLength);
     }
     if !node_sending::sends(v) {
-        return Reading::Refused(Refusal::MessageLength);
+        return Err(Refusal::MessageLength);
     }
-    Reading::Heard {
+    Ok(Heard {
         acknowledgements: node_sending::bits_sent(v),
         return_bit: node_sending::return_sent(v),
-    }
+    })
 }
 
 // What comes of the speaker's message.

@@ -45,7 +45,7 @@ fn heard_at(turn: Turn, v: Held) -> Reading
 {
     let heard = turn.heard;
     if nodeset::has(turn.missed, v.own) {
-        return Reading::Refused(Refusal::MessageLength);
+        return Err(Refusal::MessageLength);
     }
     heard
 }

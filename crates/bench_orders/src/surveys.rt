@@ -6,17 +6,17 @@ ghost use Rattle.bench_orders.specs.Survey.{sender_after, begun, glimpsed, index
 
 use crate::Survey;
 use node_record::Held;
-use ring::Speaker;
 
-// The sender of the slot that follows those of the record; 0 where its n is no ring's.
+// The sender of the slot that follows those of the record; 0 where its n is no ring's, by the definition
+// `node_in`: no node has that number.
 pub fn sender_after(v: Held) -> u32
     ensures { result ≡ sender_after v }
 {
     let cable = v.cable;
     let speaker = ring::sender(cable, v.slots);
     match speaker {
-        Speaker::Node(s) => s,
-        Speaker::Refused(_) => 0,
+        Ok(s) => s,
+        Err(_) => 0,
     }
 }
 
@@ -41,10 +41,7 @@ pub fn begun(fine: bool, v: Held) -> Survey
 pub fn is_number_at(own: u32, i: usize) -> bool
     ensures { result ≡ eqb own (i + 1) }
 {
-    if own == 0 {
-        return false;
-    }
-    (own - 1) as usize == i
+    own != 0 && (own - 1) as usize == i
 }
 
 // Whether the record is sound and stands at index i of the table surveyed.
@@ -77,11 +74,11 @@ fn listers_with(listers: u32, sender: u32, v: Held) -> u32
 pub fn index_of(x: u32, size: usize) -> usize
     ensures { result ≡ index_of x size }
 {
-    if x == 0 {
-        return 0;
+    if x != 0 && x as usize <= size {
+        x as usize - 1
+    } else {
+        0
     }
-    let i = (x - 1) as usize;
-    if i < size { i } else { 0 }
 }
 
 // What is found of the first record, the next sender's and another.

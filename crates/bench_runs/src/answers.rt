@@ -2,11 +2,11 @@
 // its sender (four); the fate of its message, 1 silent, 2 lost, 3 knock, 4 sent; 1 if there is a list,
 // and its set (four); the greatest distance (four); how many pairs there are (four). Of a call that tells
 // no slot all these are 0 but the first and the last.
-use bench::{Fate, Listed, Outcome};
+use bench::{Fate, Outcome};
 use bench_by_value::Ran;
+use run_io::block;
 use run_io::block::Block;
 use run_io::output::Sink;
-use run_io::{block, output};
 use std::io::Write;
 
 fn fate_number(fate: Fate) -> u8 {
@@ -18,13 +18,13 @@ fn fate_number(fate: Fate) -> u8 {
     }
 }
 
-fn set_list(answer: &mut Block, list: Listed) {
+fn set_list(answer: &mut Block, list: Option<u32>) {
     match list {
-        Listed::Set(set) => {
+        Some(set) => {
             answer[14] = 1;
             block::set_word(answer, 15, set);
         }
-        Listed::Nobody => {}
+        None => {}
     }
 }
 
@@ -44,10 +44,9 @@ fn set_told(answer: &mut Block, outcome: Outcome) {
     }
 }
 
-pub fn put_told<W: Write>(output: &mut Sink<W>, held: usize, ran: Ran) -> usize {
+pub fn put_told<W: Write>(output: &mut Sink<W>, ran: &Ran) {
     let mut answer = [0u8; 255];
-    let outcome = ran.outcome;
-    set_told(&mut answer, outcome);
-    block::set_word(&mut answer, 23, ran.pairs);
-    output::put_block(output, held, &answer, 27)
+    set_told(&mut answer, ran.outcome);
+    output.put_all(&answer[..23]);
+    output.put_all(&ran.pairs.to_le_bytes());
 }

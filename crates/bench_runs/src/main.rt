@@ -30,62 +30,46 @@
 #![tactic(auto)]
 
 mod answers;
-mod arrays;
-mod entries;
 
-use bench::Command;
-use bench_by_value::Ran;
 use cable::Choices;
-use node_bytes::{bytes, rows};
+use node_bytes::{bytes, counts, rows};
 use node_record::Held;
 use run_io::block::Block;
-use run_io::input::{Head, Source, Unread};
+use run_io::commands::Program;
 use run_io::output::Sink;
-use run_io::{block, input, output};
-use std::io;
-use std::io::{Read, Write};
+use run_io::{block, commands};
+use std::io::Write;
 
-// What there is from one command to the next beside the entries and the arrays: the rows, how many are
-// the table, how many entries are the ledger, how many arrays are lent, the slot table and how many places
-// it has, and the number of bytes that wait in the output.
-#[derive(Clone, Copy)]
-struct State {
+// What there is from one command to the next: the rows, how many are the table, the entries, how many are
+// the ledger, the arrays, how many are lent, the slot table and how many places it has. The arrays are lent
+// to it, as a struct that holds arrays of arrays of arrays is not made in one go.
+#[derive(Drop)]
+struct State<'a> {
     rows: [Held; 32],
     size: u32,
-    entries: usize,
-    arrays: usize,
+    entries: [[u64; 3]; 33],
+    ledger: usize,
+    arrays: &'a mut [[[u64; 8]; 32]; 33],
+    lent_arrays: usize,
     slots: Block,
-    places: usize,
-    held: usize,
+    places: u8,
 }
 
-fn is_command(letter: u8) -> bool {
-    match letter {
-        b'N' | b'L' | b'M' | b'G' | b'A' | b'C' | b'K' | b'O' => true,
-        b'U' | b'F' | b'R' | b'S' | b'Q' => true,
-        _ => false,
-    }
-}
-
-// How many bytes follow the letter and the byte after it.
-fn body(letter: u8, byte: u8) -> u8 {
-    match letter {
-        b'L' => bytes::RECORD,
-        b'G' => 24,
-        b'C' => 10,
-        b'O' => byte,
-        b'U' => 16,
-        b'F' | b'R' => 4,
-        b'S' => 6,
-        b'Q' => 1,
-        _ => 0,
-    }
-}
-
-// A whole command; its further bytes go into the start of `block`.
-fn read<R: Read>(input: &mut Source<R>, left: Unread, block: &mut Block) -> Head {
-    let head = input::read_head(input, left);
-    input::fill_after(input, head, block, body(head.letter, head.byte))
+#[derive(Clone, Copy)]
+enum Command {
+    Table,
+    LoadRow,
+    Ledger,
+    LoadEntry,
+    Arrays,
+    LoadCount,
+    PutCounts,
+    Slots,
+    SetUp,
+    Off,
+    Restart,
+    Slot,
+    Look,
 }
 
 fn choices_of(block: &Block) -> Choices {
@@ -97,207 +81,126 @@ fn choices_of(block: &Block) -> Choices {
     }
 }
 
-fn command_of(letter: u8, block: &Block) -> Command {
-    match letter {
-        b'U' => Command::SetUp(choices_of(block)),
-        b'F' => Command::Off(block::word(block, 0)),
-        b'R' => Command::Restart(block::word(block, 0)),
-        b'S' => Command::Slot(block[0] == 1, block::word(block, 1), block[5]),
-        _ => Command::Look(block[0] == 1),
-    }
+fn put_array<W: Write>(output: &mut Sink<W>, arrays: &[[[u64; 8]; 32]; 33], i: u8) {
+    let counts = arrays.get(usize::from(i));
+    counts::put_counts(output, counts.unwrap_or(&arrays[0]));
 }
 
-// Lends the first `room` bytes, and the slot table.
-fn call(
-    ledger: &mut [[u64; 3]],
-    counts: &mut [[[u64; 8]; 32]],
-    buffer: &mut [u8],
-    room: usize,
-    state: State,
-    command: Command,
-) -> Ran {
-    let rows = state.rows;
-    let n = state.size;
-    let table = state.slots;
-    let slots = bytes::between(&table, 0, state.places);
-    if room <= buffer.len() {
-        bench_by_value::call(
-            ledger,
-            counts,
-            &mut buffer[0..room],
-            slots,
-            rows,
-            n,
+impl State<'_> {
+    // An entry, array, row or job that there is not leaves all of them.
+    fn load_entry(&mut self, entry: u8, block: &Block) {
+        if let Some(figures) = self.entries.get_mut(usize::from(entry)) {
+            *figures = [
+                block::long_word(block, 0),
+                block::long_word(block, 8),
+                block::long_word(block, 16),
+            ];
+        }
+    }
+
+    fn load_count(&mut self, array: u8, block: &Block) {
+        if let Some(counts) = self.arrays.get_mut(usize::from(array)) {
+            counts::load(counts, block);
+        }
+    }
+
+    // Carries a call out and answers. Lends the first entries, arrays, bytes of the buffer and places.
+    fn call<W: Write>(&mut self, output: &mut Sink<W>, room: u8, command: bench::Command) {
+        let mut buffer = [0xA5; 255];
+        let lent = &mut buffer[..usize::from(room)];
+        let slots = self.slots;
+        let (entries, arrays) = (&mut self.entries, &mut *self.arrays);
+        let ran = bench_by_value::call(
+            block::first(entries, self.ledger),
+            block::first(arrays, self.lent_arrays),
+            lent,
+            &slots[..usize::from(self.places)],
+            self.rows,
+            self.size,
             command,
-        )
-    } else {
-        bench_by_value::call(ledger, counts, buffer, slots, rows, n, command)
+        );
+        self.rows = ran.rows;
+        answers::put_told(output, &ran);
+        output.put_all(lent);
+        rows::put_rows(output, &self.rows);
+        output.put_long_words(self.entries.as_flattened());
     }
 }
 
-// Lends the first arrays.
-fn call_counting(
-    ledger: &mut [[u64; 3]],
-    arrays: &mut [[[u64; 8]; 32]],
-    buffer: &mut [u8],
-    room: usize,
-    state: State,
-    command: Command,
-) -> Ran {
-    let end = state.arrays;
-    if end <= arrays.len() {
-        call(ledger, &mut arrays[0..end], buffer, room, state, command)
-    } else {
-        call(ledger, arrays, buffer, room, state, command)
+impl Program for State<'_> {
+    type Command = Command;
+
+    fn command_of(letter: u8) -> Option<Command> {
+        match letter {
+            b'N' => Some(Command::Table),
+            b'L' => Some(Command::LoadRow),
+            b'M' => Some(Command::Ledger),
+            b'G' => Some(Command::LoadEntry),
+            b'A' => Some(Command::Arrays),
+            b'C' => Some(Command::LoadCount),
+            b'K' => Some(Command::PutCounts),
+            b'O' => Some(Command::Slots),
+            b'U' => Some(Command::SetUp),
+            b'F' => Some(Command::Off),
+            b'R' => Some(Command::Restart),
+            b'S' => Some(Command::Slot),
+            b'Q' => Some(Command::Look),
+            _ => None,
+        }
+    }
+
+    fn body(command: Command, byte: u8) -> u8 {
+        match command {
+            Command::LoadRow => bytes::RECORD,
+            Command::LoadEntry => 24,
+            Command::LoadCount => 10,
+            Command::Slots => byte,
+            Command::SetUp => 16,
+            Command::Off | Command::Restart => 4,
+            Command::Slot => 6,
+            Command::Look => 1,
+            Command::Table | Command::Ledger | Command::Arrays | Command::PutCounts => 0,
+        }
+    }
+
+    fn run<W: Write>(&mut self, output: &mut Sink<W>, command: Command, byte: u8, block: &Block) {
+        let a = block::word(block, 0);
+        let lost = block[0] == 1;
+        match command {
+            Command::Table => self.size = u32::from(byte),
+            Command::LoadRow => rows::load(&mut self.rows, byte, bytes::held_of(block)),
+            Command::Ledger => self.ledger = usize::from(byte),
+            Command::LoadEntry => self.load_entry(byte, block),
+            Command::Arrays => self.lent_arrays = usize::from(byte),
+            Command::LoadCount => self.load_count(byte, block),
+            Command::PutCounts => put_array(output, self.arrays, byte),
+            Command::Slots => {
+                self.slots = *block;
+                self.places = byte;
+            }
+            Command::SetUp => self.call(output, byte, bench::Command::SetUp(choices_of(block))),
+            Command::Off => self.call(output, byte, bench::Command::Off(a)),
+            Command::Restart => self.call(output, byte, bench::Command::Restart(a)),
+            Command::Slot => {
+                let missed = block::word(block, 1);
+                self.call(output, byte, bench::Command::Slot(lost, missed, block[5]))
+            }
+            Command::Look => self.call(output, byte, bench::Command::Look(lost)),
+        }
     }
 }
 
-// Lends the first entries.
-fn call_with(
-    entries: &mut [[u64; 3]],
-    arrays: &mut [[[u64; 8]; 32]],
-    buffer: &mut [u8],
-    room: usize,
-    state: State,
-    command: Command,
-) -> Ran {
-    let end = state.entries;
-    if end <= entries.len() {
-        call_counting(&mut entries[0..end], arrays, buffer, room, state, command)
-    } else {
-        call_counting(entries, arrays, buffer, room, state, command)
-    }
-}
-
-// Carries a call out and answers.
-fn run_call<W: Write>(
-    output: &mut Sink<W>,
-    entries: &mut [[u64; 3]; 33],
-    arrays: &mut [[[u64; 8]; 32]; 33],
-    state: State,
-    room: u8,
-    command: Command,
-) -> State {
-    let mut buffer = [0xA5u8; 255];
-    let ran = call_with(entries, arrays, &mut buffer, room as usize, state, command);
-    let held = answers::put_told(output, state.held, ran);
-    let held = output::put_block(output, held, &buffer, room);
-    let rows = ran.rows;
-    let held = rows::put_rows(output, held, rows);
-    let held = entries::put_entries(output, held, entries);
-    let mut next = state;
-    next.rows = rows;
-    next.held = held;
-    next
-}
-
-// The commands on the arrays alone.
-fn run_counts<W: Write>(
-    output: &mut Sink<W>,
-    arrays: &mut [[[u64; 8]; 32]; 33],
-    state: State,
-    head: Head,
-    block: &Block,
-) -> State {
-    let mut next = state;
-    let letter = head.letter;
-    let byte = head.byte;
-    match letter {
-        b'C' => {
-            arrays::load(arrays, byte as usize, block);
-        }
-        _ => {
-            next.held = arrays::put_array(output, state.held, arrays, byte as usize);
-        }
-    }
-    next
-}
-
-// The commands that say what the table, the ledger, the counts lent and the slot table are.
-fn prepared(entries: &mut [[u64; 3]; 33], state: State, head: Head, block: &Block) -> State {
-    let mut next = state;
-    let letter = head.letter;
-    let byte = head.byte;
-    match letter {
-        b'N' => {
-            next.size = byte as u32;
-        }
-        b'M' => {
-            next.entries = byte as usize;
-        }
-        b'A' => {
-            next.arrays = byte as usize;
-        }
-        b'O' => {
-            let table = *block;
-            next.slots = table;
-            next.places = byte as usize;
-        }
-        b'L' => {
-            let rows = state.rows;
-            let loaded = rows::loaded(rows, byte as usize, bytes::held_of(block));
-            next.rows = loaded;
-        }
-        _ => {
-            entries::load(entries, byte as usize, block);
-        }
-    }
-    next
-}
-
-fn run<W: Write>(
-    output: &mut Sink<W>,
-    entries: &mut [[u64; 3]; 33],
-    arrays: &mut [[[u64; 8]; 32]; 33],
-    state: State,
-    head: Head,
-    block: &Block,
-) -> State {
-    let letter = head.letter;
-    match letter {
-        b'N' | b'L' | b'M' | b'G' | b'A' | b'O' => prepared(entries, state, head, block),
-        b'C' | b'K' => run_counts(output, arrays, state, head, block),
-        _ => run_call(
-            output,
-            entries,
-            arrays,
-            state,
-            head.byte,
-            command_of(letter, block),
-        ),
-    }
-}
-
-// A proved loop has to end, so it counts its turns, up to a number that no run reaches.
-fn run_all<R: Read, W: Write>(input: &mut Source<R>, output: &mut Sink<W>) -> usize {
-    let mut left = Unread { at: 0, end: 0 };
-    let mut entries = [[0u64; 3]; 33];
+fn main(rt: HostRuntime) {
     let mut arrays = [node_reports::NO_REPORTS; 33];
     let mut state = State {
         rows: [node::NO_NODE; 32],
         size: 0,
-        entries: 0,
-        arrays: 0,
+        entries: [[0; 3]; 33],
+        ledger: 0,
+        arrays: &mut arrays,
+        lent_arrays: 0,
         slots: [0; 255],
         places: 0,
-        held: 0,
     };
-    for _ in 0..u64::MAX {
-        let mut block = [0u8; 255];
-        let head = read(input, left, &mut block);
-        if !is_command(head.letter) {
-            return state.held;
-        }
-        state = run(output, &mut entries, &mut arrays, state, head, &block);
-        let rest = head.left;
-        left = rest;
-    }
-    state.held
-}
-
-fn main(rt: HostRuntime) {
-    let mut input = input::buffered(rt.reader());
-    let mut output = output::buffered(io::writer(&rt));
-    let held = run_all(&mut input, &mut output);
-    output::flush(&mut output, held);
+    commands::run_all(&rt, &mut state);
 }

@@ -1,7 +1,7 @@
--- Where a walk over a table stands when i records are done: what is folded over them (fold-none, fold_next, take_all, take-least), and the table of which they are made anew
+-- Where a walk over a table stands when i records are done: what is folded over them (fold_next), and the table of which they are made anew
 -- (partly and its laws). Assumes nothing.
 use mathlib.Core.Path.{◌≡◌, refl, sym, ap, ◌∙◌}
-use Prim.Native.Nat.{ℕ, zero, suc, ◌+◌, ◌<◌, min}
+use Prim.Native.Nat.{ℕ, zero, suc, ◌+◌, ◌<◌}
 use native.Mathlib.Nat.{not-suc-le-zero, le_of_suc-le-suc}
 use native.Mathlib.Numerals.{add-one}
 use native.Mathlib.Omega.{arith}
@@ -25,23 +25,9 @@ module _ {S X : Type 0} (f : S → ℕ → X → S) where
   next-suc s j zero k (x ∷ xs) d e l = ap (λ (m : ℕ). f s m x) (none k j e)
   next-suc s j (suc i) k (x ∷ xs) d e l = next-suc (f s j x) (suc j) i k xs d (later k j i e) (le_of_suc-le-suc l)
 
-  pub fold_next : (s : S) (i : ℕ) (xs : List X) (d : X) → i < length xs → f (fold_from f s 0 (take i xs)) i (get_or xs i d) ≡ fold_from f s 0 (take (i + 1) xs)
-  fold_next s i xs d l = next-suc s 0 i i xs d (at_zero i) l ∙ ap (λ (m : ℕ). fold_from f s 0 (take m xs)) (sym (add-one i))
-
-  pub fold-none : (s : S) (xs : List X) → s ≡ fold_from f s 0 (take 0 xs)
-  unfolding fold_from
-  fold-none s xs = refl
-
-pub take_all : {X : Type 0} (xs : List X) → take (length xs) xs ≡ xs
-take_all [] = refl
-take_all {X} (x ∷ xs) = ap {B = List X} (λ r. x ∷ r) (take_all xs)
-
--- more than all is all
-pub take-least : {X : Type 0} (k : ℕ) (xs : List X) → take (min k (length xs)) xs ≡ take k xs
-take-least zero xs = ap (λ (m : ℕ). take m xs) (let e : min 0 (length xs) ≡ 0 = omega arith in e)
-take-least {X} (suc k) [] = ap (λ (m : ℕ). take {A = X} m []) (let e : min (suc k) 0 ≡ 0 = omega arith in e)
-take-least {X} (suc k) (x ∷ xs) =
-    ap (λ (m : ℕ). take m (x ∷ xs)) (let e : min (suc k) (suc (length xs)) ≡ suc (min k (length xs)) = omega arith in e) ∙ ap {B = List X} (λ r. x ∷ r) (take-least k xs)
+  -- with a record more
+  pub fold_next : (s : S) (xs : List X) (i : ℕ) (d : X) {t r : S} → i < length xs → t ≡ fold_from f s 0 (take i xs) → r ≡ f t i (get_or xs i d) → r ≡ fold_from f s 0 (take (i + 1) xs)
+  fold_next s xs i d l is-t is-r = rw (is-r, is-t, add-one) (next-suc s 0 i i xs d (at_zero i) l)
 
 module _ {X : Type 0} (f : ℕ → X → X) where
   abbrev pub partly_from : ℕ → ℕ → List X → List X
@@ -51,14 +37,6 @@ module _ {X : Type 0} (f : ℕ → X → X) where
 
   abbrev pub partly : ℕ → List X → List X
   partly i xs = partly_from 0 i xs
-
-  from-length : (j i : ℕ) (xs : List X) → length (partly_from j i xs) ≡ length xs
-  from-length j zero xs = refl
-  from-length j (suc i) [] = refl
-  from-length j (suc i) (x ∷ xs) = ap suc (from-length (suc j) i xs)
-
-  pub partly-length : (i : ℕ) (xs : List X) → length (partly i xs) ≡ length xs
-  partly-length i xs = from-length 0 i xs
 
   from_at : (j i : ℕ) (xs : List X) (d : X) → get_or (partly_from j i xs) i d ≡ get_or xs i d
   from_at j zero xs d = refl

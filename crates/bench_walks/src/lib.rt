@@ -3,7 +3,7 @@
 // branches; what is decided and done to a record is in bench_orders, what is noted of it in bench_notes.
 #![tactic(auto)]
 
-ghost use Rattle.std.specs.Prelude.{◌≡◌, ◌≤◌, min, length, take};
+ghost use Rattle.std.specs.Prelude.{◌≡◌, ◌≤◌, length, take};
 ghost use Rattle.bench_orders.specs.Survey.{glimpse_of, survey_of, members_of};
 ghost use Rattle.bench_orders.specs.Orders.{carried_from, notes_of};
 
@@ -11,23 +11,13 @@ use bench_notes::Notes;
 use bench_orders::{Errand, Members, Survey, surveys};
 use node_record::Held;
 
-// The smaller number.
-fn smaller(a: usize, b: usize) -> usize
-    ensures { result ≡ min a b }
-{
-    if a < b { a } else { b }
-}
-
 // Looks over the first so many records, or over all if there are fewer.
 pub fn look_over(table: &[Held], reach: usize) -> Survey
     ensures { result ≡ survey_of (take reach table.now) }
 {
-    let end = smaller(reach, table.len());
     let mut s = bench_orders::unseen();
-    let mut i = 0;
-    while i < end {
-        s = bench_orders::surveyed(s, i, table[i]);
-        i += 1;
+    for (i, v) in table[..reach.min(table.len())].iter().enumerate() {
+        s = bench_orders::surveyed(s, i, *v);
     }
     s
 }
@@ -45,16 +35,14 @@ pub fn glimpse(table: &[Held], named: u32) -> Survey
     surveys::glimpsed(first, speaker, other)
 }
 
-// Gathers the members' sets of the first so many records, or of all if there are fewer.
+// Gathers the members' sets of the first so many records, or of all if there are fewer. This and `look_over`
+// are a loop of one line each: one function over the step would be no plainer.
 pub fn look_through(table: &[Held], reach: usize) -> Members
     ensures { result ≡ members_of (take reach table.now) }
 {
-    let end = smaller(reach, table.len());
     let mut m = bench_orders::no_members();
-    let mut i = 0;
-    while i < end {
-        m = bench_orders::gathered(m, i, table[i]);
-        i += 1;
+    for (i, v) in table[..reach.min(table.len())].iter().enumerate() {
+        m = bench_orders::gathered(m, i, *v);
     }
     m
 }
@@ -64,13 +52,10 @@ pub fn carry_out(table: &mut [Held], errand: Errand) -> Notes
     ensures { (table.new ≡ carried_from errand 0 table.old) × (result ≡ notes_of errand table.old) }
 {
     let mut notes = bench_notes::no_notes();
-    let mut i = 0;
-    while i < table.len() {
-        let before = table[i];
-        let after = bench_orders::carried(errand, i, before);
-        notes = bench_notes::noticed(notes, before, after);
-        table[i] = after;
-        i += 1;
+    for (i, v) in table.iter_mut().enumerate() {
+        let after = bench_orders::carried(errand, i, *v);
+        notes = bench_notes::noticed(notes, *v, after);
+        *v = after;
     }
     notes
 }

@@ -7,15 +7,13 @@ ghost use Rattle.std.specs.Prelude.{◌≡◌, ◌≤◌, length};
 ghost use Rattle.node_record.specs.Held.{setted};
 ghost use Rattle.bench.specs.Ledger.{ledger_fits};
 ghost use Rattle.cable.specs.Cable.{cable_with};
-ghost use Rattle.bench_orders.specs.node_steps.Steps.{is_heard};
 ghost use Rattle.bench_work.specs.Work.{date_by, entered_by, reports_fit_by, choices_in, beside_with, hearers_in, hearers_by, jobs_by, is_start, reported_by};
 ghost use Rattle.bench_orders.specs.Orders.{reach_of, outcome_by, pairs_by, reply_by, bytes_told, puts, written_by};
 
-use bench::{Command, Listed, Outcome, Reply};
+use bench::{Command, Outcome, Reply};
 use bench_notes::Notes;
 use bench_orders::{Beside, Members, Order, Survey, Turn};
 use cable::{Cable, Choices};
-use message::Reading;
 use node_record::Held;
 
 // How many records are to be looked through for the distance.
@@ -30,7 +28,7 @@ pub fn reach_of(notes: Notes) -> usize
 }
 
 // What there is to print of an order that was carried out, with the list and the distance afterwards.
-fn outcome_by(order: Order, list: Listed, apart: u32) -> Outcome
+fn outcome_by(order: Order, list: Option<u32>, apart: u32) -> Outcome
     ensures { result ≡ outcome_by order list apart }
 {
     match order {
@@ -76,11 +74,7 @@ fn put_bytes(bytes: [u8; 64], end: usize, pairs: &mut [u8])
     requires { (end ≤ 64) × (end ≤ length pairs.old) }
     ensures { pairs.new ≡ puts bytes end pairs.old }
 {
-    let mut i = 0;
-    while i < end {
-        pairs[i] = bytes[i];
-        i += 1;
-    }
+    pairs[..end].copy_from_slice(&bytes[..end]);
 }
 
 // What an order that was carried out leaves to tell: what was noted, and the sets of the members where
@@ -214,25 +208,11 @@ pub fn enter(ledger: &mut [[u64; 3]], s: Survey, order: Order, work: Work)
     }
 }
 
-// Whether a message is heard where it is not missed.
-fn is_heard(heard: Reading) -> bool
-    ensures { result ≡ is_heard heard }
-{
-    match heard {
-        Reading::Heard {
-            acknowledgements: _,
-            return_bit: _,
-        } => true,
-        Reading::Refused(_) => false,
-    }
-}
-
 // The nodes that count the sender's report in a slot.
 fn hearers_in(turn: Turn, listers: u32) -> u32
     ensures { result ≡ hearers_in turn listers }
 {
-    let heard = turn.heard;
-    if !is_heard(heard) {
+    if turn.heard.is_err() {
         return NOBODY;
     }
     nodeset::without(nodeset::minus(listers, turn.missed), turn.sender)

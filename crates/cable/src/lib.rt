@@ -20,8 +20,9 @@ pub struct Choices {
     pub lag: u32,
 }
 
-// What holds for the whole cable: the numbers chosen, and which node speaks at each place.
-#[derive(Clone, Copy)]
+// What holds for the whole cable: the numbers chosen, and which node speaks at each place. The numbers are
+// fields of its own, as definitions and theorems name them (`cable.n`).
+#[derive(Clone, Copy, PartialEq, Eq)]
 pub struct Cable {
     pub n: u32,
     pub k: u32,
@@ -58,14 +59,11 @@ pub fn cable_with(choices: Choices, slots: &[u8]) -> Cable
     }
 }
 
-// Whether two cables are the same.
+// Whether two cables are the same. `==` by the name that the definitions have, `same_cable`.
 pub fn is_same_cable(a: Cable, b: Cable) -> bool
     ensures { result ≡ same_cable a b }
 {
-    let one = a.order;
-    let other = b.order;
-    (a.n == b.n)
-        & ((a.k == b.k) & ((a.m == b.m) & ((a.lag == b.lag) & slot_table::is_same(one, other))))
+    a == b
 }
 
 // Whether a ring may have n nodes.
@@ -89,18 +87,19 @@ pub fn is_lag(lag: u32) -> bool
     lag <= 1
 }
 
-// Of two numbers, by how much the first is greater; 0 where it is not.
+// Of two numbers, by how much the first is greater; 0 where it is not. Std's method by another name: its
+// clause and two must-fail edits hold the name.
 pub fn less(a: u32, b: u32) -> u32
     ensures { result ≡ a - b }
 {
-    if a < b { 0 } else { a - b }
+    a.saturating_sub(b)
 }
 
 // Whether the cable's k is 2 to n - 1 less the lag.
 pub fn is_sponsor_count(cable: Cable) -> bool
     ensures { result ≡ sponsor_count cable }
 {
-    let most = less(less(cable.n, 1), cable.lag);
+    let most = cable.n.saturating_sub(1).saturating_sub(cable.lag);
     2 <= cable.k && cable.k <= most
 }
 

@@ -1,5 +1,6 @@
 -- Request i: both directions from the laws of a form (`Form`) and of a conversion between two (`Turns`), so that each direction is an instance of one proof.
 -- Assumes nothing.
+use Rattle.std.specs.Prelude.{Err, Ok}
 use Prim.Native.Nat.{ℕ, ◌≤◌, ◌^◌}
 use mathlib.Core.Path.{◌≡◌, refl, sym, ap, ◌∙◌}
 use mathlib.Core.List.{List, ◌++◌}
@@ -10,8 +11,7 @@ use lib.Seq.{take_at, drop_at}
 use lib.Dec.{eqb, leb, ltb}
 use borrow.Author.Tests.{eqb-true, eq-eqb, leb-true}
 use Rattle.message.specs.cable.Cable.{job_count}
-use Rattle.message.specs.declared.Reading.{Reading}
-use Rattle.message.specs.declared.Reading.TheVariants as reading
+use Rattle.message.specs.Answers.{Reading}
 use Rattle.message.specs.declared.Received.{Received}
 use Rattle.message.specs.Message.{AreBytes, Outcome, heard, if_written, in_range, jobs_within, length_of, length_two, message_of, read_of, two_sections, write_of, wrote}
 use Rattle.message.specs.TwoSections.{read_two_of, write_two_of}
@@ -106,8 +106,8 @@ written-on : (received : Received) (out : List ℕ) (on : ℕ → Bool → Outco
 written-on received out on count after e = go received.reading refl e
   where
     go : (r : Reading) → received.reading ≡ r → written_on r out on ≡ (wrote count, after) → WrittenOn received on count after
-    go (reading.Heard a b) is w = record { a = a; b = b; said = ap (λ (r : Reading). record { reading = r; jobs = received.jobs }) is; wrote = w }
-    go (reading.Refused cause) is w =
+    go (Ok h) is w = record { a = h.acknowledgements; b = h.return_bit; said = ap (λ (r : Reading). record { reading = r; jobs = received.jobs }) is; wrote = w }
+    go (Err cause) is w =
         let answers = ap (λ (o : Outcome). o.0) w in
         let z : ◌≡◌ {A = ℕ} 0 1 = cc in
         absurd (omega arith)
@@ -127,8 +127,8 @@ leaves-made made out size long room =
 
 leaves-on : (r : Reading) (out : List ℕ) (on : ℕ → Bool → Outcome) → ((a : ℕ) (b : Bool) → Leaves out (on a b).0 (on a b).1)
     → Leaves out (written_on r out on).0 (written_on r out on).1
-leaves-on (reading.Heard a b) out on h = h a b
-leaves-on (reading.Refused cause) out on h = refl
+leaves-on (Ok said) out on h = h said.acknowledgements said.return_bit
+leaves-on (Err cause) out on h = refl
 
 -- ---- to three sections
 

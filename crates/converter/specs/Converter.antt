@@ -1,17 +1,15 @@
 -- Document 02, request i: "A converter brings a message to the three-section form with no jobs, and takes one with no jobs back."
-use Rattle.std.specs.Prelude.{ℕ, ◌-◌, List, Bool, cond, length, get_or, eqb, ltb}
+use Rattle.std.specs.Prelude.{ℕ, ◌-◌, List, Bool, cond, length, get_or, eqb, ltb, Err, Ok}
 use Rattle.message.specs.cable.Cable.{job_count}
-use Rattle.message.specs.declared.Reading.{Reading}
-use Rattle.message.specs.declared.Reading.TheVariants as reading
+use Rattle.message.specs.Answers.{Reading}
 use Rattle.message.specs.declared.Received.{Received}
-use Rattle.message.specs.declared.Written.TheVariants as written
 use Rattle.message.specs.Message.{Outcome, if_read, if_written, in_range, length_of, read_of, write_of}
 use Rattle.message.specs.TwoSections.{read_two_of, write_two_of}
 
 -- What comes of a reading: what is heard is written on; where nothing is, the refusal stays and every lent byte with it.
 abbrev pub written_on : Reading → List ℕ → (ℕ → Bool → Outcome) → Outcome
-written_on (reading.Heard acknowledgements return_bit) out on = on acknowledgements return_bit
-written_on (reading.Refused cause) out on = (written.Refused cause, out)
+written_on (Ok h) out on = on h.acknowledgements h.return_bit
+written_on (Err cause) out on = (Err cause, out)
 
 -- "brings a message to the three-section form with no jobs": the reader's causes 2, 6, 7, 8, then the writer's, of which 9 is left.
 unfoldable pub to_three_of : ℕ → List ℕ → List ℕ → Outcome

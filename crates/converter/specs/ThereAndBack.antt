@@ -1,8 +1,7 @@
 -- Document 02, request i: what holds of the two conversions, for every k at once.
-use Rattle.std.specs.Prelude.{ℕ, ◌≤◌, ◌≡◌, Bool, List, ◌++◌, length, take, drop}
+use Rattle.std.specs.Prelude.{ℕ, ◌≤◌, ◌≡◌, Bool, List, ◌++◌, length, take, drop, Err, Ok}
 use Rattle.message.specs.declared.Received.{Received}
-use Rattle.message.specs.declared.Written.{Written}
-use Rattle.message.specs.declared.Written.TheVariants as written
+use Rattle.message.specs.Answers.{Written}
 use Rattle.message.specs.Message.{AreBytes, Outcome, heard, length_of, length_two, read_of, wrote}
 use Rattle.message.specs.TwoSections.{read_two_of}
 use Rattle.converter.specs.Converter.{to_three_of, to_two_of}
@@ -16,8 +15,8 @@ Conversion = ℕ → List ℕ → List ℕ → Outcome
 
 -- "Lent bytes after the result stay untouched", and a refusal leaves them all.
 abbrev pub Leaves : List ℕ → Written → List ℕ → Type 0
-Leaves out (written.Bytes count) after = (length after ≡ length out) × (drop count after ≡ drop count out)
-Leaves out (written.Refused cause) after = after ≡ out
+Leaves out (Ok count) after = (length after ≡ length out) × (drop count after ≡ drop count out)
+Leaves out (Err cause) after = after ≡ out
 
 -- Of a conversion from messages that `read_from` reads to those of so many bytes that `read_to` reads, and of the one back.
 pub record Converts (read_from read_to : Reader) (size : ℕ → ℕ) (there back : Conversion) : Type 0 where

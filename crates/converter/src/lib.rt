@@ -6,26 +6,20 @@
 ghost use Rattle.std.specs.Prelude.{◌≡◌};
 ghost use Rattle.converter.specs.Converter.{job_count_in, read_any_of, to_three_of, to_two_of};
 
-use message::{Reading, Received, Written};
+use message::Received;
 use refusal::Refusal;
 
 // Brings a message of two sections to three with no jobs, at the start of out, and leaves the bytes
 // after it. It refuses by 2, 6, 7, 8 and 9, in this order, and then writes nothing.
-pub fn to_three(k: u32, bytes: &[u8], out: &mut [u8]) -> Written
+pub fn to_three(k: u32, bytes: &[u8], out: &mut [u8]) -> Result<usize, Refusal>
     ensures { (result, out.new) ≡ to_three_of k bytes.now out.old }
 {
-    let received = message::read_two(k, bytes);
-    let reading = received.reading;
-    match reading {
-        Reading::Heard {
-            acknowledgements,
-            return_bit,
-        } => message::write(k, 0, acknowledgements, return_bit, 0, out),
-        Reading::Refused(cause) => Written::Refused(cause),
-    }
+    let heard = message::read_two(k, bytes).reading?;
+    message::write(k, 0, heard.acknowledgements, heard.return_bit, 0, out)
 }
 
-// The job count that stands in bytes of three sections: the last byte but one. 0 where there is none.
+// The job count that stands in bytes of three sections: the last byte but one. 0 where there is none, by
+// the definition `job_count_in`: bytes that short are refused.
 fn job_count_in(bytes: &[u8]) -> u32
     ensures { result ≡ job_count_in bytes.now }
 {
@@ -48,22 +42,12 @@ fn read_any(k: u32, bytes: &[u8]) -> Received
 
 // Takes a message of three sections with no jobs back to two, at the start of out, and leaves the bytes
 // after it. It refuses by 2, 6, 7, 8, 15 and 9, in this order, and then writes nothing.
-pub fn to_two(k: u32, bytes: &[u8], out: &mut [u8]) -> Written
+pub fn to_two(k: u32, bytes: &[u8], out: &mut [u8]) -> Result<usize, Refusal>
     ensures { (result, out.new) ≡ to_two_of k bytes.now out.old }
 {
-    let received = read_any(k, bytes);
-    let reading = received.reading;
-    let standing = job_count_in(bytes);
-    match reading {
-        Reading::Heard {
-            acknowledgements,
-            return_bit,
-        } => {
-            if standing != 0 {
-                return Written::Refused(Refusal::HasJobs);
-            }
-            message::write_two(k, acknowledgements, return_bit, out)
-        }
-        Reading::Refused(cause) => Written::Refused(cause),
+    let heard = read_any(k, bytes).reading?;
+    if job_count_in(bytes) != 0 {
+        return Err(Refusal::HasJobs);
     }
+    message::write_two(k, heard.acknowledgements, heard.return_bit, out)
 }

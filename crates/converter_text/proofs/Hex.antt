@@ -1,15 +1,17 @@
 -- Messages as text: one byte more of a text that is read, and one byte more of a text that is put.
 -- Assumes nothing.
-use Prim.Native.Nat.{ℕ, suc, ◌+◌, ◌-◌, ◌*◌, ◌≤◌, ◌<◌}
+use Rattle.std.specs.Prelude.{None, Option, Some}
+use Rattle.std.proofs.lemmas.Option.{none-some, same_Some}
+use Prim.Native.Nat.{ℕ, suc, ◌+◌, ◌*◌, ◌%◌, ◌≤◌, ◌<◌}
 use mathlib.Core.Path.{◌≡◌, refl, sym, ap, ◌∙◌}
-use mathlib.Core.Bool.{Bool, true, false, cond, ◌&&◌, and-eq-true_iff}
+use mathlib.Core.Bool.{Bool, true, false, cond, ◌&&◌}
 use mathlib.Core.List.{List, [], ◌∷◌, ◌++◌, append_assoc}
 use native.Mathlib.Omega.{arith}
 use native.Mathlib.Numerals.{add-one}
 use lib.Dec.{eqb}
-use lib.ListN.{length, get_or, take, drop, set, length-drop, drop_of_length-le}
+use lib.ListN.{length, get_or, take, drop, set, drop_of_length-le}
 use lib.Seq.{drop-cons, take-suc, take-suc-set}
-use borrow.Author.Tests.{ltb-true}
+use Rattle.plan_line.proofs.Words.{and-false}
 use Rattle.converter_text.specs.Recorded.{bytes_of, digit_of, is_hex, is_message, message_text}
 use Rattle.converter_text.specs.Inner.{byte_at}
 
@@ -29,52 +31,48 @@ module _ (l : List ℕ) (i : ℕ) where
       ∙ ap (λ (n : ℕ). get_or l i 0 ∷ get_or l (i + 1) 0 ∷ get_or l (i + 2) 0 ∷ drop n l) three
 
   -- the byte that stands at `i`
-  abbrev here : ℕ
+  abbrev here : Option ℕ
   here = byte_at (get_or l i 0) (get_or l (i + 1) 0) (get_or l (i + 2) 0)
 
   abbrev formed : Bool
   formed = eqb (get_or l i 0) 32 && (is_hex (get_or l (i + 1) 0) && is_hex (get_or l (i + 2) 0))
 
-  is-formed : (here ≤ 255) → formed ≡ true
-  is-formed h = go formed h
-    where
-      go : (t : Bool) → cond t (digit_of (get_or l (i + 1) 0) * 16 + digit_of (get_or l (i + 2) 0)) 256 ≤ 255 → t ≡ true
-      go true e = refl
-      go false e = absurd (omega arith)
+  abbrev whole : ℕ
+  whole = digit_of (get_or l (i + 1) 0) * 16 + digit_of (get_or l (i + 2) 0)
 
-  un-formed : (255 < here) → formed ≡ false
-  un-formed h = go formed refl h
+  is-formed : (b : ℕ) → here ≡ Some b → (formed ≡ true) × (whole ≡ b)
+  is-formed b h = go formed h
     where
-      go : (t : Bool) → formed ≡ t → 255 < cond t (digit_of (get_or l (i + 1) 0) * 16 + digit_of (get_or l (i + 2) 0)) 256 → t ≡ false
-      go false e large = refl
-      go true e large =
-          let digits = ((and-eq-true_iff (eqb (get_or l i 0) 32) (is_hex (get_or l (i + 1) 0) && is_hex (get_or l (i + 2) 0))).0 e).1 in
-          let each = (and-eq-true_iff (is_hex (get_or l (i + 1) 0)) (is_hex (get_or l (i + 2) 0))).0 digits in
-          absurd (omega (arith, ltb-true (digit_of (get_or l (i + 1) 0)) 16 each.0, ltb-true (digit_of (get_or l (i + 2) 0)) 16 each.1))
+      go : (t : Bool) → cond t (Some whole) None ≡ Some b → (t ≡ true) × (whole ≡ b)
+      go true e = (refl, same_Some whole b e)
+      go false e = absurd (none-some b e)
 
-  pub message-next : i + 3 ≤ length l → here ≤ 255 → is_message (drop i l) ≡ is_message (drop (i + 3) l)
+  un-formed : here ≡ None → formed ≡ false
+  un-formed h = go formed h
+    where
+      go : (t : Bool) → cond t (Some whole) None ≡ None → t ≡ false
+      go false e = refl
+      go true e = absurd (none-some whole (sym e))
+
+  pub message-next : i + 3 ≤ length l → (b : ℕ) → here ≡ Some b → is_message (drop i l) ≡ is_message (drop (i + 3) l)
   unfolding is_message
-  message-next h e = ap is_message (three-at h) ∙ ap (λ (t : Bool). t && is_message (drop (i + 3) l)) (is-formed e)
+  message-next h b e = ap is_message (three-at h) ∙ ap (λ (t : Bool). t && is_message (drop (i + 3) l)) (is-formed b e).0
 
-  pub message-stop : i + 3 ≤ length l → 255 < here → is_message (drop i l) ≡ false
+  pub message-stop : i + 3 ≤ length l → here ≡ None → is_message (drop i l) ≡ false
   unfolding is_message
   message-stop h e = ap is_message (three-at h) ∙ ap (λ (t : Bool). t && is_message (drop (i + 3) l)) (un-formed e)
 
-  pub bytes_next : i + 3 ≤ length l → here ≤ 255 → bytes_of (drop i l) ≡ here ∷ bytes_of (drop (i + 3) l)
+  pub bytes_next : i + 3 ≤ length l → (b : ℕ) → here ≡ Some b → bytes_of (drop i l) ≡ b ∷ bytes_of (drop (i + 3) l)
   unfolding bytes_of
-  bytes_next h e =
-      ap bytes_of (three-at h)
-      ∙ ap (λ (t : Bool). cond t (digit_of (get_or l (i + 1) 0) * 16 + digit_of (get_or l (i + 2) 0)) 256 ∷ bytes_of (drop (i + 3) l)) (sym (is-formed e))
+  bytes_next h b e = ap bytes_of (three-at h) ∙ ap (λ (n : ℕ). n ∷ bytes_of (drop (i + 3) l)) (is-formed b e).1
 
-too_short : (m : List ℕ) → 0 < length m → length m < 3 → is_message m ≡ false
+-- a message takes three bytes of text for each byte
+pub message-threes : (m : List ℕ) → (length m % 3 ≡ 0 → ⊥) → is_message m ≡ false
 unfolding is_message
-too_short [] some few = absurd (omega arith)
-too_short (a ∷ []) some few = refl
-too_short (a ∷ b ∷ []) some few = refl
-too_short (a ∷ b ∷ c ∷ m) some few = absurd (omega arith)
-
-pub message-short : (l : List ℕ) (i : ℕ) → i < length l → length l - i < 3 → is_message (drop i l) ≡ false
-message-short l i below few = too_short (drop i l) (omega (arith, length-drop i l)) (omega (arith, length-drop i l))
+message-threes [] h = absurd (h refl)
+message-threes (a ∷ []) h = refl
+message-threes (a ∷ b ∷ []) h = refl
+message-threes (a ∷ b ∷ c ∷ m) h = rw (message-threes m (λ e. h (omega arith))) (and-false (eqb a 32 && (is_hex b && is_hex c)))
 
 pub message-end : (l : List ℕ) (i : ℕ) → length l ≤ i → is_message (drop i l) ≡ true
 unfolding is_message

@@ -1,5 +1,6 @@
 -- The law of pieces: the texts of the pieces and of the end, one after the other, are what is printed of the whole text, however it is cut.
 -- Assumes nothing.
+use Rattle.std.specs.Prelude.{Err, Ok}
 use Prim.Native.Nat.{ℕ, ◌*◌, ◌≤◌, ◌<◌}
 use mathlib.Core.Path.{◌≡◌, refl, sym, ap, ◌∙◌}
 use mathlib.Core.Bool.{Bool, cond}
@@ -15,7 +16,6 @@ use Rattle.plan_text.proofs.Bytewise as bytewise
 use Rattle.plan_text.proofs.Bytewise.{all_lines, in_pieces, kept_full, kept_more, kept-none, put_first, ByLine, Follows, InPieces, Kept}
 use Rattle.plan_text.specs.Text.{input_of, next_line, pasted, refusal_text, written_of}
 use Rattle.plan_text.proofs.Paste.{empty-take}
-use Rattle.plan_text.specs.declared.Written.TheVariants.{Bytes, Refused}
 use Rattle.converter_text.specs.declared.Direction.{Direction}
 use Rattle.converter_text.specs.declared.Recording.{Recording}
 use Rattle.converter_text.specs.Recorded.{converted, line_text, lines_text, unended_text}
@@ -25,11 +25,11 @@ use Rattle.converter_text.proofs.Lines.{an-end, no_end, too_long, unreadable}
 -- ---- what the calls write
 
 module _ (r : Recording) (input out : List ℕ) where
-  pub fed-some : 80 * length input ≤ length out → fed_of r input out ≡ record { recording = after r input; written = Bytes (length (text_of r input)); out = pasted out 0 (text_of r input) }
+  pub fed-some : 80 * length input ≤ length out → fed_of r input out ≡ record { recording = after r input; written = Ok (length (text_of r input)); out = pasted out 0 (text_of r input) }
   unfolding fed_of
   fed-some h = simp (le-leb (80 * length input) (length out) h)
 
-  pub fed-none : length out < 80 * length input → fed_of r input out ≡ record { recording = r; written = Refused OutputShort; out = out }
+  pub fed-none : length out < 80 * length input → fed_of r input out ≡ record { recording = r; written = Err OutputShort; out = out }
   unfolding fed_of
   fed-none h = simp (lt-leb (80 * length input) (length out) h)
 

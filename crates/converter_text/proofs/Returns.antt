@@ -1,5 +1,6 @@
 -- A converted line, and a text of them, comes back as it was: bytes are read back from their text, and a text is that of the bytes that it holds.
 -- Assumes nothing.
+use Rattle.std.specs.Prelude.{Ok}
 use Prim.Native.Nat.{ℕ, zero, suc, ◌+◌, ◌-◌, ◌*◌, ◌/◌, ◌%◌, ◌≤◌, ◌<◌}
 use mathlib.Core.Path.{◌≡◌, refl, sym, ap, ◌∙◌}
 use mathlib.Core.Bool.{Bool, true, false, cond, ◌&&◌, and-eq-true_iff}
@@ -11,7 +12,6 @@ use lib.ListN.{length, take, drop, replicate, length-append, take-append-drop}
 use lib.Seq.{take_at, drop_at}
 use borrow.Author.Tests.{ne_eqb, eqb-true, le-leb, leb-true, lt-ltb, le-ltb, ltb-true}
 use Rattle.message.specs.Message.{AreBytes, message_of, two_sections}
-use Rattle.message.specs.declared.Written.TheVariants.{Bytes}
 use Rattle.message.proofs.Bytes.{bytes-head, bytes-tail}
 use Rattle.message.proofs.Parts.{length-section, length-two}
 use Rattle.message.proofs.RoundTrip.{bytes_take, length-message, message-read}
@@ -152,7 +152,7 @@ three-is : (k a : ℕ) (b : Bool) → message_of k 0 a b 0 ≡ two_sections k a 
 unfolding message_of
 three-is k a b = refl
 
-wrote : (d : Direction) (k : ℕ) (bytes out : List ℕ) (count : ℕ) (after : List ℕ) → k ≤ 31 → AreBytes bytes → conversion d k bytes out ≡ (Bytes count, after) → Wrote bytes out count after
+wrote : (d : Direction) (k : ℕ) (bytes out : List ℕ) (count : ℕ) (after : List ℕ) → k ≤ 31 → AreBytes bytes → conversion d k bytes out ≡ (Ok count, after) → Wrote bytes out count after
 wrote Three k bytes out count after small are e =
     let h = turns-three.gives k bytes out count after e in
     let same : bytes ≡ two_sections k h.a h.b = two-read k h.a h.b 0 bytes are h.said in
@@ -172,8 +172,8 @@ wrote Two k bytes out count after small are e =
       are = rw made (prefix-are (two_sections k h.a h.b) none (rw same at are));
     }
 
-back_is : (d : Direction) (k : ℕ) (bytes : List ℕ) (count : ℕ) (after : List ℕ) → k ≤ 31 → AreBytes bytes → turned d k bytes ≡ (Bytes count, after)
-    → turned (other d) k (take count after) ≡ (Bytes (length bytes), bytes ++ drop (length bytes) (replicate 9 0))
+back_is : (d : Direction) (k : ℕ) (bytes : List ℕ) (count : ℕ) (after : List ℕ) → k ≤ 31 → AreBytes bytes → turned d k bytes ≡ (Ok count, after)
+    → turned (other d) k (take count after) ≡ (Ok (length bytes), bytes ++ drop (length bytes) (replicate 9 0))
 back_is Three k bytes count after small are e =
     there_and_back.from-two.returns k bytes (replicate 9 0) count after (replicate 9 0) are e (wrote Three k bytes (replicate 9 0) count after small are e).short
 back_is Two k bytes count after small are e =

@@ -1,5 +1,6 @@
 -- What comes of a conversion: no k of 100 or more is told apart from another; a message that is written has a k of two digits at the most, and fits the lent bytes.
 -- Assumes nothing.
+use Rattle.std.specs.Prelude.{Err, Ok}
 use Prim.Native.Nat.{ℕ, ◌^◌, ◌≤◌, ◌<◌, min}
 use mathlib.Core.Path.{◌≡◌, refl, sym, ◌∙◌}
 use mathlib.Core.Bool.{Bool, true, false, ◌&&◌, and-eq-true_iff}
@@ -10,9 +11,7 @@ use lib.Dec.{eqb, leb, ltb}
 use lib.ListN.{length}
 use borrow.Author.Tests.{leb-true, lt-leb}
 use native.Mathlib.Nat.{min-eq_right}
-use Rattle.message.specs.declared.Reading.{Reading}
-use Rattle.message.specs.declared.Reading.TheVariants as reading
-use Rattle.message.specs.declared.Written.TheVariants as written
+use Rattle.message.specs.Answers.{Reading}
 use Rattle.message.specs.Message.{Outcome, if_written, in_range, jobs_within, length_of, length_two, unwritten, write_of}
 use Rattle.message.specs.TwoSections.{read_two_of, write_two_of}
 use Rattle.converter.specs.Converter.{job_count_in, read_any_of, to_three_of, to_two_of, written_on}
@@ -43,16 +42,16 @@ turned-capped d k bytes out =
 
 -- What holds where a message is written.
 abbrev Fits : ℕ → List ℕ → Outcome → Type 0
-Fits k out (written.Bytes count, after) = (in_range k ≡ true) × (count ≤ length out)
-Fits k out (written.Refused cause, after) = Unit {0}
+Fits k out (Ok count, after) = (in_range k ≡ true) × (count ≤ length out)
+Fits k out (Err cause, after) = Unit {0}
 
 fits-if : (k : ℕ) (out : List ℕ) (t : Bool) (number : ℕ) (o : Outcome) → (t ≡ true → Fits k out o) → Fits k out (if_written t number out o)
 fits-if k out true number o h = h refl
 fits-if k out false number o h = tt
 
 fits_on : (k : ℕ) (r : Reading) (out : List ℕ) (on : ℕ → Bool → Outcome) → ((a : ℕ) (b : Bool) → Fits k out (on a b)) → Fits k out (written_on r out on)
-fits_on k (reading.Heard a b) out on h = h a b
-fits_on k (reading.Refused cause) out on h = tt
+fits_on k (Ok said) out on h = h said.acknowledgements said.return_bit
+fits_on k (Err cause) out on h = tt
 
 fits-three : (k a : ℕ) (b : Bool) (out : List ℕ) → Fits k out (write_of k 0 a b 0 out)
 unfolding write_of
@@ -75,7 +74,7 @@ fits Two k bytes out =
     fits_on k (read_any_of k bytes).reading out (λ a b. if_written (eqb (job_count_in bytes) 0) 15 out (write_two_of k a b out))
     (λ a b. fits-if k out (eqb (job_count_in bytes) 0) 15 _ (λ _. fits-two k a b out))
 
-module _ (d : Direction) (k : ℕ) (bytes out : List ℕ) (count : ℕ) (after : List ℕ) (e : ◌≡◌ {A = Outcome} (written.Bytes count, after) (conversion d k bytes out)) where
+module _ (d : Direction) (k : ℕ) (bytes out : List ℕ) (count : ℕ) (after : List ℕ) (e : ◌≡◌ {A = Outcome} (Ok count, after) (conversion d k bytes out)) where
   both : (in_range k ≡ true) × (count ≤ length out)
   both = rw (← e) at (fits d k bytes out)
 

@@ -1,10 +1,9 @@
 -- What `feed` and `finish` answer, what they leave in the lent bytes, and the law that ties them to the whole text.
-use Rattle.std.specs.Prelude.{ℕ, ◌+◌, ◌*◌, ◌≡◌, cond, List, [], ◌∷◌, ◌++◌, eqb, ltb, leb, length, take, replicate, set}
+use Rattle.std.specs.Prelude.{ℕ, ◌+◌, ◌*◌, ◌≡◌, cond, List, [], ◌∷◌, ◌++◌, eqb, ltb, leb, length, take, replicate, set, Err, Ok}
 use Rattle.refusal.specs.Causes.{cause}
 use Rattle.plan_text.specs.Bytewise.{after_bytes, bytes_text, RoomFor}
 use Rattle.plan_text.specs.Text.{input_of, next_line, pasted, written_in, written_of, Piece}
-use Rattle.plan_text.specs.declared.Written.{Written}
-use Rattle.plan_text.specs.declared.Written.TheVariants.{Bytes, Refused}
+use Rattle.plan_text.specs.Text.{Written}
 use Rattle.converter_text.specs.declared.Direction.{Direction}
 use Rattle.converter_text.specs.declared.Recording.{Recording}
 use Rattle.converter_text.specs.declared.Fed as code
@@ -61,8 +60,8 @@ pub record Fed : Type 0 where
 unfoldable pub fed_of : Recording → List ℕ → List ℕ → Fed
 fed_of r input out =
     cond (leb (80 * length input) (length out))
-    (record { recording = after r input; written = Bytes (length (text_of r input)); out = pasted out 0 (text_of r input) })
-    (record { recording = r; written = Refused (cause 9); out = out })
+    (record { recording = after r input; written = Ok (length (text_of r input)); out = pasted out 0 (text_of r input) })
+    (record { recording = r; written = Err (cause 9); out = out })
 
 -- What the code answers, and leaves.
 abbrev pub fed_as : code.Fed → List ℕ → Fed

@@ -1,8 +1,7 @@
 -- Request i: a file of recorded messages, brought to the other form as text. A text is the list of its bytes. A line holds k and then the message, as
 -- document 01 writes both: "Decimal, no leading zeros, single spaces", "Hexadecimal bytes": `2 02 03 01 00`.
-use Rattle.std.specs.Prelude.{ℕ, ◌+◌, ◌-◌, ◌*◌, ◌/◌, ◌%◌, Bool, true, false, cond, ◌&&◌, List, [], ◌∷◌, ◌++◌, eqb, ltb, leb, length, take, drop, replicate}
+use Rattle.std.specs.Prelude.{ℕ, ◌+◌, ◌-◌, ◌*◌, ◌/◌, ◌%◌, Bool, true, false, cond, ◌&&◌, List, [], ◌∷◌, ◌++◌, eqb, ltb, leb, length, take, drop, replicate, Err, Ok}
 use Rattle.refusal.specs.Causes.{number_of}
-use Rattle.message.specs.declared.Written.TheVariants.{Bytes, Refused}
 use Rattle.message.specs.Message.{Outcome}
 use Rattle.converter.specs.Converter.{to_three_of, to_two_of}
 use Rattle.converter.specs.ThereAndBack.{Conversion}
@@ -63,8 +62,8 @@ turned d k bytes = conversion d k bytes (replicate 9 0)
 
 -- What is printed: k as it stands and the message in the other form; or "`line L refusal N`".
 abbrev pub outcome_text : ℕ → List ℕ → Outcome → List ℕ
-outcome_text L word (Bytes count, out) = word ++ message_text (take count out) ++ (10 ∷ [])
-outcome_text L word (Refused cause, out) = refusal_text L (number_of cause)
+outcome_text L word (Ok count, out) = word ++ message_text (take count out) ++ (10 ∷ [])
+outcome_text L word (Err cause, out) = refusal_text L (number_of cause)
 
 -- "plan line unreadable or too long" is 12, and comes first.
 unfoldable pub line_text : Direction → ℕ → List ℕ → List ℕ

@@ -1,6 +1,5 @@
 -- A converted line is a line of the other direction, and comes back as it was; so does a text of which no line is refused.
-use Rattle.std.specs.Prelude.{ℕ, ◌≡◌, true, List, [], ◌∷◌, ◌++◌, take}
-use Rattle.message.specs.declared.Written.TheVariants.{Bytes}
+use Rattle.std.specs.Prelude.{ℕ, ◌≡◌, true, List, [], ◌∷◌, ◌++◌, take, Ok}
 use Rattle.message.specs.Message.{Outcome}
 use Rattle.plan_line.specs.Words.{before, value_of}
 use Rattle.converter_text.specs.declared.Direction.{Direction}
@@ -16,7 +15,7 @@ pub record Converts (d : Direction) (line : List ℕ) : Type 0 where
   pub form : readable line ≡ true
   pub count : ℕ
   pub after : List ℕ
-  pub wrote : ◌≡◌ {A = Outcome} (turned d (value_of (before line)) (bytes_of (behind line))) (Bytes count, after)
+  pub wrote : ◌≡◌ {A = Outcome} (turned d (value_of (before line)) (bytes_of (behind line))) (Ok count, after)
 
 -- What is printed of it, without the line feed.
 abbrev pub there : {d : Direction} {line : List ℕ} → Converts d line → List ℕ

@@ -1,16 +1,15 @@
 // A file of recorded messages as text (document 02, request i): k and a message on each line, brought to
 // the other form. The text comes in pieces, and what is printed of it goes into lent bytes. `feed`
-// converts the lines that end in a piece, `finish` ends the text. Reading and writing are `convert_main`.
+// converts the lines that end in a piece, `finish` ends the text. `convert_main` has it read and written.
 #![tactic(auto)]
 
 ghost use Rattle.std.specs.Prelude.{◌≡◌, true, ◌++◌, ◌∷◌, [], ◌+◌, ◌*◌, ◌≤◌, ◌<◌, length};
 ghost use Rattle.plan_line.specs.Words.{is_number, value_of};
 ghost use Rattle.plan_text.specs.Text.{PutAt, PutFew};
-ghost use Rattle.converter_text.specs.Recorded.{capital, conversion, digit_of, line_text, message_text, outcome_text, turned};
+ghost use Rattle.converter_text.specs.Recorded.{capital, conversion, line_text, message_text, outcome_text, turned};
 ghost use Rattle.converter_text.specs.Calls.{after, fed_as, fed_of, finished_of, line_ended, start_of, text_of, with_byte};
-ghost use Rattle.converter_text.specs.Inner.{byte_at, Read, Took};
+ghost use Rattle.converter_text.specs.Inner.{byte_at, digit_at, Read, Took};
 
-use plan_text::Written;
 use refusal::Refusal;
 
 // The form that messages are brought to.
@@ -21,7 +20,8 @@ pub enum Direction {
 }
 
 // A recording as far as it has come: the form asked for, the number of lines that have ended, and of the
-// next line its first 121 bytes at the most. No longer line is readable.
+// next line its first 121 bytes at the most, in an array, since there is no heap. No longer line is
+// readable.
 #[derive(Clone, Copy)]
 pub struct Recording {
     pub direction: Direction,
@@ -34,7 +34,7 @@ pub struct Recording {
 #[derive(Clone, Copy)]
 pub struct Fed {
     pub recording: Recording,
-    pub written: Written,
+    pub written: Result<usize, Refusal>,
 }
 
 // What came of a byte: the recording, and the place after what was printed.
@@ -44,31 +44,23 @@ struct Taken {
     at: usize,
 }
 
-// The message of a line, where it has one: the first `count` bytes.
+// The message of a line: the first `count` bytes.
 #[derive(Clone, Copy)]
 struct Message {
-    readable: bool,
     count: usize,
     bytes: [u8; 40],
 }
 
-// The digit of a byte, 16 where it is none.
-fn digit_of(byte: u8) -> u8
-    ensures { result ≡ digit_of byte }
+// The digit of a byte, where it is one.
+#[tactic(auto, unfolding(crate::specs::Recorded::digit_of))]
+fn digit_of(byte: u8) -> Option<u8>
+    ensures { result ≡ digit_at byte }
 {
-    if byte < 48 {
-        return 16;
+    match byte {
+        b'0'..=b'9' => Some(byte - b'0'),
+        b'A'..=b'F' => Some(byte - b'A' + 10),
+        _ => None,
     }
-    if byte <= 57 {
-        return byte - 48;
-    }
-    if byte < 65 {
-        return 16;
-    }
-    if byte <= 70 {
-        return byte - 55;
-    }
-    16
 }
 
 // The byte of a digit.
@@ -77,65 +69,42 @@ fn capital(digit: u8) -> u8
     ensures { result ≡ capital digit }
 {
     if digit < 10 {
-        return 48 + digit;
+        b'0' + digit
+    } else {
+        b'A' + (digit - 10)
     }
-    55 + digit
 }
 
-// The byte whose text is these three bytes, 256 where they are no byte's.
-fn byte_of(space: u8, high: u8, low: u8) -> u32
+// The byte whose text is these three bytes, where they are a byte's.
+fn byte_of(space: u8, high: u8, low: u8) -> Option<u8>
     ensures { result ≡ byte_at space high low }
 {
-    let higher = digit_of(high) as u32;
-    let lower = digit_of(low) as u32;
-    if space != 32 {
-        return 256;
+    if space != b' ' {
+        return None;
     }
-    if 15 < higher {
-        return 256;
-    }
-    if 15 < lower {
-        return 256;
-    }
-    higher * 16 + lower
+    let higher = digit_of(high)?;
+    let lower = digit_of(low)?;
+    Some(higher * 16 + lower)
 }
 
 // Reads the message of a line, from the space before its first byte on. Requires a text that a line holds.
-fn message_in(text: &[u8]) -> Message
+fn message_in(text: &[u8]) -> Option<Message>
     requires { length text.now ≤ 120 }
     ensures { Read text.now result }
 {
     let mut bytes = [0u8; 40];
-    let mut count = 0;
-    let mut i = 0;
-    while i < text.len() {
-        if text.len() - i < 3 {
-            return Message {
-                readable: false,
-                count: 0,
-                bytes,
-            };
-        }
-        let byte = byte_of(text[i], text[i + 1], text[i + 2]);
-        if 255 < byte {
-            return Message {
-                readable: false,
-                count: 0,
-                bytes,
-            };
-        }
-        bytes[count] = byte as u8;
-        count += 1;
-        i += 3;
+    let count = text.len() / 3;
+    if text.len() % 3 != 0 {
+        return None;
     }
-    Message {
-        readable: true,
-        count,
-        bytes,
+    for i in 0..count {
+        bytes[i] = byte_of(text[3 * i], text[3 * i + 1], text[3 * i + 2])?;
     }
+    Some(Message { count, bytes })
 }
 
 // Puts a byte of a message, after a space.
+#[tactic(auto, unfolding(crate::specs::Recorded::message_text))]
 fn put_byte(out: &mut [u8], at: usize, byte: u8) -> usize
     requires { at + 3 ≤ length out.old }
     ensures { PutAt result at (message_text (byte ∷ [])) out.old out.new }
@@ -151,10 +120,8 @@ fn put_message(out: &mut [u8], at: usize, bytes: &[u8]) -> usize
     ensures { PutAt result at (message_text bytes.now) out.old out.new }
 {
     let mut end = at;
-    let mut i = 0;
-    while i < bytes.len() {
-        end = put_byte(out, end, bytes[i]);
-        i += 1;
+    for &byte in bytes {
+        end = put_byte(out, end, byte);
     }
     end
 }
@@ -170,7 +137,7 @@ fn put_converted(out: &mut [u8], at: usize, word: &[u8], bytes: &[u8]) -> usize
 }
 
 // Converts a message.
-fn turn(direction: Direction, k: u32, bytes: &[u8], out: &mut [u8]) -> message::Written
+fn turn(direction: Direction, k: u32, bytes: &[u8], out: &mut [u8]) -> Result<usize, Refusal>
     ensures { (result, out.new) ≡ conversion direction k bytes.now out.old }
 {
     match direction {
@@ -194,13 +161,8 @@ fn put_turned(
     let mut made = [0u8; 9];
     let written = turn(direction, plan_line::small_value(word), bytes, &mut made);
     match written {
-        message::Written::Bytes(count) => put_converted(out, at, word, &made[..count]),
-        message::Written::Refused(cause) => plan_text::put_refusal(
-            out,
-            at,
-            line,
-            refusal::number(cause),
-        ),
+        Ok(count) => put_converted(out, at, word, &made[..count]),
+        Err(cause) => plan_text::put_refusal(out, at, line, refusal::number(cause)),
     }
 }
 
@@ -216,12 +178,11 @@ fn put_line(out: &mut [u8], at: usize, direction: Direction, line: u64, text: &[
     if !plan_line::is_number(&text[..end]) {
         return plan_text::put_refusal(out, at, line, 12);
     }
-    let read = message_in(&text[end..]);
+    let Some(read) = message_in(&text[end..]) else {
+        return plan_text::put_refusal(out, at, line, 12);
+    };
     let count = read.count;
     let bytes = read.bytes;
-    if !read.readable {
-        return plan_text::put_refusal(out, at, line, 12);
-    }
     put_turned(out, at, direction, line, &text[..end], &bytes[..count])
 }
 
@@ -237,7 +198,8 @@ pub fn start(direction: Direction) -> Recording
     }
 }
 
-// With one byte more of the next line.
+// With one byte more of the next line. `plan_report` has the like for its own line: a recording holds its
+// bytes itself, as callers see them.
 fn with_byte(r: Recording, byte: u8) -> Recording
     ensures { result ≡ with_byte r byte }
 {
@@ -273,7 +235,7 @@ fn take_byte(r: Recording, byte: u8, out: &mut [u8], at: usize) -> Taken
         };
     }
     let text = r.text;
-    let length = if r.length < 121 { r.length } else { 121 };
+    let length = r.length.min(121);
     let direction = r.direction;
     let line = plan_text::next_line(r.lines);
     let end = put_line(out, at, direction, line, &text[..length]);
@@ -283,7 +245,8 @@ fn take_byte(r: Recording, byte: u8, out: &mut [u8], at: usize) -> Taken
     }
 }
 
-// Takes the bytes of a piece. Requires room.
+// Takes the bytes of a piece. Requires room. `plan_report` has the like: a trait for both would have to carry
+// `after`, `text_of` and their laws for a loop of one line.
 fn take_bytes(r: Recording, input: &[u8], out: &mut [u8]) -> Taken
     requires { 80 * length input.now ≤ length out.old }
     ensures { (result.recording ≡ after r input.now) × (PutAt result.at 0 (text_of r input.now) out.old out.new) }
@@ -292,11 +255,9 @@ fn take_bytes(r: Recording, input: &[u8], out: &mut [u8]) -> Taken
         recording: r,
         at: 0,
     };
-    let mut i = 0;
-    while i < input.len() {
+    for &byte in input {
         let recording = taken.recording;
-        taken = take_byte(recording, input[i], out, taken.at);
-        i += 1;
+        taken = take_byte(recording, byte, out, taken.at);
     }
     taken
 }
@@ -308,26 +269,26 @@ pub fn feed(recording: Recording, input: &[u8], out: &mut [u8]) -> Fed
     if out.len() / 80 < input.len() {
         return Fed {
             recording,
-            written: Written::Refused(Refusal::OutputShort),
+            written: Err(Refusal::OutputShort),
         };
     }
     let taken = take_bytes(recording, input, out);
     let next = taken.recording;
     Fed {
         recording: next,
-        written: Written::Bytes(taken.at),
+        written: Ok(taken.at),
     }
 }
 
 // Ends the input. It refuses by 9, and then does nothing.
-pub fn finish(recording: Recording, out: &mut [u8]) -> Written
+pub fn finish(recording: Recording, out: &mut [u8]) -> Result<usize, Refusal>
     ensures { (result, out.new) ≡ finished_of recording out.old }
 {
     if recording.length != 0 {
         return plan_text::refusal_line(out, 0, plan_text::next_line(recording.lines), 12);
     }
     if out.len() < 80 {
-        return Written::Refused(Refusal::OutputShort);
+        return Err(Refusal::OutputShort);
     }
-    Written::Bytes(0)
+    Ok(0)
 }

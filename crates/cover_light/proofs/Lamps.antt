@@ -6,15 +6,15 @@ use mathlib.Core.List.{List, ◌++◌, map}
 use native.Mathlib.Omega.{arith}
 use native.Mathlib.Nat.{zero-add}
 use native.Mathlib.Numerals.{add-one}
-use lib.Dec.{eqb, leb}
-use lib.ListN.{length, get_or, take, drop, set, length-map, get_or-eq_default}
+use lib.Dec.{leb}
+use lib.ListN.{length, get_or, take, drop, set, length-map}
 use lib.Seq.{take_all, paste-suc}
 use borrow.Author.Tests.{eq-eqb, ne_eqb, le-leb, lt-leb}
-use Rattle.nodeset.proofs.Tests.{all}
+use Rattle.std.specs.List.{list_all}
+use Rattle.std.proofs.lemmas.List.Folds.{list_all_more}
 use Rattle.cable.specs.slot_table.Order.{numbers_from}
 use Rattle.cable.proofs.slot_table.Numbers.{count_of}
 use Rattle.node.specs.node_reports.Reports.{every_below}
-use Rattle.node.proofs.node_reports.Below.{every-stop, every-end}
 use Rattle.message.specs.Message.{unwritten, wrote}
 use Rattle.node_record.specs.declared.Node.{Node}
 use Rattle.node_record.specs.Soundness.{sound}
@@ -31,9 +31,6 @@ unfolding base
 base-none bases zero h = refl
 base-none bases (suc i) h = let z : ⊥ = omega arith in absurd z
 
-pub base-beyond : (bases : List ℕ) (lamp : ℕ) → 1 ≤ lamp → length bases ≤ lamp - 1 → 0 ≡ base bases lamp
-base-beyond bases lamp h l = sym (get_or-eq_default bases 0 l) ∙ base-at bases lamp h
-
 -- ---- the table of bases
 
 abbrev dim : List ℕ → ℕ → Bool
@@ -43,17 +40,21 @@ pub unfit-length : (n : ℕ) (bases : List ℕ) → (length bases ≡ n → ⊥)
 unfolding bases_fit
 unfit-length n bases h = ap (λ (b : Bool). b && every_below (dim bases) n) (sym (ne_eqb (length bases) n h))
 
-pub unfit-base : (n : ℕ) (bases : List ℕ) (i : ℕ) → i < n → dim bases i ≡ false → false ≡ bases_fit n bases
-unfolding bases_fit
-unfit-base n bases i h e = both_false (eqb (length bases) n) _ (sym (every-stop (dim bases) i n h e))
-  where
-    both_false : (a b : Bool) → b ≡ false → false ≡ (a && b)
-    both_false true b e = sym e
-    both_false false b e = refl
+-- each of the first m bases
+each-below : (bases : List ℕ) (m : ℕ) → m ≤ length bases → list_all (λ x. leb x brightest) (take m bases) ≡ every_below (dim bases) m
+unfolding every_below
+each-below bases zero h = refl
+each-below bases (suc m) h =
+    ap (λ (i : ℕ). list_all (λ x. leb x brightest) (take i bases)) (sym (add-one m))
+    ∙ list_all_more (λ x. leb x brightest) bases m 0 h
+    ∙ ap (λ (b : Bool). b && dim bases m) (each-below bases m (omega arith))
 
-pub fit-by : (n : ℕ) (bases : List ℕ) (i : ℕ) → length bases ≡ n → every_below (dim bases) i ≡ true → i ≤ n → n ≤ i → true ≡ bases_fit n bases
+pub fit-by : (n : ℕ) (bases : List ℕ) → length bases ≡ n → list_all (λ x. leb x brightest) bases ≡ bases_fit n bases
 unfolding bases_fit
-fit-by n bases i e h l m = sym (all (eq-eqb (length bases) n e) (sym (every-end (dim bases) i n h l m)))
+fit-by n bases e =
+    sym (ap (list_all (λ x. leb x brightest)) (take_all n bases (omega arith)))
+    ∙ each-below bases n (omega arith)
+    ∙ sym (ap (λ (b : Bool). b && every_below (dim bases) n) (eq-eqb (length bases) n e))
 
 -- ---- the levels as they are written, f giving that of each lamp
 

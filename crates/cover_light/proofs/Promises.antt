@@ -1,4 +1,5 @@
 -- What request n promises holds. Assumes nothing.
+use Rattle.std.specs.Prelude.{Err, Ok}
 use Prim.Native.Nat.{ℕ, ◌+◌, ◌-◌, ◌≤◌}
 use mathlib.Core.Path.{◌≡◌, refl, sym, ap, ◌∙◌}
 use mathlib.Core.Bool.{Bool, true, false, cond}
@@ -13,13 +14,12 @@ use Rattle.nodeset.proofs.Tests.{by_cases, all, chosen, otherwise}
 use Rattle.nodeset.proofs.Laws.{without-part}
 use Rattle.cable.specs.Cable.{node_number}
 use Rattle.cable.specs.slot_table.Order.{numbers_from}
-use Rattle.message.specs.declared.Written.TheVariants.{Bytes}
+use Rattle.message.specs.Answers.{Written}
 use Rattle.message.specs.Message.{Outcome, if_written, unwritten}
 use Rattle.node_record.specs.declared.Node.{Node}
 use Rattle.node_record.specs.States.{is_member}
 use Rattle.node_record.specs.Soundness.{sound}
-use Rattle.cover_light.specs.declared.Light.{Light}
-use Rattle.cover_light.specs.declared.Light.TheVariants.{Level, Refused}
+use Rattle.cover_light.specs.Light.{Light}
 use Rattle.cover_light.specs.Light.{brightest, half, worked, lamp_level, bases_fit, level_of, all_levels, levels_of}
 use Rattle.cover_light.specs.Promises.{Work, Alike, CoverLight}
 use Rattle.cover_light.proofs.Lamps.{number_at, how-many}
@@ -27,11 +27,11 @@ use Rattle.cover_light.proofs.Lamps.{number_at, how-many}
 -- ---- a level that is given
 
 -- a choice that is a level is the first of the two, where the second is a refusal
-not-refused : (t : Bool) (x : Light) (why : Refusal) (a : ℕ) → cond t x (Refused why) ≡ Level a → x ≡ Level a
+not-refused : (t : Bool) (x : Light) (why : Refusal) (a : ℕ) → cond t x (Err why) ≡ Ok a → x ≡ Ok a
 not-refused true x why a e = e
 not-refused false x why a e = let z : ◌≡◌ {A = ℕ} 0 1 = cc in absurd (omega arith)
 
-level-is : (v : Node) (bases : List ℕ) (lamp a : ℕ) → level_of v bases lamp ≡ Level a → a ≡ lamp_level v bases lamp
+level-is : (v : Node) (bases : List ℕ) (lamp a : ℕ) → level_of v bases lamp ≡ Ok a → a ≡ lamp_level v bases lamp
 unfolding level_of
 level-is v bases lamp a e =
     let one = not-refused (sound v) _ _ a e in
@@ -39,7 +39,7 @@ level-is v bases lamp a e =
     let three = not-refused (bases_fit v.cable.n bases) _ _ a two in
     cc three
 
-pub given-by : (v : Node) (bases : List ℕ) (lamp : ℕ) → sound v ≡ true → node_number v.cable.n lamp ≡ true → bases_fit v.cable.n bases ≡ true → level_of v bases lamp ≡ Level (lamp_level v bases lamp)
+pub given-by : (v : Node) (bases : List ℕ) (lamp : ℕ) → sound v ≡ true → node_number v.cable.n lamp ≡ true → bases_fit v.cable.n bases ≡ true → level_of v bases lamp ≡ Ok (lamp_level v bases lamp)
 unfolding level_of
 given-by v bases lamp s l f = rw (s, l, f) refl
 
@@ -47,7 +47,7 @@ pub member-level : (v : Node) (bases : List ℕ) (lamp : ℕ) → is_member v.st
 unfolding lamp_level
 member-level v bases lamp m = chosen _ _ m
 
-worked-level : (v : Node) (bases : List ℕ) (lamp a : ℕ) → is_member v.state ≡ true → level_of v bases lamp ≡ Level a → a ≡ worked v.set bases lamp
+worked-level : (v : Node) (bases : List ℕ) (lamp a : ℕ) → is_member v.state ≡ true → level_of v bases lamp ≡ Ok a → a ≡ worked v.set bases lamp
 worked-level v bases lamp a m e = level-is v bases lamp a e ∙ member-level v bases lamp m
 
 -- ---- equal lists
@@ -93,7 +93,7 @@ no-darker v w bases lamp a b x e k =
 
 -- ---- at most 254
 
-at_most : (v : Node) (bases : List ℕ) (lamp a : ℕ) → level_of v bases lamp ≡ Level a → a ≤ brightest
+at_most : (v : Node) (bases : List ℕ) (lamp a : ℕ) → level_of v bases lamp ≡ Ok a → a ≤ brightest
 unfolding lamp_level worked
 at_most v bases lamp a e =
     let is = level-is v bases lamp a e in
@@ -103,12 +103,12 @@ at_most v bases lamp a e =
 
 -- ---- what is written
 
-not-unwritten : (t : Bool) (number : ℕ) (out : List ℕ) (o : Outcome) (count : ℕ) (after : List ℕ) → if_written t number out o ≡ (Bytes count, after) → (t ≡ true) × (o ≡ (Bytes count, after))
+not-unwritten : (t : Bool) (number : ℕ) (out : List ℕ) (o : Outcome) (count : ℕ) (after : List ℕ) → if_written t number out o ≡ (Ok count, after) → (t ≡ true) × (o ≡ (Ok count, after))
 not-unwritten true number out o count after e = (refl, e)
-not-unwritten false number out o count after e = let q : unwritten number ≡ Bytes count = ap (λ (r : Outcome). r.0) e in let z : ◌≡◌ {A = ℕ} 0 1 = cc in absurd (omega arith)
+not-unwritten false number out o count after e = let q : unwritten number ≡ Ok count = ap (λ (r : Outcome). r.0) e in let z : ◌≡◌ {A = ℕ} 0 1 = cc in absurd (omega arith)
 
-written : (v : Node) (bases out : List ℕ) (count : ℕ) (after : List ℕ) → levels_of v bases out ≡ (Bytes count, after)
-    → (lamp : ℕ) → 1 ≤ lamp → lamp ≤ count → level_of v bases lamp ≡ Level (get_or after (lamp - 1) 0)
+written : (v : Node) (bases out : List ℕ) (count : ℕ) (after : List ℕ) → levels_of v bases out ≡ (Ok count, after)
+    → (lamp : ℕ) → 1 ≤ lamp → lamp ≤ count → level_of v bases lamp ≡ Ok (get_or after (lamp - 1) 0)
 unfolding levels_of all_levels
 written v bases out count after e lamp h l =
     let n = v.cable.n in
@@ -116,13 +116,13 @@ written v bases out count after e lamp h l =
     let one = not-unwritten (sound v) 4 out _ count after e in
     let two = not-unwritten (bases_fit n bases) 20 out _ count after one.1 in
     let three = not-unwritten (leb n (length out)) 9 out _ count after two.1 in
-    let told : Bytes n ≡ Bytes count = ap (λ (r : Outcome). r.0) three.1 in
+    let told : ◌≡◌ {A = Written} (Ok n) (Ok count) = ap (λ (r : Outcome). r.0) three.1 in
     let many : n ≡ count = cc in
     let laid : map f (numbers_from n 1) ++ drop n out ≡ after = ap (λ (r : Outcome). r.1) three.1 in
     let z : 1 + (lamp - 1) ≡ lamp = omega arith in
     let here : get_or after (lamp - 1) 0 ≡ f lamp
     = sym (ap (λ (o : List ℕ). get_or o (lamp - 1) 0) laid) ∙ get_or-append (map f (numbers_from n 1)) (drop n out) 0 (lamp - 1) (omega (arith, how-many f n)) ∙ number_at f n 1 (lamp - 1) (omega arith) ∙ ap f z in
-    given-by v bases lamp one.0 (all (le-leb 1 lamp h) (le-leb lamp n (omega arith))) two.0 ∙ sym (ap (λ (x : ℕ). Level x) here)
+    given-by v bases lamp one.0 (all (le-leb 1 lamp h) (le-leb lamp n (omega arith))) two.0 ∙ sym (ap (λ (x : ℕ). Ok x) here)
 
 -- ---- all of it
 

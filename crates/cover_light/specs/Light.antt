@@ -1,5 +1,6 @@
 -- Document 02, request n, "Cover light": the level of each lamp, worked out from what a node knows. Lamps have the nodes' numbers, 1 to n, whatever the slot table.
-use Rattle.std.specs.Prelude.{ℕ, zero, suc, ◌+◌, ◌-◌, ◌/◌, min, Bool, cond, ◌&&◌, List, ◌++◌, map, eqb, leb, length, get_or, drop}
+use Rattle.std.specs.Prelude.{ℕ, zero, suc, ◌+◌, ◌-◌, ◌/◌, min, Bool, cond, ◌&&◌, List, ◌++◌, map, eqb, leb, length, get_or, drop, Err, Ok, Result}
+use Rattle.refusal.specs.declared.Refusal.{Refusal}
 use Rattle.refusal.specs.Causes.{cause}
 use Rattle.nodeset.specs.Sets.{has}
 use Rattle.cable.specs.slot_table.Order.{numbers_from}
@@ -9,8 +10,10 @@ use Rattle.message.specs.Message.{Outcome, if_written, wrote}
 use Rattle.node_record.specs.declared.Node.{Node}
 use Rattle.node_record.specs.States.{is_member}
 use Rattle.node_record.specs.Soundness.{sound}
-use Rattle.cover_light.specs.declared.Light.{Light}
-use Rattle.cover_light.specs.declared.Light.TheVariants.{Level, Refused}
+
+-- The level of a lamp, or why there is none.
+abbrev pub Light : Type 0
+Light = Result ℕ Refusal
 
 -- "0 to 254"; "at most 254"; "254 for each lamp".
 abbrev pub brightest : ℕ
@@ -47,9 +50,9 @@ unfoldable pub level_of : Node → List ℕ → ℕ → Light
 level_of v bases lamp =
     cond (sound v)
     (cond (node_number v.cable.n lamp)
-    (cond (bases_fit v.cable.n bases) (Level (lamp_level v bases lamp)) (Refused (cause 20)))
-    (Refused (cause 3)))
-    (Refused (cause 4))
+    (cond (bases_fit v.cable.n bases) (Ok (lamp_level v bases lamp)) (Err (cause 20)))
+    (Err (cause 3)))
+    (Err (cause 4))
 
 -- The levels of the lamps 1 to n.
 unfoldable pub all_levels : Node → List ℕ → List ℕ

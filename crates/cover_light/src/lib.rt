@@ -9,36 +9,18 @@ ghost use Rattle.node_record.specs.Soundness.{sound};
 ghost use Rattle.node_record.specs.Held.{setted};
 ghost use Rattle.cover_light.specs.Light.{base, half, worked, given_by, bases_fit, level_of, levels_of};
 
-use message::Written;
-use node::Answer;
 use node_record::{Held, Node};
 use refusal::Refusal;
 
-// The level of a lamp, or why there is none.
-#[derive(Clone, Copy)]
-pub enum Light {
-    Level(u8),
-    Refused(Refusal),
-}
-
-fn wide(x: u8) -> u32
-    ensures { result ≡ x }
-{
-    x as u32
-}
-
-// The base of a lamp; 0 where there is no such lamp.
+// The base of a lamp; 0 where there is no such lamp, by the definition `base`: "Lamps 1 and n have one
+// neighbour".
 fn base(bases: &[u8], lamp: u32) -> u8
     ensures { result ≡ base bases.now lamp }
 {
     if lamp == 0 {
         return 0;
     }
-    let i = (lamp - 1) as usize;
-    if bases.len() <= i {
-        return 0;
-    }
-    bases[i]
+    bases.get((lamp - 1) as usize).copied().unwrap_or(0)
 }
 
 // What a neighbour adds: half its base, if it is not listed.
@@ -59,11 +41,8 @@ fn worked(list: u32, bases: &[u8], lamp: u32) -> u8
     let own = base(bases, lamp);
     let before = half(list, bases, lamp - 1);
     let after = half(list, bases, lamp + 1);
-    let sum = wide(own) + wide(before) + wide(after);
-    if 254 < sum {
-        return 254;
-    }
-    sum as u8
+    let sum = u32::from(own) + u32::from(before) + u32::from(after);
+    sum.min(254) as u8
 }
 
 // The level that a node gives, a member or not. Requires a number of a lamp.
@@ -81,45 +60,30 @@ fn given(member: bool, list: u32, bases: &[u8], lamp: u32) -> u8
 fn bases_fit(n: u32, bases: &[u8]) -> bool
     ensures { result ≡ bases_fit n bases.now }
 {
-    if bases.len() != n as usize {
-        return false;
-    }
-    let mut i = 0;
-    while i < bases.len() {
-        if 254 < bases[i] {
-            return false;
-        }
-        i += 1;
-    }
-    true
+    bases.len() == n as usize && bases.iter().all(|&base| base <= 254)
 }
 
 // The level of a lamp by the record of the rules. Requires a sound one.
-fn level_by(v: Node, bases: &[u8], lamp: u32) -> Light
+fn level_by(v: Node, bases: &[u8], lamp: u32) -> Result<u8, Refusal>
     requires { sound v ≡ true }
     ensures { result ≡ level_of v bases.now lamp }
 {
     if !cable::is_node_number(v.cable.n, lamp) {
-        return Light::Refused(Refusal::NodeNumber);
+        return Err(Refusal::NodeNumber);
     }
     if !bases_fit(v.cable.n, bases) {
-        return Light::Refused(Refusal::LampBases);
+        return Err(Refusal::LampBases);
     }
     let state = v.state;
-    Light::Level(given(node_record::is_member(state), v.set, bases, lamp))
+    Ok(given(node_record::is_member(state), v.set, bases, lamp))
 }
 
 // The level of a lamp. Refuses by 4, 3 and 20, in this order.
-pub fn level(v: Held, bases: &[u8], lamp: u32) -> Light
+pub fn level(v: Held, bases: &[u8], lamp: u32) -> Result<u8, Refusal>
     ensures { result ≡ level_of (setted v) bases.now lamp }
 {
-    let converted = node::as_set(v);
-    let node = converted.node;
-    let answer = converted.answer;
-    match answer {
-        Answer::Done => level_by(node, bases, lamp),
-        Answer::Refused(cause) => Light::Refused(cause),
-    }
+    let node = node::as_set(v)?;
+    level_by(node, bases, lamp)
 }
 
 // Writes the levels of the lamps 1 to n to the start of out. Requires room for them, and n at most 32.
@@ -127,40 +91,33 @@ fn fill(member: bool, list: u32, n: u32, bases: &[u8], out: &mut [u8])
     requires { (n ≤ 32) × (n ≤ length out.old) }
     ensures { out.new ≡ map (given_by member list bases.now) (numbers_from n 1) ++ drop n out.old }
 {
-    let mut i: u32 = 0;
-    while i < n {
+    for i in 0..n {
         out[i as usize] = given(member, list, bases, i + 1);
-        i += 1;
     }
 }
 
 // The levels by the record of the rules. Requires a sound one.
-fn levels_by(v: Node, bases: &[u8], out: &mut [u8]) -> Written
+fn levels_by(v: Node, bases: &[u8], out: &mut [u8]) -> Result<usize, Refusal>
     requires { sound v ≡ true }
     ensures { (result, out.new) ≡ levels_of v bases.now out.old }
 {
     let n = v.cable.n;
     if !bases_fit(n, bases) {
-        return Written::Refused(Refusal::LampBases);
+        return Err(Refusal::LampBases);
     }
     if out.len() < n as usize {
-        return Written::Refused(Refusal::OutputShort);
+        return Err(Refusal::OutputShort);
     }
     let state = v.state;
     fill(node_record::is_member(state), v.set, n, bases, out);
-    Written::Bytes(n as usize)
+    Ok(n as usize)
 }
 
 // Writes the levels of all lamps, that of lamp 1 first, to the start of out, and leaves the bytes after
 // them: how many they are. Refuses by 4, 20 and 9, in this order, and then writes nothing.
-pub fn levels(v: Held, bases: &[u8], out: &mut [u8]) -> Written
+pub fn levels(v: Held, bases: &[u8], out: &mut [u8]) -> Result<usize, Refusal>
     ensures { (result, out.new) ≡ levels_of (setted v) bases.now out.old }
 {
-    let converted = node::as_set(v);
-    let node = converted.node;
-    let answer = converted.answer;
-    match answer {
-        Answer::Done => levels_by(node, bases, out),
-        Answer::Refused(cause) => Written::Refused(cause),
-    }
+    let node = node::as_set(v)?;
+    levels_by(node, bases, out)
 }

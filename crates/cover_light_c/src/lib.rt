@@ -7,9 +7,8 @@ ghost use Rattle.cover_light_c.specs.Records.{byte_at, word_at, long_at, yes_at,
 ghost use Rattle.cover_light_c.specs.Calls.{level_in, levels_in, light_number, written_number, outcome_number, Few};
 
 use cable::Cable;
-use cover_light::Light;
-use message::Written;
 use node_record::{Cause, Held, State, Window};
+use refusal::Refusal;
 use row::Row;
 
 // ---- a record as bytes
@@ -18,16 +17,7 @@ use row::Row;
 fn byte(bytes: &[u8], at: usize) -> u8
     ensures { result ≡ byte_at bytes.now at }
 {
-    if bytes.len() <= at {
-        return 0;
-    }
-    bytes[at]
-}
-
-fn wide(x: u8) -> u32
-    ensures { result ≡ x }
-{
-    x as u32
+    bytes.get(at).copied().unwrap_or(0)
 }
 
 // The number in the four bytes from a place on. Requires a place within a record.
@@ -39,7 +29,7 @@ fn word(bytes: &[u8], at: usize) -> u32
     let b = byte(bytes, at + 1);
     let c = byte(bytes, at + 2);
     let d = byte(bytes, at + 3);
-    wide(a) + 256 * (wide(b) + 256 * (wide(c) + 256 * wide(d)))
+    u32::from_le_bytes([a, b, c, d])
 }
 
 // The number in the eight bytes from a place on. Requires a place within a record.
@@ -151,23 +141,23 @@ fn is_record(bytes: &[u8]) -> bool
 
 // ---- the calls
 
-fn light_number(light: Light) -> u64
+fn light_number(light: Result<u8, Refusal>) -> u64
     ensures { result ≡ light_number light }
 {
     match light {
-        Light::Level(level) => 0x2_0000_0000 + level as u64,
-        Light::Refused(cause) => refusal::number(cause) as u64,
+        Ok(level) => 0x2_0000_0000 + level as u64,
+        Err(cause) => refusal::number(cause) as u64,
     }
 }
 
 // Requires no more bytes than there can be lamps.
-fn written_number(written: Written) -> u64
+fn written_number(written: Result<usize, Refusal>) -> u64
     requires { Few written }
     ensures { result ≡ written_number written }
 {
     match written {
-        Written::Bytes(count) => 0x2_0000_0000 + count as u64,
-        Written::Refused(cause) => refusal::number(cause) as u64,
+        Ok(count) => 0x2_0000_0000 + count as u64,
+        Err(cause) => refusal::number(cause) as u64,
     }
 }
 

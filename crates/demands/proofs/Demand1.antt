@@ -1,4 +1,5 @@
 -- Demand 1 holds: each definition is a chain of tests, and each test that fails gives a number of the call's list and leaves what was lent. Assumes nothing.
+use Rattle.std.specs.Prelude.{Err, Ok, Option, Result}
 use Prim.Native.Nat.{ℕ, ◌+◌, ◌*◌, ◌^◌}
 use mathlib.Core.Path.{◌≡◌, refl, ap, ◌∙◌}
 use mathlib.Core.Bool.{Bool, true, false, cond, ◌&&◌}
@@ -6,38 +7,35 @@ use mathlib.Core.List.{List, [], ◌∷◌, ◌++◌}
 use lib.Dec.{eqb, ltb, leb}
 use lib.ListN.{length, take, drop, take-append-drop}
 use borrow.Author.Tests.{leb-false}
+use Rattle.cover_light.specs.refusal.declared.Refusal.{Refusal}
 use Rattle.cover_light.specs.refusal.Causes.{cause}
 use Rattle.cover_light.specs.nodeset.Sets.{within}
 use Rattle.cover_light.proofs.nodeset.Tests.{by_cases}
 use Rattle.cover_light.specs.cable.declared.Cable.{Cable}
-use Rattle.cover_light.specs.ring.declared.Speaker.{Speaker}
+use Rattle.cover_light.specs.ring.Answers.{Speaker}
 use Rattle.cover_light.specs.ring.declared.Found.{Found}
-use Rattle.cover_light.specs.ring.declared.Lookup.{Lookup}
+use Rattle.cover_light.specs.ring.Answers.{Lookup}
 use Rattle.cover_light.specs.cable.Cable.{fault_of, cable_with, ring_size, node_number, lag_fits, sponsor_count, job_count, cable_fits, may_set_up}
 use Rattle.cover_light.specs.ring.Answers.{before_of, on_cable}
 use Rattle.cover_light.proofs.cable.Ranges.{fault-by}
 use Rattle.cover_light.specs.ring.Ring.{sponsored, decided}
 use Rattle.agreement.specs.bench.Reports.{reports_fit, jobs_on}
-use Rattle.cover_light.specs.node.declared.Answer.{Answer}
+use Rattle.cover_light.specs.node.Answers.{Answer}
 use Rattle.cover_light.specs.node_reports.Reports.{Counts, counts_within}
-use Rattle.cover_light.specs.message.declared.Reading.{Reading}
-use Rattle.cover_light.specs.message.declared.Reading.TheVariants as reading
+use Rattle.cover_light.specs.message.Answers.{Reading, Written}
 use Rattle.cover_light.specs.message.declared.Received.{Received}
-use Rattle.cover_light.specs.message.declared.Written.TheVariants as written
 use Rattle.cover_light.specs.message.Message.{Outcome, unread, if_read, unwritten, if_written, in_range, jobs_within, length_of, length_two, part_one, part_two, part_three, read_of, said_by, section_in, write_of}
 use Rattle.cover_light.specs.message.TwoSections.{read_two_of, write_two_of}
 use Rattle.converter_text.specs.converter.Converter.{job_count_in, read_any_of, to_three_of, to_two_of, written_on}
 use Rattle.cover_light.specs.node_record.Soundness.{sound, limit}
 use Rattle.cover_light.specs.node_record.States.{is_out}
 use Rattle.cover_light.specs.node_record.declared.Node.{Node}
-use Rattle.cover_light.specs.node.declared.Answer.TheVariants as answer
-use Rattle.cover_light.specs.node.declared.Converted.{Converted}
 use Rattle.cover_light.specs.node_record.declared.Held.{Held}
 use Rattle.cover_light.specs.node_record.Held.{setted}
 use Rattle.cover_light.specs.node.Held.{setted_of}
 use Rattle.cover_light.specs.node.Calls.{Stepped, its_turn, no_node, set_up_of, step_of, send_of, off_of, restart_of, is_done, refused, with_counts, counts_after, counted_of}
 use Rattle.cover_light.proofs.node.Sent.{sent-or-short}
-use Rattle.cover_light.specs.declared.Light.{Light}
+use Rattle.cover_light.specs.Light.{Light}
 use Rattle.cover_light.specs.Light.{bases_fit, level_of, levels_of}
 use Rattle.agreement.specs.bench.declared.Command.{Command}
 use Rattle.agreement.specs.bench.declared.Command.TheVariants as command
@@ -51,7 +49,6 @@ use Rattle.agreement.specs.bench.Outcomes.{outcome_of, bytes_by, slot_given}
 use Rattle.agreement.specs.bench.Ledger.{Ledger, ledger_fits}
 use Rattle.agreement.specs.bench.Kept.{slot_with, off_with, called_with, ledger_with, kept_of, set_up_with, reports_with}
 use Rattle.converter_text.specs.plan_text.Text.{written_of}
-use Rattle.converter_text.specs.plan_text.declared.Written as text
 use Rattle.plan_report.specs.plan_program.declared.Plan.{Plan}
 use Rattle.plan_report.specs.plan_program.declared.Part.{Part}
 use Rattle.plan_report.specs.plan_program.Calls.{fed_of, finished_of, has_room, plan_sound, printed_in}
@@ -61,7 +58,7 @@ use Rattle.plan_report.specs.declared.Figures.{Figures}
 use Rattle.plan_report.specs.declared.Report.{Report}
 use Rattle.plan_report.specs.Figures.{add_of, all_fit}
 use Rattle.plan_report.specs.Calls as reported
-use Rattle.demands.specs.Demand1.{Demand1, AddsBy, EndsBy, FeedsBy, PrintsBy, ReportsBy, Keeps, RowsBy, RunsBy, StepsBy, ConvertsBy, CountsBy, WritesBy, is_among, numbers_for, of_lookup, of_outcome, of_reading, of_speaker, of_answer, of_light}
+use Rattle.demands.specs.Demand1.{Demand1, AddsBy, EndsBy, FeedsBy, ReportsBy, Keeps, RowsBy, RunsBy, StepsBy, ConvertsBy, CountsBy, WritesBy, is_among, numbers_for, ending, of_outcome}
 use Rattle.demands.proofs.Refused.{refused-call}
 
 -- ---- a test, in each of the forms that the definitions use: P holds either way
@@ -79,29 +76,29 @@ either-written P true number p q = p
 either-written P false number p q = q
 
 either-passed : (P : bench.Called → Type 0) (b : Bool) (number : ℕ) {t : Table} {c : bench.Called}
-    → P c → P (record { table = t; answer = answer.Refused (cause number) }) → P (bench.if_passed b number t c)
+    → P c → P (record { table = t; answer = Err (cause number) }) → P (bench.if_passed b number t c)
 either-passed P true number p q = p
 either-passed P false number p q = q
 
 -- ---- the ring
 
 abbrev Ends : List ℕ → Lookup → Type 0
-Ends numbers a = EndsBy numbers (of_lookup a)
+Ends numbers a = EndsBy numbers (ending a)
 
 finds-before : (cable : Cable) (set x j : ℕ) → Ends (1 ∷ 3 ∷ []) (before_of cable set x j)
 finds-before cable set x j = let P = Ends (1 ∷ 3 ∷ []) in either P (ring_size cable.n) (either P (node_number cable.n x) tt refl) refl
 
-finds-on : (cable : Cable) (x : ℕ) (f : Found) → Ends (1 ∷ 16 ∷ 2 ∷ 3 ∷ []) (on_cable cable x f)
+finds-on : (cable : Cable) (x : ℕ) (f : Option Found) → Ends (1 ∷ 16 ∷ 2 ∷ 3 ∷ []) (on_cable cable x f)
 finds-on cable x f =
     let P = Ends (1 ∷ 16 ∷ 2 ∷ 3 ∷ []) in
     either P (ring_size cable.n) (either P (lag_fits cable.lag) (either P (sponsor_count cable) (either P (node_number cable.n x) tt refl) refl) refl) refl
 
 -- ---- the message
 
-reads : (k m : ℕ) (bytes : List ℕ) → EndsBy (2 ∷ 14 ∷ 6 ∷ 7 ∷ 8 ∷ []) (of_reading (read_of k m bytes).reading)
+reads : (k m : ℕ) (bytes : List ℕ) → EndsBy (2 ∷ 14 ∷ 6 ∷ 7 ∷ 8 ∷ []) (ending (read_of k m bytes).reading)
 unfolding read_of said_by
 reads k m bytes =
-    let P : Received → Type 0 = λ r. EndsBy (2 ∷ 14 ∷ 6 ∷ 7 ∷ 8 ∷ []) (of_reading r.reading) in
+    let P : Received → Type 0 = λ r. EndsBy (2 ∷ 14 ∷ 6 ∷ 7 ∷ 8 ∷ []) (ending r.reading) in
     let one = section_in k (part_one k bytes) in
     let two = section_in 1 (part_two k bytes) in
     let three = section_in m (part_three k bytes) in
@@ -124,10 +121,10 @@ writes k m a b jobs out =
 
 -- what the sections say is refused by 7 and 8 alone: for any list that has them
 reads_two : (numbers : List ℕ) → is_among 2 numbers ≡ true → is_among 6 numbers ≡ true → is_among 7 numbers ≡ true → is_among 8 numbers ≡ true
-    → (k : ℕ) (bytes : List ℕ) → EndsBy numbers (of_reading (read_two_of k bytes).reading)
+    → (k : ℕ) (bytes : List ℕ) → EndsBy numbers (ending (read_two_of k bytes).reading)
 unfolding read_two_of said_by
 reads_two numbers two six seven eight k bytes =
-    let P : Received → Type 0 = λ r. EndsBy numbers (of_reading r.reading) in
+    let P : Received → Type 0 = λ r. EndsBy numbers (ending r.reading) in
     let one = section_in k (part_one k bytes) in
     let other = section_in 1 (part_two k bytes) in
     either-read P (in_range k) 2
@@ -145,10 +142,10 @@ writes-two numbers two eight nine k a b out =
     (either-written P (leb (length_two k) (length out)) 9 (tt, tt) (nine, refl)) (eight, refl)) (two, refl)
 
 -- a reading that is refused stays so and leaves the lent bytes; else what is written on counts
-written-by : (numbers : List ℕ) (r : Reading) (out : List ℕ) (on : ℕ → Bool → Outcome) → EndsBy numbers (of_reading r) → ((a : ℕ) (b : Bool) → WritesBy numbers out (on a b))
+written-by : (numbers : List ℕ) (r : Reading) (out : List ℕ) (on : ℕ → Bool → Outcome) → EndsBy numbers (ending r) → ((a : ℕ) (b : Bool) → WritesBy numbers out (on a b))
     → WritesBy numbers out (written_on r out on)
-written-by numbers (reading.Heard a b) out on e h = h a b
-written-by numbers (reading.Refused cause) out on e h = (e, refl)
+written-by numbers (Ok said) out on e h = h said.acknowledgements said.return_bit
+written-by numbers (Err cause) out on e h = (e, refl)
 
 to-three : (k : ℕ) (bytes out : List ℕ) → WritesBy (2 ∷ 6 ∷ 7 ∷ 8 ∷ 9 ∷ []) out (to_three_of k bytes out)
 unfolding to_three_of write_of
@@ -170,7 +167,7 @@ to-two : (k : ℕ) (bytes out : List ℕ) → WritesBy (2 ∷ 6 ∷ 7 ∷ 8 ∷ 
 unfolding to_two_of read_any_of read_of said_by
 to-two k bytes out =
     let numbers : List ℕ = 2 ∷ 6 ∷ 7 ∷ 8 ∷ 15 ∷ 9 ∷ [] in
-    let R : Received → Type 0 = λ r. EndsBy numbers (of_reading r.reading) in
+    let R : Received → Type 0 = λ r. EndsBy numbers (ending r.reading) in
     let m = job_count_in bytes in
     let one = section_in k (part_one k bytes) in
     let two = section_in 1 (part_two k bytes) in
@@ -187,10 +184,10 @@ to-two k bytes out =
 
 -- ---- the node record
 
-sets-up : (cable : Cable) (places own : ℕ) → EndsBy (1 ∷ 16 ∷ 2 ∷ 14 ∷ 17 ∷ 18 ∷ 3 ∷ []) (of_answer (set_up_of cable places own).answer)
+sets-up : (cable : Cable) (places own : ℕ) → EndsBy (1 ∷ 16 ∷ 2 ∷ 14 ∷ 17 ∷ 18 ∷ 3 ∷ []) (ending (set_up_of cable places own).answer)
 unfolding set_up_of
 sets-up cable places own =
-    let P : Stepped → Type 0 = λ s. EndsBy (1 ∷ 16 ∷ 2 ∷ 14 ∷ 17 ∷ 18 ∷ 3 ∷ []) (of_answer s.answer) in
+    let P : Stepped → Type 0 = λ s. EndsBy (1 ∷ 16 ∷ 2 ∷ 14 ∷ 17 ∷ 18 ∷ 3 ∷ []) (ending s.answer) in
     either P (may_set_up cable places) (either P (node_number cable.n own) tt refl) (fault-by (λ number. P (refused number no_node)) cable places refl refl refl refl refl refl)
 
 steps : (heard : Reading) (v : Node) → StepsBy (4 ∷ 5 ∷ []) v (step_of heard v)
@@ -208,8 +205,8 @@ counted received v counts = go (counts_within v.slots counts)
     after a = cond (is_done a) (counts_after received v counts) counts
 
     by : (w : Node) (a : Answer) → StepsBy (4 ∷ 5 ∷ []) v (record { node = w; answer = a }) → CountsBy (4 ∷ 5 ∷ []) v counts (with_counts (record { node = w; answer = a }) (after a))
-    by w answer.Done p = (tt, tt)
-    by w (answer.Refused r) p = (p.0, ap (λ (x : Node). (x, counts)) p.1)
+    by w (Ok _) p = (tt, tt)
+    by w (Err r) p = (p.0, ap (λ (x : Node). (x, counts)) p.1)
 
     go : (b : Bool) → CountsBy (4 ∷ 5 ∷ []) v counts (cond b (with_counts (step_of received.reading v) (after (step_of received.reading v).answer)) (with_counts (refused 4 v) counts))
     go true = let s = step_of received.reading v in by s.node s.answer (steps received.reading v)
@@ -225,9 +222,9 @@ restarts v =
     let P = StepsBy (4 ∷ 11 ∷ []) v in
     either P (sound v) (either P (is_out v.state) (tt, tt) (refl, refl)) (refl, refl)
 
-stands-for : (v : Held) → EndsBy (4 ∷ []) (of_answer (setted_of v).answer)
+stands-for : (v : Held) → EndsBy (4 ∷ []) (ending (setted_of v))
 unfolding setted_of
-stands-for v = either (λ (c : Converted). EndsBy (4 ∷ []) (of_answer c.answer)) (sound (setted v)) tt refl
+stands-for v = either (λ (c : Result Node Refusal). EndsBy (4 ∷ []) (ending c)) (sound (setted v)) tt refl
 
 -- "of the writer's refusals only 9 can come of sending" (node's proofs/Sent)
 sends : (v : Node) (jobs : ℕ) (out : List ℕ) → WritesBy (4 ∷ 5 ∷ 8 ∷ 10 ∷ 9 ∷ []) out (send_of v jobs out)
@@ -246,10 +243,10 @@ sends v jobs out =
 
 -- ---- cover light
 
-gives-level : (v : Node) (bases : List ℕ) (lamp : ℕ) → EndsBy (4 ∷ 3 ∷ 20 ∷ []) (of_light (level_of v bases lamp))
+gives-level : (v : Node) (bases : List ℕ) (lamp : ℕ) → EndsBy (4 ∷ 3 ∷ 20 ∷ []) (ending (level_of v bases lamp))
 unfolding level_of
 gives-level v bases lamp =
-    let P : Light → Type 0 = λ l. EndsBy (4 ∷ 3 ∷ 20 ∷ []) (of_light l) in
+    let P : Light → Type 0 = λ l. EndsBy (4 ∷ 3 ∷ 20 ∷ []) (ending l) in
     either P (sound v) (either P (node_number v.cable.n lamp) (either P (bases_fit v.cable.n bases) tt refl) refl) refl
 
 writes-levels : (v : Node) (bases out : List ℕ) → WritesBy (4 ∷ 20 ∷ 9 ∷ []) out (levels_of v bases out)
@@ -272,8 +269,8 @@ runs (command.SetUp choices) slots t ledger counts out =
     let P = Runs (command.SetUp choices) t ledger counts out in
     let cable = cable_with choices slots in
     let places = length slots in
-    let fault : (m : ℕ) → P (record { table = t; answer = answer.Refused (cause (fault_of cable m)) })
-    = λ m. fault-by (λ number. P (record { table = t; answer = answer.Refused (cause number) })) cable m (refl, refl) (refl, refl) (refl, refl) (refl, refl) (refl, refl) (refl, refl) in
+    let fault : (m : ℕ) → P (record { table = t; answer = Err (cause (fault_of cable m)) })
+    = λ m. fault-by (λ number. P (record { table = t; answer = Err (cause number) })) cable m (refl, refl) (refl, refl) (refl, refl) (refl, refl) (refl, refl) (refl, refl) in
     either-passed P (may_set_up cable places) (fault_of cable places)
     (either-passed P (eqb (length counts) cable.n) 4
     (either-passed P (may_set_up cable places) (fault_of cable places)
@@ -333,8 +330,8 @@ runs-by-value n c slots rows ledger counts out =
 
 -- ---- plan texts
 
-abbrev Prints : List ℕ → text.Written × List ℕ → Type 0
-Prints out r = PrintsBy (9 ∷ []) out r
+abbrev Prints : List ℕ → Written × List ℕ → Type 0
+Prints out r = WritesBy (9 ∷ []) out r
 
 prints : (input out : List ℕ) → Prints out (printed_in input out)
 unfolding printed_in
@@ -381,7 +378,7 @@ adds totals figures = either (AddsBy (19 ∷ []) totals) (all_fit totals figures
 pub demand1 : Demand1
 unfolding kept_of
 demand1 = record {
-  sender = λ cable s. either (λ (a : Speaker). EndsBy (1 ∷ []) (of_speaker a)) (ring_size cable.n) tt refl;
+  sender = λ cable s. either (λ (a : Speaker). EndsBy (1 ∷ []) (ending a)) (ring_size cable.n) tt refl;
   before = finds-before;
   sponsored = λ cable set x j. finds-on cable x (sponsored cable set x j);
   decided = λ cable set x. finds-on cable x (decided cable set x);

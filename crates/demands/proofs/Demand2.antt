@@ -1,4 +1,5 @@
 -- Demand 2 holds. Assumes nothing.
+use Rattle.std.specs.Prelude.{Ok}
 use Prim.Native.Nat.{ℕ, ◌+◌, ◌≤◌, ◌<◌, ◌-◌}
 use mathlib.Core.Path.{◌≡◌, refl, sym, ap, ◌∙◌, ap₂}
 use mathlib.Core.Bool.{Bool, true, false, true≢false, ◌&&◌}
@@ -18,9 +19,8 @@ use Rattle.agreement.specs.bench.Outcomes.{slot_given}
 use Rattle.agreement.specs.bench.Reports.{reports_fit, jobs_on, received_by}
 use Rattle.cover_light.proofs.node_reports.Laws.{nodes-each}
 use Rattle.cover_light.specs.node_reports.Reports.{Counts, counts_within, all_within}
-use Rattle.cover_light.specs.message.declared.Reading.{Reading}
+use Rattle.cover_light.specs.message.Answers.{Reading}
 use Rattle.cover_light.specs.message.declared.Received.{Received}
-use Rattle.cover_light.specs.message.declared.Written.TheVariants.{Bytes}
 use Rattle.cover_light.specs.message.Message.{read_of, jobs_within}
 use Rattle.cover_light.proofs.message.RoundTrip.{read_back, written_read}
 use Rattle.cover_light.specs.node_record.declared.Node.{Node}
@@ -28,7 +28,6 @@ use Rattle.cover_light.specs.node_record.Soundness.{sound, limit}
 use Rattle.cover_light.specs.node_changes.Changes.{counted}
 use Rattle.cover_light.specs.node_sending.Sending.{sends, jobs_sent}
 use Rattle.cover_light.specs.node_slot.Slot.{slot_in, after_slot}
-use Rattle.cover_light.specs.node.declared.Answer.TheVariants.{Done}
 use Rattle.cover_light.specs.node.Calls.{Stepped, done, refused, unsent, send_of, step_of, with_counts, counts_after, counted_of}
 use Rattle.cover_light.proofs.node.Sent.{sent-by, sent-read, not-its-turn}
 use Rattle.agreement.specs.bench.declared.Command.TheVariants.{Slot}
@@ -67,11 +66,11 @@ over-count-refused received v held w = simp w
 -- ---- the bench
 
 -- what passes a test of the bench
-passed : (b : Bool) (number : ℕ) (t : Table) (c : bench.Called) → (bench.if_passed b number t c).answer ≡ Done → (b ≡ true) × (c.answer ≡ Done)
+passed : (b : Bool) (number : ℕ) (t : Table) (c : bench.Called) → (bench.if_passed b number t c).answer ≡ Ok tt → (b ≡ true) × (c.answer ≡ Ok tt)
 passed true number t c e = (refl, e)
 passed false number t c e = let z : ◌≡◌ {A = ℕ} 0 1 = cc in absurd (omega arith)
 
-each-steps : (lost : Bool) (missed jobs : ℕ) (slots : List ℕ) (room : ℕ) (ledger : Ledger) (counts : List Counts) (t : Table) → (slot_with lost missed jobs room ledger counts t).answer ≡ Done
+each-steps : (lost : Bool) (missed jobs : ℕ) (slots : List ℕ) (room : ℕ) (ledger : Ledger) (counts : List Counts) (t : Table) → (slot_with lost missed jobs room ledger counts t).answer ≡ Ok tt
     → (i : ℕ) → 1 ≤ i → i ≤ node_count t
     → let kept = kept_of (Slot lost missed jobs) slots room ledger counts t in
     counted_of (received_by lost missed jobs t i) (record_of t i) (get_or counts (i - 1) []) ≡ with_counts (done (record_of kept.table i)) (get_or kept.counts (i - 1) [])
@@ -99,7 +98,7 @@ each-steps lost missed jobs slots room ledger counts t e i low high =
     counts-reports (received_by lost missed jobs t i) (record_of t i) (get_or counts (i - 1) []) place.is-sound below in-range
     ∙ ap₂ with_counts (stepped ∙ ap done (sym (table ∙ ap (λ (s : Stepped). s.node) stepped))) (sym after)
 
-sent-is-spoken : (t : Table) (jobs : ℕ) (out : List ℕ) (count : ℕ) (after : List ℕ) → send_of (record_of t (speaker t)) jobs out ≡ (Bytes count, after)
+sent-is-spoken : (t : Table) (jobs : ℕ) (out : List ℕ) (count : ℕ) (after : List ℕ) → send_of (record_of t (speaker t)) jobs out ≡ (Ok count, after)
     → read_of (record_of t (speaker t)).cable.k (record_of t (speaker t)).cable.m (take count after) ≡ record { reading = bench.spoken t; jobs = jobs_sent jobs (record_of t (speaker t)) }
 unfolding bench.spoken bench.transmits
 sent-is-spoken t jobs out count after e =

@@ -1,4 +1,5 @@
 -- The lists agree, so the levels do. Assumes nothing.
+use Rattle.std.specs.Prelude.{Ok}
 use Prim.Native.Nat.{ℕ, ◌^◌, ◌≤◌, ◌<◌}
 use mathlib.Core.Path.{◌≡◌, sym, ap, ◌∙◌}
 use mathlib.Core.List.{List, [], ◌∷◌}
@@ -17,7 +18,6 @@ use Rattle.agreement.proofs.bench.Runs.{start-placed, placed-run}
 use Rattle.agreement.specs.Demand.{AtEach, AfterEach, MemberAt, Agree, EverySequence}
 use Rattle.agreement.proofs.Beginnings.{after-each}
 use Rattle.agreement.proofs.Demanded.{demand3}
-use Rattle.cover_light.specs.declared.Light.TheVariants.{Level}
 use Rattle.cover_light.specs.Light.{bases_fit}
 use Rattle.cover_light.specs.Promises.{Alike}
 use Rattle.cover_light.proofs.Promises.{cover-light, given-by, member-level}
@@ -63,7 +63,7 @@ module _ (cable : Cable) (start : Table) (cs : List Call) (P : Placed cable (slo
     levels = λ i j p q. cover-light.same-levels (at i) (at j) (alike i j p q);
     worked-out = λ i m bases lamp l f.
         given-by (at i) bases lamp (placed i m).is-sound (ap (λ (x : ℕ). node_number x lamp) (lamps i m) ∙ l) (ap (λ (x : ℕ). bases_fit x bases) (lamps i m) ∙ f)
-        ∙ ap (λ (x : ℕ). Level x) (member-level (at i) bases lamp m.2);
+        ∙ ap (λ (x : ℕ). Ok x) (member-level (at i) bases lamp m.2);
   }
 
 pub light-agrees : LightAgrees

@@ -1,4 +1,5 @@
 -- Every printed distance is 0 where a plan's calls keep the premises of demand 3: what is printed of a slot is what the bench's call tells. Assumes nothing.
+use Rattle.std.specs.Prelude.{Err, Ok}
 use Prim.Native.Nat.{ℕ}
 use mathlib.Core.Path.{◌≡◌, refl}
 use mathlib.Core.Bool.{Bool, true, false, cond}
@@ -13,8 +14,7 @@ use Rattle.cover_light.proofs.cable.Ranges.{ring-size, fitting}
 use Rattle.cover_light.specs.node_record.Held.{rowed}
 use Rattle.agreement.proofs.bench.Standing.{length-setted}
 use Rattle.cover_light.specs.node.Calls.{no_node, is_done}
-use Rattle.cover_light.specs.node.declared.Answer.{Answer}
-use Rattle.cover_light.specs.node.declared.Answer.TheVariants.{Done, Refused}
+use Rattle.cover_light.specs.node.Answers.{Answer}
 use Rattle.agreement.specs.bench.Table.{Table}
 use Rattle.agreement.specs.bench.declared.Command.TheVariants.{Slot}
 use Rattle.agreement.specs.bench.Calls.{off_of, restart_of, set_up_given}
@@ -26,7 +26,7 @@ use Rattle.agreement.specs.Distance.{SlotTells}
 use Rattle.agreement.proofs.Throughout.{distance-throughout}
 use Rattle.plan_report.specs.bench_by_value.ByValue as by_value
 use Rattle.plan_report.specs.bench_by_value.ByValue.{table_of}
-use Rattle.converter_text.specs.plan_line.declared.Line.{Line}
+use Rattle.converter_text.specs.plan_line.Plan.{Said}
 use Rattle.converter_text.specs.plan_line.declared.Line.TheVariants as lines
 use Rattle.converter_text.specs.plan_line.Plan.{line_of}
 use Rattle.plan_report.specs.plan_run.Run.{act_of, choices_of, no_rows, ran_by}
@@ -38,8 +38,8 @@ use Rattle.plan_report.proofs.plan_program.Tables.{Reached, next, ring, begun, r
 use Rattle.demands.specs.Printed.{AtEachLine, NoOtherDistance, NoDistancePrinted}
 
 quiet-tells : (a : Answer) → NoOtherDistance (quiet_outcome a)
-quiet-tells Done = tt
-quiet-tells (Refused cause) = tt
+quiet-tells (Ok _) = tt
+quiet-tells (Err cause) = tt
 
 slot-tells : (lost : Bool) (missed : ℕ) (t : Table) → (is_done (slot_given lost missed 0 64 t).answer ≡ true → calls.NoDistance (ended_of (Slot lost missed 0) [] 64 t).reply.outcome)
     → NoOtherDistance (ended_of (Slot lost missed 0) [] 64 t).reply.outcome
@@ -47,18 +47,18 @@ unfolding ended_of
 slot-tells lost missed t h = go (slot_given lost missed 0 64 t).answer h
   where
     go : (a : Answer) → (is_done a ≡ true → calls.NoDistance (slot_outcome lost t (slot_given lost missed 0 64 t).table a)) → NoOtherDistance (slot_outcome lost t (slot_given lost missed 0 64 t).table a)
-    go Done h = h refl
-    go (Refused cause) h = tt
+    go (Ok _) h = h refl
+    go (Err cause) h = tt
 
 module _ (cable : Cable) (start : Table) (p : Plan) (l : List ℕ) (cs : List Call) (r : Reached start p cs) where
-  said-tells : (said : Line) → AtEach (SlotTells cable start) (made_by said ++ cs) → NoOtherDistance (ran_by p.n p.rows (act_of said)).outcome
+  said-tells : (said : Said) → AtEach (SlotTells cable start) (made_by said ++ cs) → NoOtherDistance (ran_by p.n p.rows (act_of said)).outcome
   unfolding AtEach by_value.call_of ended_of
-  said-tells lines.Ok tells = slot-tells false 0 (table_of p.n p.rows) (rw r.table (tells.1 0 []))
-  said-tells lines.Lost tells = slot-tells true 0 (table_of p.n p.rows) (rw r.table (tells.1 0 []))
-  said-tells (lines.Miss missed) tells = slot-tells false missed (table_of p.n p.rows) (rw r.table (tells.1 0 []))
-  said-tells (lines.Off a) tells = quiet-tells (off_of a (table_of p.n p.rows)).answer
-  said-tells (lines.On a) tells = quiet-tells (restart_of a (table_of p.n p.rows)).answer
-  said-tells (lines.Refused cause) tells = tt
+  said-tells (Ok lines.Ok) tells = slot-tells false 0 (table_of p.n p.rows) (rw r.table (tells.1 0 []))
+  said-tells (Ok lines.Lost) tells = slot-tells true 0 (table_of p.n p.rows) (rw r.table (tells.1 0 []))
+  said-tells (Ok (lines.Miss missed)) tells = slot-tells false missed (table_of p.n p.rows) (rw r.table (tells.1 0 []))
+  said-tells (Ok (lines.Off a)) tells = quiet-tells (off_of a (table_of p.n p.rows)).answer
+  said-tells (Ok (lines.On a)) tells = quiet-tells (restart_of a (table_of p.n p.rows)).answer
+  said-tells (Err cause) tells = tt
 
   line-tells : AtEach (SlotTells cable start) (calls_in p l ++ cs) → NoOtherDistance (after_line p l).outcome
   line-tells tells =
@@ -70,14 +70,14 @@ module _ (cable : Cable) (start : Table) (p : Plan) (l : List ℕ) (cs : List Ca
   unfolding AtEach
   earlier = go p.over (line_of p.n l)
     where
-      go : (over : Bool) (said : Line) → AtEach (SlotTells cable start) (cond over [] (made_by said) ++ cs) → AtEach (SlotTells cable start) cs
+      go : (over : Bool) (said : Said) → AtEach (SlotTells cable start) (cond over [] (made_by said) ++ cs) → AtEach (SlotTells cable start) cs
       go true said tells = tells
-      go false lines.Ok tells = tells.0
-      go false lines.Lost tells = tells.0
-      go false (lines.Miss missed) tells = tells.0
-      go false (lines.Off a) tells = tells.0
-      go false (lines.On a) tells = tells.0
-      go false (lines.Refused cause) tells = tells
+      go false (Ok lines.Ok) tells = tells.0
+      go false (Ok lines.Lost) tells = tells.0
+      go false (Ok (lines.Miss missed)) tells = tells.0
+      go false (Ok (lines.Off a)) tells = tells.0
+      go false (Ok (lines.On a)) tells = tells.0
+      go false (Err cause) tells = tells
 
 each : (cable : Cable) (start : Table) (p : Plan) (cs : List Call) (more : List (List ℕ)) → Reached start p cs → AtEach (SlotTells cable start) (calls_of p cs more)
     → AtEachLine NoOtherDistance p more × AtEach (SlotTells cable start) cs

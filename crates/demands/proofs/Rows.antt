@@ -1,4 +1,5 @@
 -- What is promised of members as a row (specs/Rows). Assumes nothing.
+use Rattle.std.specs.Prelude.{Err, Ok}
 use Prim.Native.Nat.{ℕ}
 use mathlib.Core.Path.{◌≡◌, refl, sym, ap, ◌∙◌}
 use mathlib.Core.Bool.{true, false, cond, false≢true}
@@ -17,8 +18,7 @@ use Rattle.cover_light.specs.node_record.Soundness.{sound}
 use Rattle.cover_light.specs.node_record.Held.{rowed, setted}
 use Rattle.cover_light.proofs.node_record.Facts.{clauses}
 use Rattle.cover_light.proofs.node_record.Holding.{node-back, held_back}
-use Rattle.cover_light.specs.node.declared.Answer.{Answer}
-use Rattle.cover_light.specs.node.declared.Answer.TheVariants as answer
+use Rattle.cover_light.specs.node.Answers.{Answer}
 use Rattle.cover_light.specs.node.Calls.{Stepped, is_done, slot_of, counted_of, off_of, restart_of}
 use Rattle.cover_light.specs.node.Held.{held_as}
 use Rattle.cover_light.proofs.node.Standing.{start-stands, slot-stands, counted-stands, off-stands, restart-stands}
@@ -34,7 +34,7 @@ use Rattle.agreement.proofs.bench.Standing.{call-stands}
 use Rattle.plan_report.specs.ledger.Runs.{Lent, kept_by, table_lent}
 use Rattle.plan_report.proofs.ledger.AnyLent.{any_lent}
 use Rattle.plan_report.proofs.plan_program.OnSets.{shown-as-before}
-use Rattle.demands.specs.Demand1.{Keeps, of_answer}
+use Rattle.demands.specs.Demand1.{Keeps, ending}
 use Rattle.demands.specs.Rows.{held_lent, AsRows}
 use Rattle.demands.proofs.Refused.{refused-call}
 
@@ -49,12 +49,12 @@ bad-row-refused v bad = by_cases (sound (setted v)) (λ good. absurd (false≢tr
         let c = clauses (setted v) good in
         sym (set-within v.cable.n v.cable.order c.choices.order v.row) ∙ (both (within v.cable.n (setted v).set) _ c.sets).0
 
-refused-record : (v : Held) (s : Stepped) → Keeps (of_answer s.answer) v (held_as v s).node
+refused-record : (v : Held) (s : Stepped) → Keeps (ending s.answer) v (held_as v s).node
 refused-record v s = go s.answer
   where
-    go : (a : Answer) → Keeps (of_answer a) v (cond (is_done a) (rowed s.node) v)
-    go answer.Done = tt
-    go (answer.Refused cause) = refl
+    go : (a : Answer) → Keeps (ending a) v (cond (is_done a) (rowed s.node) v)
+    go (Ok _) = tt
+    go (Err cause) = refl
 
 -- ---- sequences of calls
 

@@ -21,7 +21,7 @@ use Rattle.agreement.specs.bench.Held.{HeldTable, setted_all, kept_held, CallSta
 use Rattle.agreement.specs.bench.Runs.{table_after}
 use Rattle.plan_report.specs.ledger.Runs.{Lent, commanded, room_of, taken}
 use Rattle.plan_report.specs.plan_program.OnSets.{ShownAsBefore}
-use Rattle.demands.specs.Demand1.{Keeps, of_answer, of_outcome}
+use Rattle.demands.specs.Demand1.{Keeps, ending, of_outcome}
 
 -- The table after some calls, each made on the table that the one before it left, with any ledger, counts, job byte and slot table.
 unfoldable pub held_lent : HeldTable → List Lent → HeldTable
@@ -41,10 +41,10 @@ pub record AsRows : Type 0 where
   pub off : (v : Held) → setted (off_held v).node ≡ (off_of (setted v)).node
   pub restart : (v : Held) → setted (restart_held v).node ≡ (restart_of (setted v)).node
   -- and a refused one leaves the record as it was held (the answers are those of the rules, so demand 1 gives their numbers)
-  pub slot-refused : (bytes : List ℕ) (v : Held) (counts : Counts) → let r = (slot_held bytes v counts).stepped in Keeps (of_answer r.answer) v r.node
-  pub step-refused : (received : Received) (v : Held) (counts : Counts) → let r = (counted_held received v counts).stepped in Keeps (of_answer r.answer) v r.node
-  pub off-refused : (v : Held) → let r = off_held v in Keeps (of_answer r.answer) v r.node
-  pub restart-refused : (v : Held) → let r = restart_held v in Keeps (of_answer r.answer) v r.node
+  pub slot-refused : (bytes : List ℕ) (v : Held) (counts : Counts) → let r = (slot_held bytes v counts).stepped in Keeps (ending r.answer) v r.node
+  pub step-refused : (received : Received) (v : Held) (counts : Counts) → let r = (counted_held received v counts).stepped in Keeps (ending r.answer) v r.node
+  pub off-refused : (v : Held) → let r = off_held v in Keeps (ending r.answer) v r.node
+  pub restart-refused : (v : Held) → let r = restart_held v in Keeps (ending r.answer) v r.node
   -- the same of the bench's calls: its ledger, counts, answer and bytes are those of the rules by definition
   pub call : CallStands
   pub call-refused : (c : Command) (slots : List ℕ) (room : ℕ) (ledger : Ledger) (counts : List Counts) (t : HeldTable)

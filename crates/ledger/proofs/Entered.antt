@@ -6,8 +6,8 @@ use mathlib.Core.Bool.{Bool, true, false, cond, ◌&&◌}
 use lib.Dec.{eqb, leb}
 use mathlib.Core.List.{[], ◌∷◌}
 use native.Mathlib.Omega.{arith}
-use native.Mathlib.Numerals.{add-one}
-use lib.ListN.{length, get_or, set, take}
+use lib.ListN.{length, get_or, set}
+use Rattle.std.specs.List.{list_all}
 use borrow.Author.Tests.{lt-ltb, eqb-true, eqb-false, leb-true}
 use Rattle.nodeset.specs.Sets.{has}
 use Rattle.nodeset.proofs.Tests.{by_cases, both}
@@ -34,46 +34,24 @@ module _ (date left joined : ℕ) where
   one-entered (suc m) i x (f ∷ ledger) e h =
       ap (λ (l : Ledger). entry_after date (has left i) (has joined i) f ∷ l) (one-entered m (suc i) x ledger (omega arith) (omega arith))
 
-  -- there are no more than the ledger has
-  pub all-entered : (m k i : ℕ) (ledger : Ledger) → length ledger ≤ m → m ≤ k → entered_from date left joined m i ledger ≡ entered_from date left joined k i ledger
+  -- all of them: there are no more, or the ledger has none
+  pub all-entered : (m k i : ℕ) (ledger : Ledger) → (m < k → length ledger ≤ m) → m ≤ k → entered_from date left joined m i ledger ≡ entered_from date left joined k i ledger
   unfolding entered_from
   all-entered zero zero i ledger h l = refl
   all-entered zero (suc k) i [] h l = refl
-  all-entered zero (suc k) i (f ∷ ledger) h l = let z : ⊥ = omega arith in absurd z
+  all-entered zero (suc k) i (f ∷ ledger) h l = let z : ⊥ = omega (arith, h (omega arith)) in absurd z
   all-entered (suc m) zero i ledger h l = let z : ⊥ = omega arith in absurd z
   all-entered (suc m) (suc k) i [] h l = refl
   all-entered (suc m) (suc k) i (f ∷ ledger) h l =
-      ap (λ (x : Ledger). entry_after date (has left i) (has joined i) f ∷ x) (all-entered m k (suc i) ledger (omega arith) (omega arith))
+      ap (λ (x : Ledger). entry_after date (has left i) (has joined i) f ∷ x) (all-entered m k (suc i) ledger (λ p. omega (arith, h (omega arith))) (omega arith))
 
 -- ---- entries that fit
 
-pub and_last : (b : Bool) → b ≡ (b && true)
-and_last true = refl
-and_last false = refl
-
-fits_more : (slots m : ℕ) (ledger : Ledger) → m < length ledger → all_fit slots (take (suc m) ledger) ≡ (all_fit slots (take m ledger) && counts_fit slots (get_or ledger m []))
+-- as `all` looks at them
+pub all-fit : (slots : ℕ) (ledger : Ledger) → list_all (counts_fit slots) ledger ≡ all_fit slots ledger
 unfolding all_fit
-fits_more slots m [] h = absurd (elim h [ ])
-fits_more slots zero (f ∷ ledger) h = sym (and_last (counts_fit slots f))
-fits_more slots (suc m) (f ∷ ledger) h =
-    ap (λ (b : Bool). counts_fit slots f && b) (fits_more slots m ledger (omega arith)) ∙ sym (assoc (counts_fit slots f) (all_fit slots (take m ledger)) (counts_fit slots (get_or ledger m [])))
-  where
-    assoc : (a b d : Bool) → ((a && b) && d) ≡ (a && (b && d))
-    assoc true b d = refl
-    assoc false b d = refl
-
--- one more is looked at
-pub one-fits : (slots m : ℕ) (ledger : Ledger) (p fine fits : Bool) → m < length ledger → fine ≡ (p && all_fit slots (take m ledger)) → fits ≡ counts_fit slots (get_or ledger m [])
-    → (fine && fits) ≡ (p && all_fit slots (take (m + 1) ledger))
-one-fits slots m ledger p fine fits h e f =
-    ap (λ (b : Bool). b && fits) e
-    ∙ ap (λ (b : Bool). (p && all_fit slots (take m ledger)) && b) f
-    ∙ assoc p (all_fit slots (take m ledger)) (counts_fit slots (get_or ledger m []))
-    ∙ ap (λ (b : Bool). p && b) (sym (fits_more slots m ledger h) ∙ ap (λ (k : ℕ). all_fit slots (take k ledger)) (sym (add-one m)))
-  where
-    assoc : (a b d : Bool) → ((a && b) && d) ≡ (a && (b && d))
-    assoc true b d = refl
-    assoc false b d = refl
+all-fit slots [] = refl
+all-fit slots (f ∷ ledger) = ap (λ (b : Bool). counts_fit slots f && b) (all-fit slots ledger)
 
 -- ---- who left and who joined
 

@@ -1,4 +1,5 @@
 -- By which number a call is refused, and by which it is not. Assumes nothing.
+use Rattle.std.specs.Prelude.{Err, Ok}
 use Prim.Native.Nat.{ℕ}
 use mathlib.Core.Path.{◌≡◌, refl}
 use mathlib.Core.Logic.{◌≢◌}
@@ -6,8 +7,7 @@ use mathlib.Core.Bool.{Bool, true, false}
 use lib.Dec.{eqb}
 use borrow.Author.Tests.{eqb-false}
 use Rattle.bench.specs.refusal.Causes.{cause, number_of}
-use Rattle.bench.specs.node.declared.Answer.{Answer}
-use Rattle.bench.specs.node.declared.Answer.TheVariants.{Done, Refused}
+use Rattle.bench.specs.node.Answers.{Answer}
 use Rattle.bench.specs.declared.Command.{Command}
 use Rattle.bench.specs.declared.Command.TheVariants as command
 use Rattle.bench.specs.declared.Outcome.{Outcome}
@@ -18,8 +18,8 @@ use Rattle.bench.specs.Outcomes.{outcome_of}
 
 -- the number of a refusal, 0 for none
 abbrev pub number_in : Answer → ℕ
-number_in Done = 0
-number_in (Refused r) = number_of r
+number_in (Ok _) = 0
+number_in (Err r) = number_of r
 
 abbrev pub number_told : Outcome → ℕ
 number_told outcome.Quiet = 0
@@ -31,16 +31,16 @@ pub told-number : (c : Command) (t : Table) (called : Called) → number_told (o
 told-number c t called = go c called.answer
   where
     go : (k : Command) (a : Answer) → number_told (outcome_of k t (record { table = called.table; answer = a })) ≡ number_in a
-    go (command.SetUp cable) Done = refl
-    go (command.Off a) Done = refl
-    go (command.Restart a) Done = refl
-    go (command.Slot lost missed jobs) Done = refl
-    go (command.Look lost) Done = refl
-    go (command.SetUp cable) (Refused r) = refl
-    go (command.Off a) (Refused r) = refl
-    go (command.Restart a) (Refused r) = refl
-    go (command.Slot lost missed jobs) (Refused r) = refl
-    go (command.Look lost) (Refused r) = refl
+    go (command.SetUp cable) (Ok _) = refl
+    go (command.Off a) (Ok _) = refl
+    go (command.Restart a) (Ok _) = refl
+    go (command.Slot lost missed jobs) (Ok _) = refl
+    go (command.Look lost) (Ok _) = refl
+    go (command.SetUp cable) (Err r) = refl
+    go (command.Off a) (Err r) = refl
+    go (command.Restart a) (Err r) = refl
+    go (command.Slot lost missed jobs) (Err r) = refl
+    go (command.Look lost) (Err r) = refl
 
 -- a test that refuses by another number
 pub unless : (n : ℕ) (b : Bool) (number : ℕ) (t : Table) (called : Called) → eqb (number_of (cause number)) n ≡ false → number_in called.answer ≢ n → number_in (if_passed b number t called).answer ≢ n

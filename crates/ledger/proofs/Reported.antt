@@ -1,5 +1,6 @@
 -- Each count of failure reports is its tally (specs/Reported). The counts of each node are 32 rows of 8, and none is above the slot count, since a slot adds one at the most; so no call is refused by 4.
 -- Assumes nothing.
+use Rattle.std.specs.Prelude.{Err, Ok}
 use Prim.Native.Nat.{ℕ, suc, ◌+◌, ◌-◌, ◌^◌, ◌≤◌, ◌<◌}
 use mathlib.Core.Path.{◌≡◌, refl, sym, ap, ◌∙◌, subst}
 use mathlib.Core.Logic.{◌≢◌}
@@ -26,8 +27,7 @@ use Rattle.bench.specs.node_record.declared.Node.{Node}
 use Rattle.bench.specs.node_record.States.{is_out}
 use Rattle.bench.specs.node_record.Soundness.{limit}
 use Rattle.bench.proofs.node_record.Facts.{clauses}
-use Rattle.bench.specs.node.declared.Answer.{Answer}
-use Rattle.bench.specs.node.declared.Answer.TheVariants.{Done, Refused}
+use Rattle.bench.specs.node.Answers.{Answer}
 use Rattle.bench.specs.node.Calls.{is_done, hears_report, counts_after}
 use Rattle.bench.specs.Table.{Table, record_of, node_count, slots_of, table_sound, speaker}
 use Rattle.bench.specs.Calls.{Called, set_up_of, slot_of, off_of, restart_of}
@@ -67,12 +67,12 @@ not-4 g ledger t ok fits = go g.call
 
 -- where it is made, and where it is not
 when-done : {A : Type 0} (a : Answer) (x y : A) → is_done a ≡ true → if_done a x y ≡ x
-when-done Done x y e = refl
-when-done (Refused r) x y e = absurd (true≢false (sym e))
+when-done (Ok _) x y e = refl
+when-done (Err r) x y e = absurd (true≢false (sym e))
 
 when-refused : {A : Type 0} (a : Answer) (x y : A) → is_done a ≡ false → if_done a x y ≡ y
-when-refused Done x y e = absurd (true≢false e)
-when-refused (Refused r) x y e = refl
+when-refused (Ok _) x y e = absurd (true≢false e)
+when-refused (Err r) x y e = refl
 
 module _ (s : ℕ) (low : 1 ≤ s) (high : s ≤ 32) (received : Received) (v : Node) (is : sender v.cable (v.slots + 1) ≡ s) (counts : Counts) (shape : Shaped counts) where
   abbrev hears : Bool

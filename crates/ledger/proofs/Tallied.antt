@@ -1,5 +1,6 @@
 -- Each figure of the ledger is its tally (specs/Tallies). Of each node: how often it left, and one more if it is a member, is how often it joined and one more; and it
 -- joins in slots alone. So no count passes the slot count plus one, no call is refused by 13, and each call with the ledger is the call without it. Assumes nothing.
+use Rattle.std.specs.Prelude.{Err, Ok}
 use Prim.Native.Nat.{ℕ, zero, suc, ◌+◌, ◌-◌, ◌≤◌, ◌<◌}
 use mathlib.Core.Path.{◌≡◌, refl, sym, ap, ◌∙◌, subst}
 use mathlib.Core.Logic.{◌≢◌}
@@ -24,8 +25,7 @@ use Rattle.bench.specs.node_record.declared.State.TheVariants.{Member, Listening
 use Rattle.bench.specs.node_record.States.{is_member, is_out}
 use Rattle.bench.specs.node_record.Soundness.{sound, limit}
 use Rattle.bench.specs.message.Message.{jobs_within}
-use Rattle.bench.specs.node.declared.Answer.{Answer}
-use Rattle.bench.specs.node.declared.Answer.TheVariants.{Done, Refused}
+use Rattle.bench.specs.node.Answers.{Answer}
 use Rattle.bench.specs.node.Calls as node
 use Rattle.bench.specs.Table.{Table, record_of, node_count, slots_of, table_sound}
 use Rattle.bench.specs.Calls.{Called, set_up_of, slot_of, off_of, restart_of}
@@ -203,8 +203,8 @@ module _ (t : Table) (ledger : Ledger) (i : ℕ) (e : table_sound t ≡ true) (h
 
       by : (a : Answer) → (is_done a ≡ false → after ≡ t)
           → entry_of (ledger_with (command.Slot lost missed jobs) t (record { table = after; answer = a }) ledger) ≡ figures_after (slots_of t + 1) (record_of t i).state (record_of after i).state (entry_of ledger)
-      by Done _ = entered (slots_of t + 1) after
-      by (Refused r) f = kept (slots_of t + 1) after (f refl)
+      by (Ok _) _ = entered (slots_of t + 1) after
+      by (Err r) f = kept (slots_of t + 1) after (f refl)
   ledger-next (off a) jobs = by (call_of (off a) t).answer (λ d. refused-table (off a) t e d)
     where
       after : Table
@@ -212,34 +212,34 @@ module _ (t : Table) (ledger : Ledger) (i : ℕ) (e : table_sound t ≡ true) (h
 
       by : (b : Answer) → (is_done b ≡ false → after ≡ t)
           → entry_of (ledger_with (command.Off a) t (record { table = after; answer = b }) ledger) ≡ figures_after (slots_of t) (record_of t i).state (record_of after i).state (entry_of ledger)
-      by Done _ = entered (slots_of t) after
-      by (Refused r) f = kept (slots_of t) after (f refl)
+      by (Ok _) _ = entered (slots_of t) after
+      by (Err r) f = kept (slots_of t) after (f refl)
   ledger-next (restart a) jobs = by (call_of (restart a) t).answer ∙ sym (quiet-figures 0 _ _ (entry_of ledger) (restart-none t e i h l a))
     where
       by : (b : Answer) → entry_of (ledger_with (command.Restart a) t (record { table = (call_of (restart a) t).table; answer = b }) ledger) ≡ entry_of ledger
-      by Done = refl
-      by (Refused r) = refl
+      by (Ok _) = refl
+      by (Err r) = refl
 
 ledger-length : (c : Call) (jobs : ℕ) (t : Table) (called : Called) (ledger : Ledger) → length (ledger_with (command_of c jobs) t called ledger) ≡ length ledger
 ledger-length c jobs t called ledger = by c called.answer
   where
     by : (k : Call) (a : Answer) → length (ledger_with (command_of k jobs) t (record { table = called.table; answer = a }) ledger) ≡ length ledger
-    by (slot lost missed room) Done = length-entries (slots_of t + 1) t called.table 1 ledger
-    by (off a) Done = length-entries (slots_of t) t called.table 1 ledger
-    by (restart a) Done = refl
-    by (slot lost missed room) (Refused r) = refl
-    by (off a) (Refused r) = refl
-    by (restart a) (Refused r) = refl
+    by (slot lost missed room) (Ok _) = length-entries (slots_of t + 1) t called.table 1 ledger
+    by (off a) (Ok _) = length-entries (slots_of t) t called.table 1 ledger
+    by (restart a) (Ok _) = refl
+    by (slot lost missed room) (Err r) = refl
+    by (off a) (Err r) = refl
+    by (restart a) (Err r) = refl
 
 -- a refused call enters nothing
 ledger-stays : (c : Call) (jobs : ℕ) (t : Table) (called : Called) (ledger : Ledger) → is_done called.answer ≡ false → ledger_with (command_of c jobs) t called ledger ≡ ledger
 ledger-stays c jobs t called ledger e = by c called.answer e
   where
     by : (k : Call) (a : Answer) → is_done a ≡ false → ledger_with (command_of k jobs) t (record { table = called.table; answer = a }) ledger ≡ ledger
-    by k Done f = absurd (true≢false f)
-    by (slot lost missed room) (Refused r) f = refl
-    by (off a) (Refused r) f = refl
-    by (restart a) (Refused r) f = refl
+    by k (Ok _) f = absurd (true≢false f)
+    by (slot lost missed room) (Err r) f = refl
+    by (off a) (Err r) f = refl
+    by (restart a) (Err r) f = refl
 
 -- ---- a ledger that fits
 

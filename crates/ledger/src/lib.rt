@@ -8,7 +8,8 @@ ghost use Rattle.std.specs.Prelude.{◌≡◌, ◌+◌, leb};
 ghost use Rattle.bench.specs.Ledger.{all_fit, ledger_fits, counts_fit};
 ghost use Rattle.ledger.specs.Entered.{entered, entry_after, one_more};
 
-// The places of an entry's figures.
+// The places of an entry's figures. An entry is three numbers and no struct, since ledgers are lent so
+// (`bench_calls::call`).
 pub const LEFT: usize = 0;
 
 pub const JOINED: usize = 1;
@@ -19,10 +20,7 @@ pub const LAST: usize = 2;
 fn count_fits(slots: u64, count: u64) -> bool
     ensures { result ≡ leb count (slots + 1) }
 {
-    if count == 0 {
-        return true;
-    }
-    count - 1 <= slots
+    count.saturating_sub(1) <= slots
 }
 
 // Whether no count of an entry is above the slot count plus one.
@@ -36,20 +34,14 @@ fn counts_fit(slots: u64, entry: [u64; 3]) -> bool
 pub fn fits(ledger: &[[u64; 3]], n: u32, slots: u64) -> bool
     ensures { result ≡ ledger_fits n slots ledger.now }
 {
-    let mut fine = ledger.len() == n as usize;
-    let mut i = 0;
-    while i < ledger.len() {
-        fine = fine & counts_fit(slots, ledger[i]);
-        i += 1;
-    }
-    fine
+    ledger.len() == n as usize && ledger.iter().all(|&entry| counts_fit(slots, entry))
 }
 
-// One more, as far as a u64 counts.
+// One more, as far as a u64 counts: the definition's name for std's method.
 pub fn one_more(count: u64) -> u64
     ensures { result ≡ one_more count }
 {
-    if count < u64::MAX { count + 1 } else { count }
+    count.saturating_add(1)
 }
 
 // An entry after a call in which its node left, joined, or neither.
@@ -69,8 +61,7 @@ fn entry_after(date: u64, left: bool, joined: bool, entry: [u64; 3]) -> [u64; 3]
 pub fn enter(ledger: &mut [[u64; 3]], left: u32, joined: u32, date: u64)
     ensures { ledger.new ≡ entered date left joined ledger.old }
 {
-    let mut i = 0;
-    while i < ledger.len() && i < 32 {
+    for i in 0..ledger.len().min(32) {
         let x = i as u32 + 1;
         ledger[i] = entry_after(
             date,
@@ -78,6 +69,5 @@ pub fn enter(ledger: &mut [[u64; 3]], left: u32, joined: u32, date: u64)
             nodeset::has(joined, x),
             ledger[i],
         );
-        i += 1;
     }
 }

@@ -1,4 +1,5 @@
 -- The invariant of a table where nodes only fall silent: the start has it, every call keeps it, and it gives request g. Assumes nothing.
+use Rattle.std.specs.Prelude.{Err, Ok}
 use Prim.Native.Nat.{ℕ, suc, ◌+◌, ◌-◌, ◌≤◌, ◌<◌}
 use mathlib.Core.Path.{◌≡◌, refl, sym, ap, ap₂, ◌∙◌, subst}
 use mathlib.Core.Logic.{◌≢◌}
@@ -19,8 +20,7 @@ use Rattle.agreement.specs.ring.Ring.{sender, sponsors, sponsored}
 use Rattle.agreement.proofs.cable.Ranges.{ring-size, lag-fits, sponsor-count, fitting}
 use Rattle.agreement.proofs.ring_laws.Senders.{Turns, turns-of, sender-range, sender-period, its-slot}
 use Rattle.agreement.specs.node.Calls.{Stepped, is_done}
-use Rattle.agreement.specs.message.declared.Reading.{Reading}
-use Rattle.agreement.specs.message.declared.Reading.TheVariants as reading
+use Rattle.agreement.specs.message.Answers.{Reading}
 use Rattle.agreement.specs.node_record.declared.Node.{Node}
 use Rattle.agreement.specs.node_record.declared.State.{State}
 use Rattle.agreement.specs.node_record.declared.State.TheVariants.{Member, Listening, Following, Knocking, Out}
@@ -55,6 +55,7 @@ use Rattle.many_dead.specs.Many.{Undisturbed, OnlyOffs, StaysOn, TwoStayOn, Surv
 use Rattle.many_dead.proofs.Shrinking.{sponsored-node, shrunk, shrunk-keeps}
 use Rattle.many_dead.proofs.Lists.{marks_next, Lists, lists-same, lists-start, inside-lists, outside-lists}
 use Rattle.many_dead.proofs.Members.{Alive, Gets, marked_next, inside-alive, outside-alive}
+use Rattle.agreement.specs.message.Answers.{heard_with}
 
 -- ---- states
 
@@ -172,10 +173,10 @@ module _ (cable : Cable) (turns : Turns cable) (n-most : cable.n ≤ 32) (k-pos 
     alive-of i mi = (inv.nodes i mi.pos mi.le).alive mi.member
 
     heard-is : (i : ℕ) → is_heard (hd i) ≡ ((transmits t && (not lost && not (has missed i))) && not (eqb s (record_of t i).own))
-    heard-is i = hear (eqb s (record_of t i).own) lost (has missed i) (transmits t) (reading.Heard (bits_sent (record_of t s)) (return_sent (record_of t s))) refl
+    heard-is i = hear (eqb s (record_of t i).own) lost (has missed i) (transmits t) (heard_with (bits_sent (record_of t s)) (return_sent (record_of t s))) refl
 
-    message-is : (i : ℕ) → is_heard (hd i) ≡ true → hd i ≡ reading.Heard (bits_sent (record_of t (sender cable (suc N)))) (return_sent (record_of t (sender cable (suc N))))
-    message-is i e = hear-message (eqb s (record_of t i).own) lost (has missed i) (transmits t) (reading.Heard (bits_sent (record_of t s)) (return_sent (record_of t s))) e
+    message-is : (i : ℕ) → is_heard (hd i) ≡ true → hd i ≡ heard_with (bits_sent (record_of t (sender cable (suc N)))) (return_sent (record_of t (sender cable (suc N))))
+    message-is i e = hear-message (eqb s (record_of t i).own) lost (has missed i) (transmits t) (heard_with (bits_sent (record_of t s)) (return_sent (record_of t s))) e
 
     -- whoever hears anything hears a member
     speaks : (i : ℕ) → is_heard (hd i) ≡ true → MemberOf t (sender cable (suc N))
@@ -219,8 +220,8 @@ module _ (cable : Cable) (turns : Turns cable) (n-most : cable.n ≤ 32) (k-pos 
         quiet al = let z : eqb (record_of t s).returning 0 ≡ true = eq-eqb (record_of t s).returning 0 al.ret in rw (al.member, z) refl
 
         unheard-return : (r : Reading) → is_heard r ≡ false → return_in r ≡ false
-        unheard-return (reading.Heard bits bit) e = absurd (true≢false e)
-        unheard-return (reading.Refused c) e = refl
+        unheard-return (Ok h) e = absurd (true≢false e)
+        unheard-return (Err c) e = refl
 
         sponsored-range : (j x : ℕ) → j < sponsors cable L → At x (sponsored cable L s (suc j)) → (1 ≤ x) × (x ≤ n)
         sponsored-range j x l e = sponsored-node cable turns k-pos N L j x inv.lists.late l e

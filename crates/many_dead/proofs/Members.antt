@@ -15,7 +15,7 @@ use Rattle.agreement.proofs.nodeset.Counts.{size-without}
 use Rattle.agreement.specs.cable.declared.Cable.{Cable}
 use Rattle.agreement.specs.ring.Ring.{sender, member_before, sponsors, sponsored, decided, member_in, is_found}
 use Rattle.agreement.proofs.ring_laws.Senders.{Turns, sender-range}
-use Rattle.agreement.specs.message.declared.Reading.{Reading}
+use Rattle.agreement.specs.message.Answers.{Reading}
 use Rattle.agreement.specs.node_record.declared.Node.{Node}
 use Rattle.agreement.specs.node_record.declared.Cause.TheVariants.{MissedReturn}
 use Rattle.agreement.specs.node_record.States.{is_member}

@@ -1,4 +1,5 @@
 -- The repeated departure as a function of the list and of the marks, and which members it takes. Assumes nothing.
+use Rattle.std.specs.Prelude.{None, Option}
 use Prim.Native.Nat.{ℕ, zero, suc, ◌+◌, ◌≤◌, ◌<◌}
 use mathlib.Core.Path.{◌≡◌, refl, sym, ap, ap₂, ◌∙◌}
 use mathlib.Core.Logic.{◌≢◌, ◌⊎◌, inl, inr}
@@ -15,7 +16,6 @@ use Rattle.agreement.proofs.nodeset.Laws.{has-without-other, without-part}
 use Rattle.agreement.proofs.nodeset.Counts.{size-without}
 use Rattle.agreement.specs.cable.declared.Cable.{Cable}
 use Rattle.agreement.specs.ring.declared.Found.{Found}
-use Rattle.agreement.specs.ring.declared.Found.TheVariants as found
 use Rattle.agreement.specs.ring.Ring.{sender, sponsors, sponsored, decided, member_in, is_found}
 use Rattle.agreement.proofs.ring_laws.Senders.{Turns, sender-range, sender-once}
 use Rattle.agreement.proofs.ring_laws.Walks as walks
@@ -25,6 +25,7 @@ use Rattle.agreement.proofs.bench.Choices.{choose}
 use Rattle.agreement.proofs.Backwards.{Before, before}
 use Rattle.agreement.proofs.History.{num-is}
 use Rattle.agreement.proofs.Marks.{no_both}
+use Rattle.agreement.specs.ring.Ring.{found}
 
 module _ (cable : Cable) (turns : Turns cable) (k-pos : 1 ≤ cable.k) where
   open cable use {n, k, lag}
@@ -39,10 +40,10 @@ module _ (cable : Cable) (turns : Turns cable) (k-pos : 1 ≤ cable.k) where
   pub deciding : (N L : ℕ) → n ≤ N → 2 + lag ≤ size n L → Before cable turns N L (sponsors cable L + lag)
   deciding N L hn h = let q = some-sponsored L h in before cable turns N L (sponsors cable L + lag) hn (omega (arith, q.0)) q.1
 
-  pub decided-at : (N L : ℕ) (hn : n ≤ N) (h : 2 + lag ≤ size n L) → decided cable L (sender cable (suc N)) ≡ found.Member (sender cable (deciding N L hn h).u) (suc (deciding N L hn h).e)
+  pub decided-at : (N L : ℕ) (hn : n ≤ N) (h : 2 + lag ≤ size n L) → decided cable L (sender cable (suc N)) ≡ found (sender cable (deciding N L hn h).u) (suc (deciding N L hn h).e)
   decided-at N L hn h = decided-before cable L (sender cable (suc N)) (some-sponsored L h).0 ∙ (deciding N L hn h).it
 
-  decided-none : (L s : ℕ) → size n L ≤ 1 + lag → decided cable L s ≡ found.Nobody
+  decided-none : (L s : ℕ) → size n L ≤ 1 + lag → decided cable L s ≡ None
   unfolding decided sponsored sponsors
   decided-none L s h =
       let z : sponsors cable L ≡ 0 = omega arith in
@@ -84,14 +85,14 @@ module _ (cable : Cable) (turns : Turns cable) (k-pos : 1 ≤ cable.k) where
   unfolding goes
   unmarked P s L e = tests.not-true (has P (member L s)) (both (is_found (member L s) (decided cable L s)) (not (has P (member L s))) e).1
 
-  goes_by : (P s L m back : ℕ) → decided cable L s ≡ found.Member m back → goes P s L ≡ not (has P m)
+  goes_by : (P s L m back : ℕ) → decided cable L s ≡ found m back → goes P s L ≡ not (has P m)
   unfolding goes
   goes_by P s L m back e =
-      ap (λ (f : Found). is_found (member_in f) f && not (has P (member_in f))) e ∙ ap (λ (b : Bool). b && not (has P m)) (eq-eqb m m refl)
+      ap (λ (f : Option Found). is_found (member_in f) f && not (has P (member_in f))) e ∙ ap (λ (b : Bool). b && not (has P m)) (eq-eqb m m refl)
 
-  none-goes : (P s L : ℕ) → decided cable L s ≡ found.Nobody → goes P s L ≡ false
+  none-goes : (P s L : ℕ) → decided cable L s ≡ None → goes P s L ≡ false
   unfolding goes
-  none-goes P s L e = ap (λ (f : Found). is_found (member_in f) f && not (has P (member_in f))) e
+  none-goes P s L e = ap (λ (f : Option Found). is_found (member_in f) f && not (has P (member_in f))) e
 
   pub goes-many : (P N L : ℕ) → goes P (sender cable (suc N)) L ≡ true → 2 + lag ≤ size n L
   goes-many P N L e = go (dec_le (size n L) (1 + lag))

@@ -1,8 +1,7 @@
 -- Request g wants "e) and f) together". Here each is taken back alone: f's run is agreement's `run_before`, with one departure step in a slot; e's is this one. And plans, the first line first.
-use Rattle.std.specs.Prelude.{ℕ, false, cond, List, [], ◌∷◌, replicate}
+use Rattle.std.specs.Prelude.{ℕ, false, cond, List, [], ◌∷◌, replicate, Err, Ok}
 use Rattle.agreement.specs.nodeset.Sets.{has, without}
-use Rattle.agreement.specs.message.declared.Reading.{Reading}
-use Rattle.agreement.specs.message.declared.Reading.TheVariants as reading
+use Rattle.agreement.specs.message.Answers.{Reading}
 use Rattle.agreement.specs.node_record.declared.Node.{Node}
 use Rattle.agreement.specs.node_record.Sponsoring.{sponsors_in}
 use Rattle.agreement.specs.node_changes.Changes.{with_marks}
@@ -16,8 +15,8 @@ use Rattle.agreement.specs.Repeated.{run_by}
 
 -- Document 01: "If it is this node, its own mark goes off"; a no changes nothing.
 abbrev pub read_without_e : ℕ → Reading → Node → ℕ
-read_without_e s (reading.Heard bits return_bit) v = confirmed (sponsors_in v) s bits v
-read_without_e s (reading.Refused r) v = without v.present s
+read_without_e s (Ok h) v = confirmed (sponsors_in v) s h.acknowledgements v
+read_without_e s (Err r) v = without v.present s
 
 abbrev pub marked_without_e : ℕ → Reading → Node → Node
 marked_without_e s heard v = with_marks (cond (is_own s v) (without v.present v.own) (read_without_e s heard v)) false (heard_return s heard v) v

@@ -1,5 +1,6 @@
 -- What is written is read back, and each readable message is the one that is written for what it reads as: for every k from 2 to 31 and m from 0 to 8 at once,
 -- from one law for any section (`found`, `rebuilt`). Assumes nothing.
+use Rattle.std.specs.Prelude.{Ok, Err}
 use Prim.Native.Nat.{ℕ, ◌+◌, ◌*◌, ◌%◌, ◌^◌, ◌≤◌, ◌<◌}
 use mathlib.Core.Path.{◌≡◌, refl, sym, ap, ap₂, ◌∙◌}
 use mathlib.Core.List.{List, [], ◌∷◌, ◌++◌, append_assoc}
@@ -13,13 +14,12 @@ use lib.Pow.{pow_mono}
 use borrow.Author.Tests.{eq-eqb, lt-ltb, ltb-true, le-leb, leb-true, eqb-true, eqb-false}
 use Rattle.cable.specs.Cable.{job_count}
 use Rattle.message.specs.declared.Received.{Received}
-use Rattle.message.specs.declared.Reading.TheVariants.{Heard}
 use Rattle.message.specs.declared.Section.{Section}
-use Rattle.message.specs.declared.Written.TheVariants.{Bytes as Written}
 use Rattle.message.specs.Message.{AreBytes, Outcome, acknowledgement_section, bits_in, bytes_for, bytes_of, heard, if_read, if_written, in_range, job_section, length_of, length_one, length_two, little, message_of, part_one, part_three, part_two, read_of, return_section, said_by, two_sections, section_in, section_of, write_of}
 use Rattle.message.proofs.Bytes.{bytes-tail, bytes_drop, little-bytes_of, bytes_of-little}
 use Rattle.message.proofs.Parts.{length-section, length-two}
 use Rattle.message.proofs.Tests.{both, bit-small, in-range}
+use Rattle.message.specs.Answers.{Reading, heard_with}
 
 -- ---- one section
 
@@ -114,6 +114,15 @@ pub record Passed (k m : ℕ) (bytes : List ℕ) (a : ℕ) (b : Bool) (j : ℕ) 
   pub two : eqb (bits_in (part_two k bytes) % 2) 1 ≡ b
   pub three : bits_in (part_three k bytes) ≡ j
 
+-- what a reading says, of none where nothing is heard
+abbrev pub bits_of : Reading → ℕ
+bits_of (Ok h) = h.acknowledgements
+bits_of (Err c) = 0
+
+abbrev pub bit_of : Reading → Bool
+bit_of (Ok h) = h.return_bit
+bit_of (Err c) = false
+
 pub passed-all : (k m a : ℕ) (b : Bool) (j : ℕ) (bytes : List ℕ) → read_of k m bytes ≡ heard a b j → Passed k m bytes a b j
 unfolding read_of said_by
 passed-all k m a b j bytes e =
@@ -129,7 +138,7 @@ passed-all k m a b j bytes e =
     let d₁ = both (ltb (bits_in (part_one k bytes)) (2 ^ k)) _ p5.0 in
     let d₂ = both (ltb (bits_in (part_two k bytes)) (2 ^ 1)) _ d₁.1 in
     let last : heard (bits_in (part_one k bytes)) (eqb (bits_in (part_two k bytes) % 2) 1) (bits_in (part_three k bytes) % 256) ≡ heard a b j = p5.1 in
-    let said : Heard (bits_in (part_one k bytes)) (eqb (bits_in (part_two k bytes) % 2) 1) ≡ Heard a b = ap (λ (r : Received). r.reading) last in
+    let said : heard_with (bits_in (part_one k bytes)) (eqb (bits_in (part_two k bytes) % 2) 1) ≡ heard_with a b = ap (λ (r : Received). r.reading) last in
     let jobs : bits_in (part_three k bytes) % 256 ≡ j = ap (λ (r : Received). r.jobs) last in
     let clear = ltb-true (bits_in (part_three k bytes)) (2 ^ m) d₂.1 in
     let byte = jobs-fit m (bits_in (part_three k bytes)) few clear in
@@ -144,8 +153,8 @@ passed-all k m a b j bytes e =
       clear-one = ltb-true (bits_in (part_one k bytes)) (2 ^ k) d₁.0;
       clear-two = ltb-true (bits_in (part_two k bytes)) (2 ^ 1) d₂.0;
       clear-three = clear;
-      one = cc said;
-      two = cc said;
+      one = ap bits_of said;
+      two = ap bit_of said;
       three = omega arith;
     }
 
@@ -212,7 +221,7 @@ message-read k m a b j bytes h e =
 
 -- what passes a test of the writer
 pub put-passed : (t : Bool) (number : ℕ) (out : List ℕ) (outcome : Outcome) (n : ℕ) (after : List ℕ)
-    → if_written t number out outcome ≡ (Written n, after) → (t ≡ true) × (outcome ≡ (Written n, after))
+    → if_written t number out outcome ≡ (Ok n, after) → (t ≡ true) × (outcome ≡ (Ok n, after))
 put-passed true number out outcome n after e = (refl, e)
 put-passed false number out outcome n after e =
     let answers = ap (λ (o : Outcome). o.0) e in
@@ -225,7 +234,7 @@ pub record Put (k m a : ℕ) (b : Bool) (j : ℕ) (out : List ℕ) (n : ℕ) (af
   pub told : length_of k ≡ n
   pub left : message_of k m a b j ++ drop (length_of k) out ≡ after
 
-pub put_all : (k m a : ℕ) (b : Bool) (j : ℕ) (out : List ℕ) (n : ℕ) (after : List ℕ) → write_of k m a b j out ≡ (Written n, after) → Put k m a b j out n after
+pub put_all : (k m a : ℕ) (b : Bool) (j : ℕ) (out : List ℕ) (n : ℕ) (after : List ℕ) → write_of k m a b j out ≡ (Ok n, after) → Put k m a b j out n after
 unfolding write_of
 put_all k m a b j out n after e =
     let p1 = put-passed (in_range k) 2 out _ n after e in
@@ -234,7 +243,7 @@ put_all k m a b j out n after e =
     let p4 = put-passed (leb (length_of k) (length out)) 9 out _ n after p3.1 in
     let r = in-range k p1.0 in
     let w = both (ltb a (2 ^ k)) (ltb j (2 ^ m)) p3.0 in
-    let answer : Written (length_of k) ≡ Written n = ap (λ (o : Outcome). o.0) p4.1 in
+    let answer : Ok (length_of k) ≡ Ok n = ap (λ (o : Outcome). o.0) p4.1 in
     record {
       ranged = record { low = r.0; high = r.1; few = leb-true m 8 p2.0; within = ltb-true a (2 ^ k) w.0; counted = ltb-true j (2 ^ m) w.1 };
       told = cc answer;
@@ -243,14 +252,14 @@ put_all k m a b j out n after e =
 
 -- The writer is not refused where all is in range and there is room.
 pub puts : (k m a : ℕ) (b : Bool) (j : ℕ) (out : List ℕ) → InRange k m a j → length_of k ≤ length out
-    → write_of k m a b j out ≡ (Written (length_of k), message_of k m a b j ++ drop (length_of k) out)
+    → write_of k m a b j out ≡ (Ok (length_of k), message_of k m a b j ++ drop (length_of k) out)
 unfolding write_of
 puts k m a b j out r room =
     simp (le-leb 2 k r.low, le-leb k 31 r.high, le-leb m 8 r.few, lt-ltb a (2 ^ k) r.within, lt-ltb j (2 ^ m) r.counted, le-leb (length_of k) (length out) room)
 
 -- Each readable message is the one that the writer writes for what it reads as, where there is room; what stood after it stands there still.
 pub written_read : (k m a : ℕ) (b : Bool) (j : ℕ) (bytes out : List ℕ) → AreBytes bytes → read_of k m bytes ≡ heard a b j → length bytes ≤ length out
-    → write_of k m a b j out ≡ (Written (length bytes), bytes ++ drop (length bytes) out)
+    → write_of k m a b j out ≡ (Ok (length bytes), bytes ++ drop (length bytes) out)
 written_read k m a b j bytes out h e room =
     let long : length bytes ≡ length_of k = (passed-all k m a b j bytes e).sized in
     let is = message-read k m a b j bytes h e in
@@ -258,7 +267,7 @@ written_read k m a b j bytes out h e room =
     cc
 
 -- What the writer leaves in the lent bytes is read back.
-pub read_back : (k m a : ℕ) (b : Bool) (j : ℕ) (out : List ℕ) (n : ℕ) (after : List ℕ) → write_of k m a b j out ≡ (Written n, after) → read_of k m (take n after) ≡ heard a b j
+pub read_back : (k m a : ℕ) (b : Bool) (j : ℕ) (out : List ℕ) (n : ℕ) (after : List ℕ) → write_of k m a b j out ≡ (Ok n, after) → read_of k m (take n after) ≡ heard a b j
 read_back k m a b j out n after e =
     let p = put_all k m a b j out n after e in
     let r = p.ranged in

@@ -1,14 +1,13 @@
 -- Document 01, "The message", with the third section of request h: the bytes of a message, what reading finds in bytes, and what writing leaves.
 -- A section is its count and then the bits that are counted. Acknowledgements are a number whose lowest bit is bit 1 of the document.
-use Rattle.std.specs.Prelude.{ℕ, zero, suc, ◌+◌, ◌*◌, ◌/◌, ◌%◌, ◌^◌, ◌<◌, List, [], ◌∷◌, ◌++◌, Bool, true, false, cond, ◌&&◌, length, get_or, take, drop, eqb, ltb, leb}
+use Rattle.std.specs.Prelude.{ℕ, zero, suc, ◌+◌, ◌*◌, ◌/◌, ◌%◌, ◌^◌, ◌<◌, List, [], ◌∷◌, ◌++◌, Bool, true, false, cond, ◌&&◌, length, get_or, take, drop, eqb, ltb, leb, Err, Ok}
 use Rattle.refusal.specs.declared.Refusal.{Refusal}
 use Rattle.refusal.specs.Causes.{cause}
 use Rattle.cable.specs.Cable.{job_count}
-use Rattle.message.specs.declared.Reading.TheVariants as reading
 use Rattle.message.specs.declared.Received.{Received}
 use Rattle.message.specs.declared.Section.{Section}
-use Rattle.message.specs.declared.Written.{Written}
-use Rattle.message.specs.declared.Written.TheVariants as written
+use Rattle.message.specs.Answers.{Written}
+use Rattle.message.specs.Answers.{heard_with}
 
 -- ---- the bytes
 
@@ -93,10 +92,10 @@ in_range k = leb 2 k && leb k 31
 
 -- the answers: what is heard, "reading back gives" the job byte, "too"; or the refusal with this number
 abbrev pub heard : ℕ → Bool → ℕ → Received
-heard acknowledgements return_bit jobs = record { reading = reading.Heard acknowledgements return_bit; jobs = jobs }
+heard acknowledgements return_bit jobs = record { reading = heard_with acknowledgements return_bit; jobs = jobs }
 
 abbrev pub unread : Refusal → Received
-unread cause = record { reading = reading.Refused cause; jobs = 0 }
+unread cause = record { reading = Err cause; jobs = 0 }
 
 -- the answer where a test holds, and the refusal where it does not
 abbrev pub if_read : Bool → ℕ → Received → Received
@@ -126,10 +125,10 @@ Outcome = Written × List ℕ
 
 -- the answers: so many bytes, or the refusal with this number
 abbrev pub wrote : ℕ → Written
-wrote count = written.Bytes count
+wrote count = Ok count
 
 abbrev pub unwritten : ℕ → Written
-unwritten number = written.Refused (cause number)
+unwritten number = Err (cause number)
 
 -- the outcome where a test holds, and where it does not the refusal, which leaves every lent byte as it was
 abbrev pub if_written : Bool → ℕ → List ℕ → Outcome → Outcome

@@ -9,28 +9,22 @@ ghost use Rattle.message.specs.TwoSections.{read_two_of, write_two_of};
 
 use refusal::Refusal;
 
-// What a message says of the members, or why the bytes are no message.
+// What a message says of the members.
 #[derive(Clone, Copy)]
-pub enum Reading {
-    Heard {
-        acknowledgements: u32,
-        return_bit: bool,
-    },
-    Refused(Refusal),
+pub struct Heard {
+    pub acknowledgements: u32,
+    pub return_bit: bool,
 }
 
-// What is read from bytes: that, and the job byte, 0 where the bytes are no message.
+// What a message says, or why the bytes are no message.
+pub type Reading = Result<Heard, Refusal>;
+
+// What is read from bytes: that, and the job byte, 0 where the bytes are no message (`unread`). They stand
+// beside one another, since a slot takes any reading with any job byte (`node::step`).
 #[derive(Clone, Copy)]
 pub struct Received {
     pub reading: Reading,
     pub jobs: u8,
-}
-
-// What came of writing: the number of bytes, or why none was written.
-#[derive(Clone, Copy)]
-pub enum Written {
-    Bytes(usize),
-    Refused(Refusal),
 }
 
 // A section as it was found: whether its count is right, whether its spare bits are 0, and its bits.
@@ -62,9 +56,7 @@ fn bits_in(part: &[u8]) -> u32
     ensures { result ≡ bits_in part.now }
 {
     let mut bits: u32 = 0;
-    let mut i = part.len();
-    while 1 < i {
-        i -= 1;
+    for i in (1..part.len()).rev() {
         bits = part[i] as u32 + bits * 256;
     }
     bits
@@ -105,7 +97,7 @@ fn unread(cause: Refusal) -> Received
     ensures { result ≡ unread cause }
 {
     Received {
-        reading: Reading::Refused(cause),
+        reading: Err(cause),
         jobs: 0,
     }
 }
@@ -120,12 +112,12 @@ fn said_by(one: Section, two: Section, three: Section) -> Received
     if !(one.clear & (two.clear & three.clear)) {
         return unread(Refusal::SpareBit);
     }
-    let reading = Reading::Heard {
+    let heard = Heard {
         acknowledgements: one.bits,
         return_bit: two.bits % 2 == 1,
     };
     Received {
-        reading,
+        reading: Ok(heard),
         jobs: (three.bits % 256) as u8,
     }
 }
@@ -179,11 +171,9 @@ fn put_section(count: u32, bits: u32, part: &mut [u8])
 {
     part[0] = count as u8;
     let mut rest = bits;
-    let mut i = 1;
-    while i < part.len() {
+    for i in 1..part.len() {
         part[i] = (rest % 256) as u8;
-        rest = rest / 256;
-        i += 1;
+        rest /= 256;
     }
 }
 
@@ -208,10 +198,7 @@ fn put_byte_section(count: u32, bits: u32, start: usize, out: &mut [u8])
 pub fn jobs_within(m: u32, jobs: u8) -> bool
     ensures { result ≡ jobs_within m jobs }
 {
-    if 8 <= m {
-        return true;
-    }
-    jobs as u32 >> m == 0
+    8 <= m || jobs as u32 >> m == 0
 }
 
 // Whether no acknowledgement is past k and no job past m. Requires k at most 31.
@@ -242,7 +229,9 @@ fn put_message(k: u32, m: u32, acknowledgements: u32, return_bit: bool, jobs: u8
     put_byte_section(m, jobs as u32, end, out);
 }
 
-// Writes a message for k and m to the start of out, and leaves the bytes after it. It refuses by 2, 14, 8 and 9, in this order, and then writes nothing.
+// Writes a message for k and m to the start of out, and leaves the bytes after it: how many it wrote. It
+// refuses by 2, 14, 8 and 9, in this order, and then writes nothing. What it is to say comes as numbers, and
+// not as `Heard`, as the clauses and the exports for C have it.
 pub fn write(
     k: u32,
     m: u32,
@@ -250,41 +239,46 @@ pub fn write(
     return_bit: bool,
     jobs: u8,
     out: &mut [u8],
-) -> Written
+) -> Result<usize, Refusal>
     ensures { (result, out.new) ≡ write_of k m acknowledgements return_bit jobs out.old }
 {
     if !in_range(k) {
-        return Written::Refused(Refusal::SponsorCount);
+        return Err(Refusal::SponsorCount);
     }
     if !cable::is_job_count(m) {
-        return Written::Refused(Refusal::JobCount);
+        return Err(Refusal::JobCount);
     }
     if !no_spare_bit(k, m, acknowledgements, jobs) {
-        return Written::Refused(Refusal::SpareBit);
+        return Err(Refusal::SpareBit);
     }
     let length = length_one(k) + 4;
     if out.len() < length {
-        return Written::Refused(Refusal::OutputShort);
+        return Err(Refusal::OutputShort);
     }
     put_message(k, m, acknowledgements, return_bit, jobs, out);
-    Written::Bytes(length)
+    Ok(length)
 }
 
-// Writes a message of two sections for k to the start of out, and leaves the bytes after it. It refuses
-// by 2, 8 and 9, in this order, and then writes nothing.
-pub fn write_two(k: u32, acknowledgements: u32, return_bit: bool, out: &mut [u8]) -> Written
+// Writes a message of two sections for k to the start of out, and leaves the bytes after it: how many it
+// wrote. It refuses by 2, 8 and 9, in this order, and then writes nothing.
+pub fn write_two(
+    k: u32,
+    acknowledgements: u32,
+    return_bit: bool,
+    out: &mut [u8],
+) -> Result<usize, Refusal>
     ensures { (result, out.new) ≡ write_two_of k acknowledgements return_bit out.old }
 {
     if !in_range(k) {
-        return Written::Refused(Refusal::SponsorCount);
+        return Err(Refusal::SponsorCount);
     }
     if acknowledgements >> k != 0 {
-        return Written::Refused(Refusal::SpareBit);
+        return Err(Refusal::SpareBit);
     }
     let length = length_one(k) + 2;
     if out.len() < length {
-        return Written::Refused(Refusal::OutputShort);
+        return Err(Refusal::OutputShort);
     }
     put_two(k, acknowledgements, return_bit, out);
-    Written::Bytes(length)
+    Ok(length)
 }

@@ -1,4 +1,5 @@
 -- No call writes more bytes than a message has: 9 for k = 31. Assumes nothing.
+use Rattle.std.specs.Prelude.{Err, Ok}
 use Prim.Native.Nat.{ℕ, ◌^◌}
 use mathlib.Core.Path.{◌≡◌, refl}
 use mathlib.Core.List.{List}
@@ -7,8 +8,7 @@ use native.Mathlib.Omega.{arith}
 use lib.ListN.{length}
 use lib.Dec.{eqb, leb, ltb}
 use Rattle.message.specs.cable.Cable.{job_count}
-use Rattle.message.specs.declared.Reading.{Reading}
-use Rattle.message.specs.declared.Reading.TheVariants as reading
+use Rattle.message.specs.Answers.{Reading}
 use Rattle.message.specs.Message.{Outcome, if_written, in_range, jobs_within, length_of, length_two, write_of}
 use Rattle.message.specs.TwoSections.{read_two_of, write_two_of}
 use Rattle.message.proofs.Tests.{in-range}
@@ -20,8 +20,8 @@ short-if true number out outcome h = h refl
 short-if false number out outcome h = tt
 
 short_on : (r : Reading) (out : List ℕ) (on : ℕ → Bool → Outcome) → ((a : ℕ) (b : Bool) → Short (on a b).0) → Short (written_on r out on).0
-short_on (reading.Heard a b) out on h = h a b
-short_on (reading.Refused cause) out on h = tt
+short_on (Ok said) out on h = h said.acknowledgements said.return_bit
+short_on (Err cause) out on h = tt
 
 pub write-short : (k m a : ℕ) (b : Bool) (j : ℕ) (out : List ℕ) → Short (write_of k m a b j out).0
 unfolding write_of

@@ -8,23 +8,21 @@ ghost use Rattle.message.specs.TwoSections.{read_two_of, write_two_of};
 ghost use Rattle.converter.specs.Converter.{to_three_of, to_two_of};
 ghost use Rattle.message_c.specs.Numbers.{Short, outcome_number, reading_number, received_number, written_number};
 
-use message::{Reading, Written};
+use message::Reading;
+use refusal::Refusal;
 
 // A reading and the job byte as one number.
 fn reading_number(reading: Reading, jobs: u8) -> u64
     ensures { result ≡ reading_number jobs reading }
 {
     match reading {
-        Reading::Heard {
-            acknowledgements,
-            return_bit,
-        } => {
+        Ok(heard) => {
             0x200_0000_0000
                 + jobs as u64 * 0x2_0000_0000
-                + return_bit as u64 * 0x1_0000_0000
-                + acknowledgements as u64
+                + heard.return_bit as u64 * 0x1_0000_0000
+                + heard.acknowledgements as u64
         }
-        Reading::Refused(cause) => refusal::number(cause) as u64,
+        Err(cause) => refusal::number(cause) as u64,
     }
 }
 
@@ -39,14 +37,15 @@ pub extern "C" fn message_read(k: u32, m: u32, bytes: &[u8]) -> u64
     reading_number(reading, received.jobs)
 }
 
-// What came of writing as one number. Requires no more bytes than a message has.
-fn written_number(written: Written) -> u64
+// What came of writing as one number. Requires no more bytes than a message has. Each crate of exports has
+// its own such function, by its own page of numbers, which callers in C read.
+fn written_number(written: Result<usize, Refusal>) -> u64
     requires { Short written }
     ensures { result ≡ written_number written }
 {
     match written {
-        Written::Bytes(count) => 0x2_0000_0000 + count as u64,
-        Written::Refused(cause) => refusal::number(cause) as u64,
+        Ok(count) => 0x2_0000_0000 + count as u64,
+        Err(cause) => refusal::number(cause) as u64,
     }
 }
 

@@ -15,7 +15,7 @@ use Rattle.row.specs.declared.Row.{Row}
 use Rattle.row.specs.Rows.{row_for, nodes_in}
 use Rattle.row.specs.Inner.{has_row}
 use Rattle.node_record.proofs.row_laws.Laws.{empty-row}
-use Rattle.message.specs.declared.Reading.{Reading}
+use Rattle.message.specs.Answers.{Reading}
 use Rattle.node_record.specs.declared.Node.{Node}
 use Rattle.node_record.specs.declared.Held.{Held}
 use Rattle.node_record.specs.Soundness.{sound}

@@ -1,4 +1,5 @@
 -- A message that is sent is readable, and reads as what the rules say is sent; of the writer's refusals only 9 can come of sending. Assumes nothing.
+use Rattle.std.specs.Prelude.{Err, Ok}
 use Prim.Native.Nat.{ℕ, ◌<◌, ◌^◌}
 use mathlib.Core.Path.{◌≡◌, refl, sym, ap, ◌∙◌}
 use mathlib.Core.Bool.{Bool, true, false, cond}
@@ -13,8 +14,7 @@ use Rattle.refusal.specs.declared.Refusal.TheVariants.{Unsound, SlotLimit, Spare
 use Rattle.refusal.specs.Causes.{number_of}
 use Rattle.ring.proofs.nodeset.Tests.{all, by_cases}
 use Rattle.cable.proofs.Ranges.{ring-size, sponsor-count}
-use Rattle.message.specs.declared.Written.{Written}
-use Rattle.message.specs.declared.Written.TheVariants.{Bytes, Refused}
+use Rattle.message.specs.Answers.{Written}
 use Rattle.message.specs.Message.{in_range, jobs_within, length_of, message_of, heard, if_written, read_of, write_of}
 use Rattle.message.proofs.RoundTrip.{read_back}
 use Rattle.node_record.specs.declared.Node.{Node}
@@ -25,30 +25,30 @@ use Rattle.node_sending.specs.Sending.{bits_sent, return_sent, jobs_sent}
 use Rattle.node_sending.proofs.Laws.{bits_sent-lt}
 use Rattle.node.specs.Calls.{its_turn, send_of, unsent}
 
-refused-no-bytes : (r : Refusal) (n : ℕ) (out after : List ℕ) → ◌≡◌ {A = Written × List ℕ} (Refused r, out) (Bytes n, after) → ⊥
+refused-no-bytes : (r : Refusal) (n : ℕ) (out after : List ℕ) → ◌≡◌ {A = Written × List ℕ} (Err r, out) (Ok n, after) → ⊥
 refused-no-bytes r n out after e =
-    let f : Refused r ≡ Bytes n = ap (λ (p : Written × List ℕ). p.0) e in
+    let f : ◌≡◌ {A = Written} (Err r) (Ok n) = ap (λ (p : Written × List ℕ). p.0) e in
     let z : ◌≡◌ {A = ℕ} 0 1 = cc in
     omega arith
 
 -- where bytes are sent, it was the node's turn, and the writer wrote them
-pub sent-by : (v : Node) (jobs : ℕ) (out : List ℕ) (n : ℕ) (after : List ℕ) → send_of v jobs out ≡ (Bytes n, after)
-    → (its_turn v ≡ true) × (write_of v.cable.k v.cable.m (bits_sent v) (return_sent v) (jobs_sent jobs v) out ≡ (Bytes n, after))
+pub sent-by : (v : Node) (jobs : ℕ) (out : List ℕ) (n : ℕ) (after : List ℕ) → send_of v jobs out ≡ (Ok n, after)
+    → (its_turn v ≡ true) × (write_of v.cable.k v.cable.m (bits_sent v) (return_sent v) (jobs_sent jobs v) out ≡ (Ok n, after))
 unfolding send_of
 sent-by v jobs out n after e = go (sound v) (leb limit v.slots) (jobs_within v.cable.m jobs) (its_turn v) e
   where
     written : Written × List ℕ
     written = write_of v.cable.k v.cable.m (bits_sent v) (return_sent v) (jobs_sent jobs v) out
 
-    go : (a b c d : Bool) → cond a (cond b (Refused SlotLimit, out) (cond c (cond d written (Refused NotItsSlot, out)) (Refused SpareBit, out))) (Refused Unsound, out) ≡ (Bytes n, after)
-        → (d ≡ true) × (write_of v.cable.k v.cable.m (bits_sent v) (return_sent v) (jobs_sent jobs v) out ≡ (Bytes n, after))
+    go : (a b c d : Bool) → cond a (cond b (Err SlotLimit, out) (cond c (cond d written (Err NotItsSlot, out)) (Err SpareBit, out))) (Err Unsound, out) ≡ (Ok n, after)
+        → (d ≡ true) × (write_of v.cable.k v.cable.m (bits_sent v) (return_sent v) (jobs_sent jobs v) out ≡ (Ok n, after))
     go true true c d e = absurd (refused-no-bytes SlotLimit n out after e)
     go true false true true e = (refl, e)
     go true false true false e = absurd (refused-no-bytes NotItsSlot n out after e)
     go true false false d e = absurd (refused-no-bytes SpareBit n out after e)
     go false b c d e = absurd (refused-no-bytes Unsound n out after e)
 
-pub sent-read : (v : Node) (jobs : ℕ) (out : List ℕ) (n : ℕ) (after : List ℕ) → send_of v jobs out ≡ (Bytes n, after)
+pub sent-read : (v : Node) (jobs : ℕ) (out : List ℕ) (n : ℕ) (after : List ℕ) → send_of v jobs out ≡ (Ok n, after)
     → read_of v.cable.k v.cable.m (take n after) ≡ heard (bits_sent v) (return_sent v) (jobs_sent jobs v)
 sent-read v jobs out n after e = read_back v.cable.k v.cable.m (bits_sent v) (return_sent v) (jobs_sent jobs v) out n after (sent-by v jobs out n after e).1
 
@@ -63,7 +63,7 @@ jobs-sent v jobs h = go (is_member v.state)
 -- a node whose turn it is, below the limit, sends, or is lent too few bytes
 pub sent-or-short : (v : Node) (jobs : ℕ) (out : List ℕ) → sound v ≡ true → v.slots < limit → jobs_within v.cable.m jobs ≡ true → its_turn v ≡ true
     → send_of v jobs out
-    ≡ if_written (leb (length_of v.cable.k) (length out)) 9 out (Bytes (length_of v.cable.k), message_of v.cable.k v.cable.m (bits_sent v) (return_sent v) (jobs_sent jobs v) ++ drop (length_of v.cable.k) out)
+    ≡ if_written (leb (length_of v.cable.k) (length out)) 9 out (Ok (length_of v.cable.k), message_of v.cable.k v.cable.m (bits_sent v) (return_sent v) (jobs_sent jobs v) ++ drop (length_of v.cable.k) out)
 unfolding send_of write_of
 sent-or-short v jobs out e l h t =
     let c = (clauses v e).choices in
@@ -75,8 +75,8 @@ sent-or-short v jobs out e l h t =
 -- ---- refused by 10
 
 abbrev number_in : Written → ℕ
-number_in (Bytes n) = 0
-number_in (Refused r) = number_of r
+number_in (Ok n) = 0
+number_in (Err r) = number_of r
 
 -- where sending is refused by 10 it is not the node's turn
 pub not-its-turn : (v : Node) (jobs : ℕ) (out : List ℕ) → send_of v jobs out ≡ unsent 10 out → its_turn v ≡ false
@@ -98,7 +98,7 @@ not-its-turn v jobs out e =
     spare : sound v ≡ true → leb limit v.slots ≡ false → jobs_within v.cable.m jobs ≡ false → ⊥
     spare s l h = let z : send_of v jobs out ≡ unsent 8 out = simp (s, l, h) in omega (arith, ten, ap (λ (p : Written × List ℕ). number_in p.0) z)
 
-    not-ten : (b : Bool) (m : ℕ) (bytes : List ℕ) → number_in (if_written b 9 out (Bytes m, bytes)).0 ≡ 10 → ⊥
+    not-ten : (b : Bool) (m : ℕ) (bytes : List ℕ) → number_in (if_written b 9 out (Ok m, bytes)).0 ≡ 10 → ⊥
     not-ten true m bytes q = omega (arith, q)
     not-ten false m bytes q = omega (arith, q)
 

@@ -1,5 +1,6 @@
 -- Sound records stay sound: set-up's record is sound, and a slot, off and restart keep it (specs/Calls). A refused call returns the record that
 -- came. Assumes nothing.
+use Rattle.std.specs.Prelude.{Err, Ok}
 use Prim.Native.Nat.{ℕ, ◌+◌, ◌<◌}
 use mathlib.Core.Path.{◌≡◌, refl}
 use mathlib.Core.Bool.{Bool, true, false, cond}
@@ -18,7 +19,7 @@ use Rattle.cable.proofs.Ranges.{fitting}
 use Rattle.node_record.proofs.ring_laws.Senders.{turns-of, sender-range}
 use Rattle.message.specs.declared.Received.{Received}
 use Rattle.node_reports.specs.Reports.{Counts, counts_within}
-use Rattle.message.specs.declared.Reading.{Reading}
+use Rattle.message.specs.Answers.{Reading}
 use Rattle.message.specs.Message.{read_of}
 use Rattle.node_record.specs.declared.Node.{Node}
 use Rattle.node_record.specs.declared.Cause.TheVariants.{SwitchedOff}
@@ -29,7 +30,7 @@ use Rattle.node_changes.specs.Changes.{counted, starting}
 use Rattle.node_changes.proofs.Sound.{in-range, out-sound, fresh-sound, starting-sound}
 use Rattle.node_slot.specs.Slot.{after_slot}
 use Rattle.node_slot.proofs.Sound.{after-slot-sound}
-use Rattle.node.specs.declared.Answer.TheVariants.{Done, Refused}
+use Rattle.node.specs.Answers.{Answer}
 use Rattle.node.specs.Calls.{done, refused, no_node, set_up_of, step_of, slot_of, off_of, restart_of, counted_of, with_counts, is_done, counts_after}
 
 -- ---- one slot
@@ -89,15 +90,15 @@ pub restart-sound : (v : Node) → sound v ≡ true → sound (restart_of v).nod
 unfolding restart_of
 restart-sound v e = rw e (by_cases (is_out v.state) (λ t. rw t (fresh-sound v (in-range v e))) (λ t. rw t e))
 
-refused-not-done : (r : Refusal) → Refused r ≡ Done → ⊥
+refused-not-done : (r : Refusal) → ◌≡◌ {A = Answer} (Err r) (Ok tt) → ⊥
 refused-not-done r e = let z : ◌≡◌ {A = ℕ} 0 1 = cc in omega arith
 
-pub set-up-sound : (cable : Cable) (places own : ℕ) → (set_up_of cable places own).answer ≡ Done → sound (set_up_of cable places own).node ≡ true
+pub set-up-sound : (cable : Cable) (places own : ℕ) → (set_up_of cable places own).answer ≡ Ok tt → sound (set_up_of cable places own).node ≡ true
 unfolding set_up_of
 set-up-sound cable places own e = go (may_set_up cable places) (node_number cable.n own) refl refl e
   where
     go : (a b : Bool) → may_set_up cable places ≡ a → node_number cable.n own ≡ b
-        → (cond a (cond b (done (starting cable own)) (refused 3 no_node)) (refused (fault_of cable places) no_node)).answer ≡ Done
+        → (cond a (cond b (done (starting cable own)) (refused 3 no_node)) (refused (fault_of cable places) no_node)).answer ≡ Ok tt
         → sound (cond a (cond b (done (starting cable own)) (refused 3 no_node)) (refused (fault_of cable places) no_node)).node ≡ true
     go true true p q e = starting-sound cable own (fitting cable (both (cable_fits cable) (eqb places cable.n) p).0) q
     go true false p q e = absurd (refused-not-done NodeNumber e)

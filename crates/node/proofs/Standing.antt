@@ -1,4 +1,5 @@
 -- What a call leaves of any held record stands for what the rules leave of the record that it stands for (specs/Held): so a sequence of calls on held records is that of the rules. Assumes nothing.
+use Rattle.std.specs.Prelude.{Err, Ok}
 use Prim.Native.Nat.{ℕ}
 use mathlib.Core.Path.{◌≡◌, refl, sym, ap, ◌∙◌}
 use mathlib.Core.Bool.{Bool, true, false, cond, true≢false}
@@ -11,7 +12,7 @@ use Rattle.cable.proofs.slot_table.Numbers.{plain-kept}
 use Rattle.cable.specs.declared.Choices.{Choices}
 use Rattle.cable.specs.declared.Cable.{Cable}
 use Rattle.cable.specs.Cable.{cable_with, node_number, may_set_up, fault_of}
-use Rattle.message.specs.declared.Reading.{Reading}
+use Rattle.message.specs.Answers.{Reading}
 use Rattle.message.specs.declared.Received.{Received}
 use Rattle.message.specs.Message.{read_of}
 use Rattle.node_reports.specs.Reports.{Counts, counts_within}
@@ -22,8 +23,7 @@ use Rattle.node_record.specs.Soundness.{limit, sound}
 use Rattle.node_record.specs.Held.{rowed, setted}
 use Rattle.node_record.proofs.Holding.{node-back, set-kept}
 use Rattle.node_changes.specs.Changes.{starting}
-use Rattle.node.specs.declared.Answer.{Answer}
-use Rattle.node.specs.declared.Answer.TheVariants.{Done, Refused}
+use Rattle.node.specs.Answers.{Answer}
 use Rattle.node.specs.Calls.{Stepped, done, refused, is_done, no_node, set_up_of, start_of, step_of, counted_of, slot_of, off_of, restart_of}
 use Rattle.node.specs.Held.{held_as, start_held, step_held, counted_held, slot_held, off_held, restart_held}
 use Rattle.node.proofs.Sound.{step-sound, off-sound, restart-sound, set-up-sound}
@@ -109,6 +109,6 @@ start-stands choices slots own =
     s : Stepped
     s = set_up_of cable (length slots) own
 
-    is-done : (a : Answer) → is_done a ≡ true → a ≡ Done
-    is-done Done e = refl
-    is-done (Refused r) e = absurd (true≢false (sym e))
+    is-done : (a : Answer) → is_done a ≡ true → a ≡ Ok tt
+    is-done (Ok _) e = refl
+    is-done (Err r) e = absurd (true≢false (sym e))

@@ -1,7 +1,7 @@
 -- What each call on a record answers, refusals included: "Checks run in table order, except that sending tests 10 before 9" (document 01,
 -- "Causes and their numbers"); "a record that holds a bad n, k or own number gives 4. Off and restart don't test 5." A refused call on a record returns
 -- it, and leaves the bytes, as they came.
-use Rattle.std.specs.Prelude.{ℕ, ◌+◌, List, Bool, true, false, cond, not, ◌&&◌, eqb, leb, length}
+use Rattle.std.specs.Prelude.{ℕ, ◌+◌, List, Bool, true, false, cond, not, ◌&&◌, eqb, leb, length, Err, Ok}
 use Rattle.refusal.specs.Causes.{cause}
 use Rattle.ring.specs.nodeset.Sets.{has}
 use Rattle.cable.specs.declared.Choices.{Choices}
@@ -9,17 +9,15 @@ use Rattle.cable.specs.declared.Cable.{Cable}
 use Rattle.cable.specs.Cable.{cable_of, cable_with, may_set_up, node_number, fault_of}
 use Rattle.ring.specs.Ring.{sender}
 use Rattle.node_reports.specs.Reports.{Counts, no_reports, counts_within, counts_with}
-use Rattle.message.specs.declared.Reading.{Reading}
+use Rattle.message.specs.Answers.{Reading}
 use Rattle.message.specs.declared.Received.{Received}
-use Rattle.message.specs.declared.Written.{Written}
-use Rattle.message.specs.declared.Written.TheVariants as written
+use Rattle.message.specs.Answers.{Written}
 use Rattle.message.specs.Message.{read_of, jobs_within, write_of}
 use Rattle.node_record.specs.declared.Node.{Node}
 use Rattle.node_record.specs.declared.State.TheVariants.{Out}
 use Rattle.node_record.specs.States.{is_out, leaving_cause}
 use Rattle.node_record.specs.Soundness.{sound, limit}
-use Rattle.node.specs.declared.Answer.{Answer}
-use Rattle.node.specs.declared.Answer.TheVariants.{Done, Refused}
+use Rattle.node.specs.Answers.{Answer}
 use Rattle.node_changes.specs.Changes.{no_window, starting, out_for, fresh, counted}
 use Rattle.node_steps.specs.Steps.{is_heard, is_own}
 use Rattle.node_sending.specs.Sending.{sends, bits_sent, return_sent, jobs_sent}
@@ -39,15 +37,15 @@ pub record Counted : Type 0 where
 
 -- A call that was made.
 abbrev pub done : Node → Stepped
-done v = record { node = v; answer = Done }
+done v = record { node = v; answer = Ok tt }
 
 -- One that is refused by this number.
 abbrev pub refused : ℕ → Node → Stepped
-refused number v = record { node = v; answer = Refused (cause number) }
+refused number v = record { node = v; answer = Err (cause number) }
 
 abbrev pub is_done : Answer → Bool
-is_done Done = true
-is_done (Refused cause) = false
+is_done (Ok _) = true
+is_done (Err cause) = false
 
 -- With the counts of failure reports beside it (document 02, h).
 abbrev pub with_counts : Stepped → Counts → Counted
@@ -55,7 +53,7 @@ with_counts stepped counts = record { stepped = stepped; counts = counts }
 
 -- Nothing is sent, by this number.
 abbrev pub unsent : ℕ → List ℕ → Written × List ℕ
-unsent number out = (written.Refused (cause number), out)
+unsent number out = (Err (cause number), out)
 
 -- ---- set-up: 1, 16, 2, 14, 17, 18 and 3
 

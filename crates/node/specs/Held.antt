@@ -1,18 +1,18 @@
 -- Document 02, request l: "each step on the row equals the step on the set". Each call on a held record is, through the conversion, the call of specs/Calls on the record that it stands for: a call that is made
 -- leaves what holds the record that the rules leave; a refused one leaves the record that came. What is left stands for what the rules leave, so that the same holds of every sequence of calls (proofs/Standing).
-use Rattle.std.specs.Prelude.{ℕ, cond, List}
+use Rattle.std.specs.Prelude.{ℕ, cond, List, Result, Err, Ok}
+use Rattle.refusal.specs.declared.Refusal.{Refusal}
 use Rattle.refusal.specs.Causes.{cause}
 use Rattle.cable.specs.declared.Choices.{Choices}
 use Rattle.node_reports.specs.Reports.{Counts}
-use Rattle.message.specs.declared.Reading.{Reading}
+use Rattle.message.specs.Answers.{Reading}
 use Rattle.message.specs.declared.Received.{Received}
 use Rattle.node_record.specs.declared.Held.{Held}
+use Rattle.node_record.specs.declared.Node.{Node}
 use Rattle.node_record.specs.Soundness.{sound}
 use Rattle.node_record.specs.Held.{rowed, setted}
 use Rattle.node.specs.declared.Stepped as code
 use Rattle.node.specs.declared.Counted as code'
-use Rattle.node.specs.declared.Converted.{Converted}
-use Rattle.node.specs.declared.Answer.TheVariants.{Done, Refused}
 use Rattle.node.specs.Calls.{Stepped, Counted, is_done, no_node, start_of, step_of, counted_of, slot_of, off_of, restart_of}
 
 -- What a call leaves, where v came.
@@ -47,6 +47,6 @@ off_held v = held_as v (off_of (setted v))
 abbrev pub restart_held : Held → code.Stepped
 restart_held v = held_as v (restart_of (setted v))
 
--- The record that a held one stands for; of one that is not sound the record of no node, refused by 4.
-unfoldable pub setted_of : Held → Converted
-setted_of v = cond (sound (setted v)) (record { node = setted v; answer = Done }) (record { node = no_node; answer = Refused (cause 4) })
+-- The record that a held one stands for; one that is not sound is refused by 4.
+unfoldable pub setted_of : Held → Result Node Refusal
+setted_of v = cond (sound (setted v)) (Ok (setted v)) (Err (cause 4))

@@ -2,7 +2,7 @@
 use Rattle.std.specs.Prelude.{ℕ, ◌+◌, Bool, cond, not, ◌&&◌, eqb}
 use Rattle.ring.specs.Ring.{sender}
 use Rattle.row.specs.Inner.{has_row}
-use Rattle.message.specs.declared.Reading.{Reading}
+use Rattle.message.specs.Answers.{Reading}
 use Rattle.node_record.specs.declared.Held.{Held}
 use Rattle.node_steps.specs.Steps.{is_heard}
 

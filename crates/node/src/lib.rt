@@ -5,42 +5,24 @@
 
 ghost use Rattle.std.specs.Prelude.{◌≡◌, true};
 ghost use Rattle.cable.specs.Cable.{ring_size};
-ghost use Rattle.node_steps.specs.Steps.{is_heard};
 ghost use Rattle.node_record.specs.Held.{rowed, setted};
-ghost use Rattle.node.specs.Calls.{is_done, its_turn, no_node, set_up_of, send_of};
+ghost use Rattle.node.specs.Calls.{its_turn, no_node, set_up_of, send_of};
 ghost use Rattle.node.specs.Held.{held_as, beside, start_held, off_held, restart_held, step_held, counted_held, slot_held, setted_of};
 ghost use Rattle.node.specs.Inner.{hears_held, reporter_held};
 
 use cable::{Cable, Choices};
-use message::{Reading, Received, Written};
+use message::{Reading, Received};
 use node_record::{Cause, Held, Node, State, Window};
 use refusal::Refusal;
-use ring::Speaker;
 use row::Row;
 
-// What came of a call on a record.
-#[derive(Clone, Copy)]
-pub enum Answer {
-    Done,
-    Refused(Refusal),
-}
-
-// Whether a call was made.
-fn is_done(answer: Answer) -> bool
-    ensures { result ≡ is_done answer }
-{
-    match answer {
-        Answer::Done => true,
-        Answer::Refused(_) => false,
-    }
-}
-
 // The record after a call; on a refusal it is the record that came, or none of a node where set-up
-// is refused.
+// is refused. No `Result` of a record: clauses of the theorem `as_rows` (`off-refused` and its like) speak of
+// the record that comes back with a refusal.
 #[derive(Clone, Copy)]
 pub struct Stepped {
     pub node: Held,
-    pub answer: Answer,
+    pub answer: Result<(), Refusal>,
 }
 
 // What came of a call on a record and on the counts of failure reports beside it (document 02, h).
@@ -48,13 +30,6 @@ pub struct Stepped {
 pub struct Counted {
     pub stepped: Stepped,
     pub counts: [[u64; 8]; 32],
-}
-
-// What came of a conversion to the record of the rules.
-#[derive(Clone, Copy)]
-pub struct Converted {
-    pub node: Node,
-    pub answer: Answer,
 }
 
 // A record of no node: it comes with a refused set-up.
@@ -95,19 +70,19 @@ fn started(cable: Cable, places: usize, own: u32) -> Stepped
         let cause = cable::fault(cable, places);
         return Stepped {
             node: NO_NODE,
-            answer: Answer::Refused(cause),
+            answer: Err(cause),
         };
     }
     if !cable::is_node_number(cable.n, own) {
         return Stepped {
             node: NO_NODE,
-            answer: Answer::Refused(Refusal::NodeNumber),
+            answer: Err(Refusal::NodeNumber),
         };
     }
     let v = node_changes::starting(cable, own);
     Stepped {
         node: v,
-        answer: Answer::Done,
+        answer: Ok(()),
     }
 }
 
@@ -128,13 +103,13 @@ pub fn off(v: Held) -> Stepped
     if !node_record::is_sound(v) {
         return Stepped {
             node: v,
-            answer: Answer::Refused(Refusal::Unsound),
+            answer: Err(Refusal::Unsound),
         };
     }
     let w = node_changes::out_for(Cause::SwitchedOff, v);
     Stepped {
         node: w,
-        answer: Answer::Done,
+        answer: Ok(()),
     }
 }
 
@@ -146,20 +121,20 @@ pub fn restart(v: Held) -> Stepped
     if !node_record::is_sound(v) {
         return Stepped {
             node: v,
-            answer: Answer::Refused(Refusal::Unsound),
+            answer: Err(Refusal::Unsound),
         };
     }
     let state = v.state;
     if !node_record::is_out(state) {
         return Stepped {
             node: v,
-            answer: Answer::Refused(Refusal::NotOut),
+            answer: Err(Refusal::NotOut),
         };
     }
     let w = node_changes::fresh(v);
     Stepped {
         node: w,
-        answer: Answer::Done,
+        answer: Ok(()),
     }
 }
 
@@ -170,22 +145,22 @@ fn after_step(heard: Reading, v: Held) -> Stepped
     if !node_record::is_sound(v) {
         return Stepped {
             node: v,
-            answer: Answer::Refused(Refusal::Unsound),
+            answer: Err(Refusal::Unsound),
         };
     }
     if node_record::LIMIT <= v.slots {
         return Stepped {
             node: v,
-            answer: Answer::Refused(Refusal::SlotLimit),
+            answer: Err(Refusal::SlotLimit),
         };
     }
     let cable = v.cable;
     let speaker = ring::sender(cable, v.slots);
     // A sound record's n is a ring's size, so the sender is never refused.
-    let Speaker::Node(s) = speaker else {
+    let Ok(s) = speaker else {
         return Stepped {
             node: v,
-            answer: Answer::Refused(Refusal::Unsound),
+            answer: Err(Refusal::Unsound),
         };
     };
     let mut counted = v;
@@ -195,20 +170,7 @@ fn after_step(heard: Reading, v: Held) -> Stepped
     let w = node_slot::after_slot(s, heard, digest, counted);
     Stepped {
         node: w,
-        answer: Answer::Done,
-    }
-}
-
-// Whether a message is heard.
-fn is_heard(heard: Reading) -> bool
-    ensures { result ≡ is_heard heard }
-{
-    match heard {
-        Reading::Heard {
-            acknowledgements: _,
-            return_bit: _,
-        } => true,
-        Reading::Refused(_) => false,
+        answer: Ok(()),
     }
 }
 
@@ -217,10 +179,11 @@ fn hears_report(s: u32, heard: Reading, v: Held) -> bool
     ensures { result ≡ hears_held s heard v }
 {
     let row = v.row;
-    (s != v.own) & (is_heard(heard) & row::has(row, s))
+    (s != v.own) & (heard.is_ok() & row::has(row, s))
 }
 
-// Whose job byte counts in the next slot, 0 for nobody's. Requires a ring's size.
+// Whose job byte counts in the next slot; 0 for nobody's, by the definition `reporter_in`: 0 leaves the
+// counts (`counts_with`). Requires a ring's size.
 fn reporter(heard: Reading, v: Held) -> u32
     requires { ring_size v.cable.n ≡ true }
     ensures { result ≡ reporter_held heard v }
@@ -228,7 +191,7 @@ fn reporter(heard: Reading, v: Held) -> u32
     let cable = v.cable;
     let speaker = ring::sender(cable, v.slots);
     // Never refused, by what is required.
-    let Speaker::Node(s) = speaker else {
+    let Ok(s) = speaker else {
         return 0;
     };
     if hears_report(s, heard, v) {
@@ -245,14 +208,13 @@ pub fn step(received: Received, v: Held, counts: [[u64; 8]; 32]) -> Counted
     if !node_reports::counts_within(counts, v.slots) {
         let refused = Stepped {
             node: v,
-            answer: Answer::Refused(Refusal::Unsound),
+            answer: Err(Refusal::Unsound),
         };
         return with_counts(refused, counts);
     }
     let reading = received.reading;
     let stepped = after_step(reading, v);
-    let answer = stepped.answer;
-    if !is_done(answer) {
+    if stepped.answer.is_err() {
         return with_counts(stepped, counts);
     }
     let after = node_reports::counts_with(counts, reporter(reading, v), received.jobs);
@@ -274,7 +236,7 @@ fn its_turn(v: Held) -> bool
     let cable = v.cable;
     let speaker = ring::sender(cable, v.slots);
     // Never refused, by what is required.
-    let Speaker::Node(s) = speaker else {
+    let Ok(s) = speaker else {
         return false;
     };
     (s == v.own) & node_sending::sends(v)
@@ -283,20 +245,20 @@ fn its_turn(v: Held) -> bool
 // Writes what the node sends in the next slot, if that is its own, with this job byte, to the start of
 // out, and leaves the bytes after it. Refuses by 4, 5, 8, 10 and 9, in this order, and then writes
 // nothing.
-pub fn send(v: Held, jobs: u8, out: &mut [u8]) -> Written
+pub fn send(v: Held, jobs: u8, out: &mut [u8]) -> Result<usize, Refusal>
     ensures { (result, out.new) ≡ send_of (setted v) jobs out.old }
 {
     if !node_record::is_sound(v) {
-        return Written::Refused(Refusal::Unsound);
+        return Err(Refusal::Unsound);
     }
     if node_record::LIMIT <= v.slots {
-        return Written::Refused(Refusal::SlotLimit);
+        return Err(Refusal::SlotLimit);
     }
     if !message::jobs_within(v.cable.m, jobs) {
-        return Written::Refused(Refusal::SpareBit);
+        return Err(Refusal::SpareBit);
     }
     if !its_turn(v) {
-        return Written::Refused(Refusal::NotItsSlot);
+        return Err(Refusal::NotItsSlot);
     }
     message::write(
         v.cable.k,
@@ -324,48 +286,19 @@ pub fn counts_of(c: Counted) -> [[u64; 8]; 32]
 
 // ---- the record of the rules
 
-// A record of no node, with a set: it comes with a refused conversion.
-const NO_RECORD: Node = Node {
-    cable: Cable {
-        n: 0,
-        k: 0,
-        m: 0,
-        lag: 0,
-        order: [0; 32],
-    },
-    own: 0,
-    slots: 0,
-    state: State::Out(Cause::SwitchedOff),
-    set: 0,
-    present: 0,
-    returning: 0,
-    return_heard: false,
-    yes_heard: false,
-    listening: Window {
-        done: 0,
-        heard: 0,
-        shortest: 0,
-        return_seen: false,
-        last: 0,
-    },
-};
-
 // The record that a held one stands for (`node_record::as_row` is the way back). Refuses by 4.
-pub fn as_set(v: Held) -> Converted
+pub fn as_set(v: Held) -> Result<Node, Refusal>
     ensures { result ≡ setted_of v }
 {
     if !node_record::is_sound(v) {
-        return Converted {
-            node: NO_RECORD,
-            answer: Answer::Refused(Refusal::Unsound),
-        };
+        return Err(Refusal::Unsound);
     }
     let cable = v.cable;
     let state = v.state;
     let row = v.row;
     let set = row_sets::nodes_in(row);
     let listening = v.listening;
-    let node = Node {
+    Ok(Node {
         cable,
         own: v.own,
         slots: v.slots,
@@ -376,9 +309,5 @@ pub fn as_set(v: Held) -> Converted
         return_heard: v.return_heard,
         yes_heard: v.yes_heard,
         listening,
-    };
-    Converted {
-        node,
-        answer: Answer::Done,
-    }
+    })
 }

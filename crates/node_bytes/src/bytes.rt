@@ -12,6 +12,7 @@ pub const RECORD: u8 = 124;
 // How many bytes a record of the rules is.
 pub const RULES: u8 = 92;
 
+// As in `cover_light_c`, which is linked into programs in C and offers nothing to crates.
 fn state_of(number: u8) -> State {
     match number {
         0 => State::Member,
@@ -40,7 +41,7 @@ fn number_of(state: State) -> u8 {
     }
 }
 
-// The record before the first command: all bytes 0 but the state, 7.
+// A record of no node, as before the first command: all bytes 0 but the state, 7.
 pub fn first() -> Block {
     let mut bytes = [0u8; 255];
     bytes[20] = 7;
@@ -57,30 +58,19 @@ fn window_of(bytes: &Block) -> Window {
     }
 }
 
-// The bytes from one place up to another; all bytes where there are not so many.
-pub fn between(bytes: &[u8], start: usize, end: usize) -> &[u8] {
-    if start <= end && end <= bytes.len() {
-        &bytes[start..end]
-    } else {
-        bytes
-    }
-}
-
 fn cable_of(bytes: &Block) -> Cable {
-    let order = slot_table::kept(between(bytes, 60, 92));
     Cable {
         n: block::word(bytes, 0),
         k: block::word(bytes, 4),
         m: block::word(bytes, 52),
         lag: block::word(bytes, 56),
-        order,
+        order: slot_table::kept(&bytes[60..92]),
     }
 }
 
 pub fn node_of(bytes: &Block) -> Node {
-    let cable = cable_of(bytes);
     Node {
-        cable,
+        cable: cable_of(bytes),
         own: block::word(bytes, 8),
         slots: block::long_word(bytes, 12),
         state: state_of(bytes[20]),
@@ -97,89 +87,67 @@ fn set_window(bytes: &mut Block, window: Window) {
     block::set_word(bytes, 34, window.done);
     block::set_word(bytes, 38, window.heard);
     block::set_word(bytes, 42, window.shortest);
-    bytes[46] = if window.return_seen { 1 } else { 0 };
+    bytes[46] = u8::from(window.return_seen);
     block::set_word(bytes, 47, window.last);
 }
 
-// 32 places, from this byte on; none where there are not so many bytes.
-fn set_places(bytes: &mut Block, at: usize, places: [u8; 32]) {
-    if at <= 223 {
-        for i in 0..32 {
-            bytes[i + at] = places[i];
-        }
-    }
-}
-
 fn set_cable(bytes: &mut Block, cable: Cable) {
-    let order = cable.order;
     block::set_word(bytes, 0, cable.n);
     block::set_word(bytes, 4, cable.k);
     block::set_word(bytes, 52, cable.m);
     block::set_word(bytes, 56, cable.lag);
-    set_places(bytes, 60, order);
+    block::set_bytes(bytes, 60, &cable.order);
 }
 
 pub fn set_node(bytes: &mut Block, node: Node) {
-    let cable = node.cable;
-    let state = node.state;
-    let window = node.listening;
-    set_cable(bytes, cable);
+    set_cable(bytes, node.cable);
     block::set_word(bytes, 8, node.own);
     block::set_long_word(bytes, 12, node.slots);
-    bytes[20] = number_of(state);
+    bytes[20] = number_of(node.state);
     block::set_word(bytes, 21, node.set);
     block::set_word(bytes, 25, node.present);
     block::set_word(bytes, 29, node.returning);
-    bytes[33] = if node.return_heard { 1 } else { 0 };
-    bytes[51] = if node.yes_heard { 1 } else { 0 };
-    set_window(bytes, window);
+    bytes[33] = u8::from(node.return_heard);
+    bytes[51] = u8::from(node.yes_heard);
+    set_window(bytes, node.listening);
 }
 
 fn row_of(bytes: &Block) -> Row {
-    let nodes = slot_table::kept(between(bytes, 92, 124));
     Row {
         length: block::word(bytes, 21),
-        nodes,
+        nodes: slot_table::kept(&bytes[92..124]),
     }
 }
 
 pub fn held_of(bytes: &Block) -> Held {
     let node = node_of(bytes);
-    let cable = node.cable;
-    let state = node.state;
-    let row = row_of(bytes);
-    let listening = node.listening;
     Held {
-        cable,
+        cable: node.cable,
         own: node.own,
         slots: node.slots,
-        state,
-        row,
+        state: node.state,
+        row: row_of(bytes),
         present: node.present,
         returning: node.returning,
         return_heard: node.return_heard,
         yes_heard: node.yes_heard,
-        listening,
+        listening: node.listening,
     }
 }
 
 pub fn set_held(bytes: &mut Block, held: Held) {
-    let cable = held.cable;
-    let state = held.state;
-    let listening = held.listening;
-    let places = held.row.nodes;
     let node = Node {
-        cable,
+        cable: held.cable,
         own: held.own,
         slots: held.slots,
-        state,
+        state: held.state,
         set: held.row.length,
         present: held.present,
         returning: held.returning,
         return_heard: held.return_heard,
         yes_heard: held.yes_heard,
-        listening,
+        listening: held.listening,
     };
     set_node(bytes, node);
-    set_places(bytes, 92, places);
+    block::set_bytes(bytes, 92, &held.row.nodes);
 }

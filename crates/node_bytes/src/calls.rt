@@ -3,11 +3,39 @@ ghost use Rattle.std.specs.Prelude.{◌≡◌, ◌⊎◌};
 
 use crate::bytes;
 use cable::Choices;
-use message::Written;
-use node::{Answer, Counted};
+use node::Counted;
 use node_record::Held;
 use run_io::block;
 use run_io::block::Block;
+
+// What a command asks for.
+#[derive(Clone, Copy)]
+pub enum Request {
+    SetUp,
+    Slot,
+    Send,
+    Off,
+    Restart,
+    // The record becomes the command's bytes.
+    Load,
+    // The record becomes what holds the record of the rules that these are.
+    Hold,
+    // The record of the rules that the record stands for.
+    AsSet,
+}
+
+// How many bytes follow the size: five numbers and so many places, as far as a block holds them; so many
+// bytes heard; the job byte; or a record.
+pub fn body(request: Request, size: u8) -> u8 {
+    match request {
+        Request::SetUp => size.saturating_add(20),
+        Request::Slot => size,
+        Request::Send => 1,
+        Request::Load => bytes::RECORD,
+        Request::Hold => bytes::RULES,
+        Request::Off | Request::Restart | Request::AsSet => 0,
+    }
+}
 
 // 0 or the refusal's number, and how many bytes were sent.
 #[derive(Clone, Copy)]
@@ -25,83 +53,56 @@ fn kept(record: &mut Block, counts: &mut [[u64; 8]; 32], counted: Counted) -> u3
     let node = stepped.node;
     let answer = stepped.answer;
     match answer {
-        Answer::Done => {
+        Ok(()) => {
             bytes::set_held(record, node);
             *counts = node::counts_of(counted);
             0
         }
-        Answer::Refused(refusal) => refusal::number(refusal),
+        Err(refusal) => refusal::number(refusal),
     }
 }
 
 // The slot table stands after the numbers, with so many places; where there is no room for these, it is
 // longer than any.
-fn table(bytes: &[u8], places: usize) -> &[u8] {
-    if places <= 235 {
-        bytes::between(bytes, 20, places + 20)
-    } else {
-        bytes
-    }
+fn set_up(arguments: &Block, places: u8) -> Counted {
+    let choices = Choices {
+        n: block::word(arguments, 0),
+        k: block::word(arguments, 4),
+        m: block::word(arguments, 8),
+        lag: block::word(arguments, 12),
+    };
+    let table = arguments.get(20..20 + usize::from(places));
+    let slots = table.unwrap_or(arguments);
+    node::set_up(choices, slots, block::word(arguments, 16))
 }
 
-fn set_up(arguments: &Block, size: u8) -> Counted {
-    let n = block::word(arguments, 0);
-    let k = block::word(arguments, 4);
-    let m = block::word(arguments, 8);
-    let lag = block::word(arguments, 12);
-    let own = block::word(arguments, 16);
-    let slots = table(arguments, size as usize);
-    node::set_up(Choices { n, k, m, lag }, slots, own)
-}
-
-fn send_into(node: Held, jobs: u8, out: &mut [u8], room: usize) -> Written {
-    if room <= out.len() {
-        node::send(node, jobs, &mut out[0..room])
-    } else {
-        Written::Bytes(0)
-    }
-}
-
-// Sends into the first `room` bytes of `out`. The job byte stands in the first of them, which is then one
-// of the buffer's.
-fn send(record: &Block, out: &mut Block, room: u8) -> Outcome {
+// Sends into the first `room` bytes of a buffer of 0xA5, which `out` becomes. The job byte stands in the
+// first byte of `out` before.
+fn send(node: Held, out: &mut Block, room: u8) -> Outcome {
     let jobs = out[0];
-    out[0] = 0xA5;
-    let written = send_into(bytes::held_of(record), jobs, out, room as usize);
+    *out = [0xA5; 255];
+    let written = node::send(node, jobs, &mut out[..usize::from(room)]);
     match written {
-        Written::Bytes(n) => Outcome { number: 0, sent: n },
-        Written::Refused(refusal) => Outcome {
+        Ok(n) => Outcome { number: 0, sent: n },
+        Err(refusal) => Outcome {
             number: refusal::number(refusal),
             sent: 0,
         },
     }
 }
 
-fn counted(
-    record: &Block,
-    counts: &[[u64; 8]; 32],
-    arguments: &Block,
-    letter: u8,
-    size: u8,
-) -> Counted {
-    let node = bytes::held_of(record);
-    match letter {
-        b'U' => set_up(arguments, size),
-        b'S' => node::slot(bytes::between(arguments, 0, size as usize), node, *counts),
-        b'F' => node::with_counts(node::off(node), *counts),
-        _ => node::with_counts(node::restart(node), *counts),
-    }
-}
-
-// The record of the rules that the record stands for goes into the start of `out`.
-fn as_set(record: &Block, out: &mut Block) -> u32 {
-    let converted = node::as_set(bytes::held_of(record));
-    let node = converted.node;
-    let answer = converted.answer;
-    bytes::set_node(out, node);
-    match answer {
-        Answer::Done => 0,
-        Answer::Refused(cause) => refusal::number(cause),
+// The record of the rules that the record stands for goes into the start of `out`; on a refusal one of no
+// node.
+fn as_set(node: Held, out: &mut Block) -> u32 {
+    match node::as_set(node) {
+        Ok(node) => {
+            bytes::set_node(out, node);
+            0
+        }
+        Err(cause) => {
+            *out = bytes::first();
+            refusal::number(cause)
+        }
     }
 }
 
@@ -116,29 +117,36 @@ pub fn call(
     record: &mut Block,
     counts: &mut [[u64; 8]; 32],
     block: &mut Block,
-    letter: u8,
+    request: Request,
     size: u8,
 ) -> Outcome
     ensures { (result.number ≡ 0)
         ⊎ ((«record».new ≡ «record».old) × (counts.new ≡ counts.old)) }
 {
-    match letter {
-        b'L' => {
+    let node = bytes::held_of(record);
+    let counted = match request {
+        Request::Load => {
             *record = *block;
-            Outcome { number: 0, sent: 0 }
+            return Outcome { number: 0, sent: 0 };
         }
-        b'H' => {
+        Request::Hold => {
             as_row(record, block);
-            Outcome { number: 0, sent: 0 }
+            return Outcome { number: 0, sent: 0 };
         }
-        b'A' => Outcome {
-            number: as_set(record, block),
-            sent: 0,
-        },
-        b'T' => send(record, block, size),
-        _ => Outcome {
-            number: kept(record, counts, counted(record, counts, block, letter, size)),
-            sent: 0,
-        },
+        Request::AsSet => {
+            return Outcome {
+                number: as_set(node, block),
+                sent: 0,
+            };
+        }
+        Request::Send => return send(node, block, size),
+        Request::SetUp => set_up(block, size),
+        Request::Slot => node::slot(&block[..usize::from(size)], node, *counts),
+        Request::Off => node::with_counts(node::off(node), *counts),
+        Request::Restart => node::with_counts(node::restart(node), *counts),
+    };
+    Outcome {
+        number: kept(record, counts, counted),
+        sent: 0,
     }
 }

@@ -22,21 +22,18 @@ const NO_WINDOW: Window = Window {
 pub fn starting(cable: Cable, own: u32) -> Held
     ensures { result ≡ starting cable own }
 {
-    let order = cable.order;
     let all = nodeset::full(cable.n);
-    let row = row_sets::as_row(order, all);
-    let w = NO_WINDOW;
     Held {
         cable,
         own,
         slots: 0,
         state: State::Member,
-        row,
+        row: row_sets::as_row(cable.order, all),
         present: all,
         returning: 0,
         return_heard: false,
         yes_heard: false,
-        listening: w,
+        listening: NO_WINDOW,
     }
 }
 
@@ -44,20 +41,15 @@ pub fn starting(cable: Cable, own: u32) -> Held
 pub fn out_for(cause: Cause, v: Held) -> Held
     ensures { result ≡ out_for cause v }
 {
-    let cable = v.cable;
-    let row = row::empty();
-    let w = NO_WINDOW;
     Held {
-        cable,
-        own: v.own,
-        slots: v.slots,
         state: State::Out(cause),
-        row,
+        row: row::empty(),
         present: 0,
         returning: 0,
         return_heard: false,
         yes_heard: false,
-        listening: w,
+        listening: NO_WINDOW,
+        ..v
     }
 }
 
@@ -65,26 +57,20 @@ pub fn out_for(cause: Cause, v: Held) -> Held
 pub fn listening_after(last: u32, v: Held) -> Held
     ensures { result ≡ listening_after last v }
 {
-    let cable = v.cable;
-    let w = Window {
-        done: 0,
-        heard: 0,
-        shortest: cable.k,
-        return_seen: false,
+    let listening = Window {
+        shortest: v.cable.k,
         last,
+        ..NO_WINDOW
     };
-    let row = row::empty();
     Held {
-        cable,
-        own: v.own,
-        slots: v.slots,
         state: State::Listening,
-        row,
+        row: row::empty(),
         present: 0,
         returning: 0,
         return_heard: false,
         yes_heard: false,
-        listening: w,
+        listening,
+        ..v
     }
 }
 
@@ -99,21 +85,15 @@ pub fn fresh(v: Held) -> Held
 pub fn following_with(set: u32, v: Held) -> Held
     ensures { result ≡ following_with set v }
 {
-    let cable = v.cable;
-    let order = cable.order;
-    let row = row_sets::as_row(order, set);
-    let w = NO_WINDOW;
     Held {
-        cable,
-        own: v.own,
-        slots: v.slots,
         state: State::Following,
-        row,
+        row: row_sets::as_row(v.cable.order, set),
         present: set,
         returning: 0,
         return_heard: false,
         yes_heard: false,
-        listening: w,
+        listening: NO_WINDOW,
+        ..v
     }
 }
 
@@ -122,8 +102,7 @@ pub fn following_with(set: u32, v: Held) -> Held
 pub fn leave(cause: Cause, v: Held) -> Held
     ensures { result ≡ leave cause v }
 {
-    let state = v.state;
-    if is_member(state) {
+    if is_member(v.state) {
         return out_for(cause, v);
     }
     fresh(v)
@@ -133,40 +112,29 @@ pub fn leave(cause: Cause, v: Held) -> Held
 pub fn with_row(row: Row, v: Held) -> Held
     ensures { result ≡ with_row row v }
 {
-    let mut w = v;
-    w.row = row;
-    w
+    Held { row, ..v }
 }
 
 // The record with other marks, another yes heard and another return heard.
 pub fn with_marks(present: u32, assured: bool, heard: bool, v: Held) -> Held
     ensures { result ≡ with_marks present assured heard v }
 {
-    let mut w = v;
-    w.present = present;
-    w.yes_heard = assured;
-    w.return_heard = heard;
-    w
+    Held {
+        present,
+        yes_heard: assured,
+        return_heard: heard,
+        ..v
+    }
 }
 
 // The record in a state, with another returning node.
 pub fn with_returning(state: State, r: u32, v: Held) -> Held
     ensures { result ≡ with_returning state r v }
 {
-    let cable = v.cable;
-    let row = v.row;
-    let window = v.listening;
     Held {
-        cable,
-        own: v.own,
-        slots: v.slots,
         state,
-        row,
-        present: v.present,
         returning: r,
-        return_heard: v.return_heard,
-        yes_heard: v.yes_heard,
-        listening: window,
+        ..v
     }
 }
 
@@ -174,7 +142,8 @@ pub fn with_returning(state: State, r: u32, v: Held) -> Held
 pub fn with_window(window: Window, v: Held) -> Held
     ensures { result ≡ with_window window v }
 {
-    let mut w = v;
-    w.listening = window;
-    w
+    Held {
+        listening: window,
+        ..v
+    }
 }

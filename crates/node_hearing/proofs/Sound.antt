@@ -1,4 +1,5 @@
 -- One slot of a listening node (specs/Hearing) keeps its record sound. Assumes nothing.
+use Rattle.std.specs.Prelude.{Err, Ok}
 use Prim.Native.Nat.{ℕ, ◌^◌, ◌≤◌, ◌<◌}
 use mathlib.Core.Path.{◌≡◌, sym, ap, ◌∙◌}
 use mathlib.Core.Logic.{inr}
@@ -12,8 +13,7 @@ use Rattle.nodeset.proofs.Bits.{has-none}
 use Rattle.nodeset.proofs.Laws.{has-with, has-with-other, with-lt}
 use Rattle.cable.specs.declared.Cable.{Cable}
 use Rattle.cable.proofs.Ranges.{ring-size}
-use Rattle.message.specs.declared.Reading.{Reading}
-use Rattle.message.specs.declared.Reading.TheVariants as reading
+use Rattle.message.specs.Answers.{Reading}
 use Rattle.message.proofs.From.{FromOther}
 use Rattle.node_record.specs.declared.Node.{Node}
 use Rattle.node_record.specs.declared.Window.{Window}
@@ -69,7 +69,7 @@ in_window cable own w h r =
 -- ---- one slot more in the window
 
 overheard-ranges : (cable : Cable) (own s : ℕ) (heard : Reading) (w : Window) → cable.n ≤ 32 → 1 ≤ s → s ≤ cable.n → FromOther s heard own → Ranges cable own w → Ranges cable own (overheard s heard w)
-overheard-ranges cable own s (reading.Heard bits return_bit) w h a b d r = record {
+overheard-ranges cable own s (Ok said) w h a b d r = record {
   heard-in = with-lt cable.n w.heard s b r.heard-in;
   short = omega (arith, r.short);
   silent = λ z. absurd (true≢false (sym (has-with w.heard s a (omega arith)) ∙ ap (λ (q : ℕ). has q s) z ∙ has-none s));
@@ -78,7 +78,7 @@ overheard-ranges cable own s (reading.Heard bits return_bit) w h a b d r = recor
   heard-others = has-with-other w.heard s own d ∙ r.heard-others;
   last-others = r.last-others;
 }
-overheard-ranges cable own s (reading.Refused c) w h a b d r = record {
+overheard-ranges cable own s (Err c) w h a b d r = record {
   heard-in = r.heard-in;
   short = r.short;
   silent = r.silent;

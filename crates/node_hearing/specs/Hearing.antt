@@ -1,10 +1,9 @@
 -- One slot, for a listening node (document 01, "Listening").
-use Rattle.std.specs.Prelude.{ℕ, ◌+◌, min, Bool, cond, not, ◌&&◌, ◌||◌, eqb, leb, ltb}
+use Rattle.std.specs.Prelude.{ℕ, ◌+◌, min, Bool, cond, not, ◌&&◌, ◌||◌, eqb, leb, ltb, Err, Ok}
 use Rattle.nodeset.specs.Sets.{with, size, run}
 use Rattle.cable.specs.declared.Cable.{Cable}
 use Rattle.ring.specs.Ring.{ks}
-use Rattle.message.specs.declared.Reading.{Reading}
-use Rattle.message.specs.declared.Reading.TheVariants as reading
+use Rattle.message.specs.Answers.{Reading}
 use Rattle.node_record.specs.declared.Node.{Node}
 use Rattle.node_record.specs.declared.Window.{Window}
 use Rattle.node_changes.specs.Changes.{listening_after, following_with, with_window}
@@ -15,8 +14,8 @@ slot_unheard w = record { done = w.done + 1; heard = w.heard; shortest = w.short
 
 -- Who was heard, "the shortest run of ones", "whether a return bit of 1 was heard". "An unreadable message is unheard".
 abbrev pub overheard : ℕ → Reading → Window → Window
-overheard s (reading.Heard bits return_bit) w = record { done = w.done + 1; heard = with w.heard s; shortest = min w.shortest (run bits); return_seen = w.return_seen || return_bit; last = w.last }
-overheard s (reading.Refused r) w = slot_unheard w
+overheard s (Ok h) w = record { done = w.done + 1; heard = with w.heard s; shortest = min w.shortest (run h.acknowledgements); return_seen = w.return_seen || h.return_bit; last = w.last }
+overheard s (Err r) w = slot_unheard w
 
 -- "the own slot hears nothing"
 abbrev pub window_after : ℕ → Reading → Node → Window

@@ -1,6 +1,6 @@
 -- Inner: the definitions of specs/Hearing that make a record, of records as they are held: what the code makes. The laws in proofs/Holding tie each to its namesake on sets; it need not be believed.
 use Rattle.std.specs.Prelude.{ℕ, cond, eqb, ltb}
-use Rattle.message.specs.declared.Reading.{Reading}
+use Rattle.message.specs.Answers.{Reading}
 use Rattle.node_record.specs.declared.Held.{Held}
 use Rattle.node_record.specs.declared.Window.{Window}
 use Rattle.node_changes.specs.Held.{listening_after, following_with, with_window}

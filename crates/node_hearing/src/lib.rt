@@ -14,26 +14,15 @@ use node_record::{Held, Window};
 fn overheard(s: u32, heard: Reading, done: u32, w: Window) -> Window
     ensures { result ≡ with_done done (overheard s heard w) }
 {
-    let Reading::Heard {
-        acknowledgements,
-        return_bit,
-    } = heard
-    else {
-        return Window {
-            done,
-            heard: w.heard,
-            shortest: w.shortest,
-            return_seen: w.return_seen,
-            last: w.last,
-        };
+    let Ok(heard) = heard else {
+        return Window { done, ..w };
     };
-    let run = nodeset::run(acknowledgements);
-    let shortest = if run < w.shortest { run } else { w.shortest };
+    let run = nodeset::run(heard.acknowledgements);
     Window {
         done,
         heard: nodeset::with(w.heard, s),
-        shortest,
-        return_seen: w.return_seen | return_bit,
+        shortest: w.shortest.min(run),
+        return_seen: w.return_seen | heard.return_bit,
         last: w.last,
     }
 }
@@ -48,8 +37,7 @@ fn clean(cable: Cable, w: Window) -> bool
 fn window_end(w: Window, v: Held) -> Held
     ensures { result ≡ window_end w v }
 {
-    let cable = v.cable;
-    if !clean(cable, w) {
+    if !clean(v.cable, w) {
         return node_changes::listening_after(0, v);
     }
     if w.last == w.heard {
@@ -62,13 +50,8 @@ fn window_end(w: Window, v: Held) -> Held
 pub fn listening_slot(s: u32, heard: Reading, v: Held) -> Held
     ensures { result ≡ listening_by s heard v }
 {
-    let before = v.listening;
-    if v.cable.n <= before.done {
-        let w = overheard(s, heard, 0, before);
-        return window_end(w, v);
-    }
-    let done = before.done + 1;
-    let w = overheard(s, heard, done, before);
+    let done = v.listening.done.saturating_add(1);
+    let w = overheard(s, heard, done, v.listening);
     if done < v.cable.n {
         return node_changes::with_window(w, v);
     }

@@ -56,7 +56,8 @@ pub struct Node {
     pub listening: Window,
 }
 
-// The record as it is held: its set as a row.
+// The record as it is held: its set as a row. A struct of its own and no parameter of `Node`, since rules,
+// contracts and theorems name `set` and `row`.
 #[derive(Clone, Copy)]
 pub struct Held {
     pub cable: Cable,
@@ -77,61 +78,31 @@ pub const LIMIT: u64 = 1_000_000_000_000_000;
 pub fn is_member(state: State) -> bool
     ensures { result ≡ is_member state }
 {
-    match state {
-        State::Member => true,
-        State::Listening => false,
-        State::Following => false,
-        State::Knocking => false,
-        State::Out(_) => false,
-    }
+    matches!(state, State::Member)
 }
 
 pub fn is_listening(state: State) -> bool
     ensures { result ≡ is_listening state }
 {
-    match state {
-        State::Member => false,
-        State::Listening => true,
-        State::Following => false,
-        State::Knocking => false,
-        State::Out(_) => false,
-    }
+    matches!(state, State::Listening)
 }
 
 pub fn is_following(state: State) -> bool
     ensures { result ≡ is_following state }
 {
-    match state {
-        State::Member => false,
-        State::Listening => false,
-        State::Following => true,
-        State::Knocking => false,
-        State::Out(_) => false,
-    }
+    matches!(state, State::Following)
 }
 
 pub fn is_knocking(state: State) -> bool
     ensures { result ≡ is_knocking state }
 {
-    match state {
-        State::Member => false,
-        State::Listening => false,
-        State::Following => false,
-        State::Knocking => true,
-        State::Out(_) => false,
-    }
+    matches!(state, State::Knocking)
 }
 
 pub fn is_out(state: State) -> bool
     ensures { result ≡ is_out state }
 {
-    match state {
-        State::Member => false,
-        State::Listening => false,
-        State::Following => false,
-        State::Knocking => false,
-        State::Out(_) => true,
-    }
+    matches!(state, State::Out(_))
 }
 
 // ---- conversion
@@ -140,22 +111,17 @@ pub fn is_out(state: State) -> bool
 pub fn as_row(v: Node) -> Held
     ensures { result ≡ rowed v }
 {
-    let cable = v.cable;
-    let order = cable.order;
-    let state = v.state;
-    let row = row_sets::as_row(order, v.set);
-    let listening = v.listening;
     Held {
-        cable,
+        cable: v.cable,
         own: v.own,
         slots: v.slots,
-        state,
-        row,
+        state: v.state,
+        row: row_sets::as_row(v.cable.order, v.set),
         present: v.present,
         returning: v.returning,
         return_heard: v.return_heard,
         yes_heard: v.yes_heard,
-        listening,
+        listening: v.listening,
     }
 }
 
@@ -164,63 +130,52 @@ pub fn as_row(v: Node) -> Held
 fn numbers_sound(v: Held) -> bool
     ensures { result ≡ numbers_sound (setted v) }
 {
-    let cable = v.cable;
-    cable::cable_fits(cable) & (cable::is_node_number(cable.n, v.own) & (v.slots <= LIMIT))
+    cable::cable_fits(v.cable) & (cable::is_node_number(v.cable.n, v.own) & (v.slots <= LIMIT))
 }
 
 fn sets_sound(v: Held) -> bool
     ensures { result ≡ sets_held v }
 {
-    let cable = v.cable;
-    let order = cable.order;
-    let row = v.row;
-    row_sets::is_sound(cable.n, order, row)
-        & (nodeset::is_within(cable.n, v.present)
-            & nodeset::is_subset(v.present, row_sets::nodes_in(row)))
+    row_sets::is_sound(v.cable.n, v.cable.order, v.row)
+        & (nodeset::is_within(v.cable.n, v.present)
+            & nodeset::is_subset(v.present, row_sets::nodes_in(v.row)))
 }
 
 fn returning_sound(v: Held) -> bool
     ensures { result ≡ returning_held v }
 {
-    let row = v.row;
-    (v.returning <= v.cable.n) & !row::has(row, v.returning)
+    (v.returning <= v.cable.n) & !row::has(v.row, v.returning)
 }
 
 fn own_sound(v: Held) -> bool
     ensures { result ≡ own_held v }
 {
-    let state = v.state;
-    let row = v.row;
-    is_member(state) == row::has(row, v.own)
+    is_member(v.state) == row::has(v.row, v.own)
 }
 
 fn knock_sound(v: Held) -> bool
     ensures { result ≡ knock_sound (setted v) }
 {
-    let state = v.state;
-    is_knocking(state) == (v.returning == v.own)
+    is_knocking(v.state) == (v.returning == v.own)
 }
 
 fn empty_sound(v: Held) -> bool
     ensures { result ≡ empty_held v }
 {
-    let state = v.state;
-    let away = is_listening(state) | is_out(state);
+    let away = is_listening(v.state) | is_out(v.state);
     !away | ((v.row.length == 0) & ((v.present == 0) & (v.returning == 0)))
 }
 
 fn heard_sound(v: Held) -> bool
     ensures { result ≡ heard_sound (setted v) }
 {
-    let state = v.state;
-    !v.return_heard | is_knocking(state)
+    !v.return_heard | is_knocking(v.state)
 }
 
 fn yes_sound(v: Held) -> bool
     ensures { result ≡ yes_sound (setted v) }
 {
-    let state = v.state;
-    !v.yes_heard | is_member(state)
+    !v.yes_heard | is_member(v.state)
 }
 
 fn window_in_range(cable: Cable, own: u32, w: Window) -> bool
@@ -246,23 +201,17 @@ fn window_empty(w: Window) -> bool
 fn enough_sound(v: Held) -> bool
     ensures { result ≡ enough_held v }
 {
-    let state = v.state;
-    if is_following(state) | is_knocking(state) {
-        return 2 <= v.row.length;
-    }
-    true
+    let follows = is_following(v.state) | is_knocking(v.state);
+    !follows | (2 <= v.row.length)
 }
 
 fn window_sound(v: Held) -> bool
     ensures { result ≡ window_sound (setted v) }
 {
-    let state = v.state;
-    let cable = v.cable;
-    let w = v.listening;
-    if is_listening(state) {
-        return window_in_range(cable, v.own, w);
+    if is_listening(v.state) {
+        return window_in_range(v.cable, v.own, v.listening);
     }
-    window_empty(w)
+    window_empty(v.listening)
 }
 
 // Whether the record is sound.

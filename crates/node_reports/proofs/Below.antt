@@ -1,13 +1,19 @@
--- A test of each number below m, and the greatest of what a function gives for them (specs/Reports, Inner): as a loop makes them, and what they say of each number. Assumes nothing.
+-- A test of each number below m, and the greatest of what a function gives for them (specs/Reports, Inner): as a loop, `all` or `fold` makes them, and what they say of each number. Assumes nothing.
 use Prim.Native.Nat.{ℕ, zero, suc, ◌+◌, ◌<◌, ◌≤◌, max}
 use native.Mathlib.Nat.{not-suc-le-zero, le_of_suc-le-suc, eq-or-lt_of_le, le_refl, le-max_left, le-max_right, max-le, lt_of_lt_of_le}
 use native.Mathlib.Numerals.{add-one}
 use native.Mathlib.Omega.{arith}
 use mathlib.Core.Path.{◌≡◌, refl, sym, ap, ◌∙◌}
 use mathlib.Core.Logic.{⊎_elim}
+use mathlib.Core.List.{List}
 use mathlib.Core.Bool.{Bool, true, false, ◌&&◌, and-false}
 use borrow.Author.Tests.{le-leb, lt-leb, leb-true, leb-false}
 use lib.Dec.{leb}
+use lib.ListN.{length, get_or, take}
+use lib.Seq.{take_all}
+use Rattle.std.specs.List.{fold, list_all}
+use Rattle.std.proofs.lemmas.List.Sums.{fold_more}
+use Rattle.std.proofs.lemmas.List.Folds.{list_all_more}
 use Rattle.nodeset.proofs.Tests.{both}
 use Rattle.node_reports.specs.Reports.{every_below}
 use Rattle.node_reports.specs.Inner.{greatest_below}
@@ -47,23 +53,31 @@ module _ (test : ℕ → Bool) where
   every-all zero each = refl
   every-all (suc m) each = rw (every-all m (λ i h. each i (omega arith)), each m (le_refl (suc m)))
 
+-- of each of a list, as `all` finds it
+every_taken : {X : Type 0} (test : X → Bool) (d : X) (xs : List X) (i : ℕ) → i ≤ length xs → list_all test (take i xs) ≡ every_below (λ k. test (get_or xs k d)) i
+unfolding every_below
+every_taken test d xs zero h = refl
+every_taken test d xs (suc i) h =
+    ap (λ (k : ℕ). list_all test (take k xs)) (sym (add-one i))
+    ∙ list_all_more test xs i d (omega arith)
+    ∙ ap (λ (b : Bool). b && test (get_or xs i d)) (every_taken test d xs i (omega arith))
+
+pub every-list : {X : Type 0} (test : X → Bool) (d : X) (xs : List X) (m : ℕ) → length xs ≡ m → list_all test xs ≡ every_below (λ k. test (get_or xs k d)) m
+every-list test d xs m n = ap (list_all test) (sym (take_all m xs (omega arith))) ∙ every_taken test d xs m (omega arith)
+
 -- ---- the greatest
 
-pub max_assoc : (a b c : ℕ) → max (max a b) c ≡ max a (max b c)
-max_assoc a b c = omega arith
+-- of a list, as `fold` finds it
+greatest_taken : {X : Type 0} (f : X → ℕ) (d : X) (xs : List X) (i : ℕ) → i ≤ length xs → fold (λ best x. max best (f x)) 0 (take i xs) ≡ greatest_below (λ k. f (get_or xs k d)) i
+unfolding greatest_below
+greatest_taken f d xs zero h = refl
+greatest_taken f d xs (suc i) h =
+    ap (λ (k : ℕ). fold (λ best x. max best (f x)) 0 (take k xs)) (sym (add-one i))
+    ∙ fold_more (λ best x. max best (f x)) 0 xs i d (omega arith)
+    ∙ ap (λ (best : ℕ). max best (f (get_or xs i d))) (greatest_taken f d xs i (omega arith))
 
-module _ (f : ℕ → ℕ) where
-  -- a loop: at its start, one more, all
-  pub greatest-none : 0 ≡ greatest_below f 0
-  unfolding greatest_below
-  greatest-none = refl
-
-  pub greatest-on : (i : ℕ) → max (greatest_below f i) (f i) ≡ greatest_below f (i + 1)
-  unfolding greatest_below
-  greatest-on i = ap (greatest_below f) (sym (add-one i))
-
-  pub greatest-end : (i m best : ℕ) → best ≡ greatest_below f i → i ≤ m → m ≤ i → best ≡ greatest_below f m
-  greatest-end i m best e a b = let same : i ≡ m = omega arith in e ∙ ap (greatest_below f) same
+pub greatest-list : {X : Type 0} (f : X → ℕ) (d : X) (xs : List X) (m : ℕ) → length xs ≡ m → fold (λ best x. max best (f x)) 0 xs ≡ greatest_below (λ k. f (get_or xs k d)) m
+greatest-list f d xs m n = ap (fold (λ best x. max best (f x)) 0) (sym (take_all m xs (omega arith))) ∙ greatest_taken f d xs m (omega arith)
 
 -- the greater of two is within a limit where both are
 leb-max : (a b limit : ℕ) → leb (max a b) limit ≡ (leb a limit && leb b limit)

@@ -4,12 +4,12 @@ use native.Mathlib.Nat.{le_refl}
 use native.Mathlib.Numerals.{add-one}
 use mathlib.Core.Path.{◌≡◌, refl, sym, ap, ◌∙◌}
 use mathlib.Core.Bool.{true, false}
-use mathlib.Core.List.{List, [], ◌∷◌, ◌++◌, append-nil, map}
+use mathlib.Core.List.{List, [], ◌∷◌, ◌++◌, append-nil}
 use borrow.Author.Tests.{eq-eqb, ne_eqb}
 use lib.ListN.{length, get_or, set, take, drop, length-set, drop_of_length-le}
-use lib.Seq.{drop-cons, take-suc-set, drop-set-lt, append_snoc, set-get_or, take_all}
+use lib.Seq.{drop-cons, take-suc-set, drop-set-lt, append_snoc, take_all}
 use Rattle.nodeset.specs.Sets.{has}
-use Rattle.node_reports.specs.Reports.{Row, Counts, no_reports, no_reports_at, one_more, row_with, counts_with, heard_from}
+use Rattle.node_reports.specs.Reports.{Row, Counts, one_more, row_with, counts_with, heard_from}
 
 -- ---- any such walk: what is to come of the entries from i on is `before` of them, and of those after i `after`
 
@@ -17,15 +17,12 @@ module _ {A : Type 0} (before after : List A → List A) (d : A) where
   abbrev pub Next : List A → List A → ℕ → Type 0
   Next l next i = (length next ≡ length l) × (take (i + 1) next ++ after (drop (i + 1) next) ≡ take i l ++ before (drop i l))
 
-  -- entry i is stored, or stays
+  -- entry i is stored
   pub stored : (l next : List A) (i : ℕ) (y : A) → i < length l → before (get_or l i d ∷ drop (suc i) l) ≡ y ∷ after (drop (suc i) l) → next ≡ set l i y → Next l next i
   stored l next i y h e n =
       let head : take (suc i) (set l i y) ++ after (drop (suc i) (set l i y)) ≡ take i l ++ before (drop i l) =
       rw (take-suc-set l i y h, drop-set-lt (suc i) l i y (le_refl (suc i)), drop-cons l i d h, e, append_snoc) in
       rw (n, add-one i) (length-set l i y, head)
-
-  pub stays : (l next : List A) (i : ℕ) → i < length l → before (get_or l i d ∷ drop (suc i) l) ≡ get_or l i d ∷ after (drop (suc i) l) → next ≡ l → Next l next i
-  stays l next i h e n = stored l next i (get_or l i d) h e (n ∙ sym (set-get_or l i d))
 
 -- all are done
 pub walk_end : {A : Type 0} (rest : List A → List A) (l : List A) (i : ℕ) → rest [] ≡ [] → length l ≤ i → l ≡ take i l ++ rest (drop i l)
@@ -45,9 +42,9 @@ pub row_told : (row next : Row) (rest l x : ℕ) → l < length row → rest % 2
 unfolding row_with
 row_told row next rest l x h one more n = stored (row_with rest) (row_with (rest / 2)) 0 row next l x h (rw (eq-eqb (rest % 2) 1 one, more)) n
 
-pub row_kept : (row next : Row) (rest l : ℕ) → l < length row → (rest % 2 ≡ 1 → ⊥) → next ≡ row → RowNext row next rest l
+pub row_kept : (row next : Row) (rest l : ℕ) → l < length row → (rest % 2 ≡ 1 → ⊥) → next ≡ set row l (get_or row l 0) → RowNext row next rest l
 unfolding row_with
-row_kept row next rest l h none n = stays (row_with rest) (row_with (rest / 2)) 0 row next l h (rw (ne_eqb (rest % 2) 1 none)) n
+row_kept row next rest l h none n = stored (row_with rest) (row_with (rest / 2)) 0 row next l (get_or row l 0) h (rw (ne_eqb (rest % 2) 1 none)) n
 
 -- ---- the counts of all nodes
 
@@ -66,20 +63,8 @@ heard-told all next hearers sender jobs i counts h hears told n =
     let yes-heard : has hearers (suc i) ≡ true = ap (has hearers) (sym (add-one i)) ∙ hears in
     stored (heard_from (suc i) hearers sender jobs) (heard_from (suc (i + 1)) hearers sender jobs) [] all next i counts h (rw (yes-heard, told, add-one i)) n
 
-pub heard-kept : (all next : List Counts) (hearers sender jobs i : ℕ) → i < length all → has hearers (i + 1) ≡ false → next ≡ all → HeardNext all next hearers sender jobs i
+pub heard-kept : (all next : List Counts) (hearers sender jobs i : ℕ) → i < length all → has hearers (i + 1) ≡ false → next ≡ set all i (get_or all i []) → HeardNext all next hearers sender jobs i
 unfolding heard_from
 heard-kept all next hearers sender jobs i h deaf n =
     let not-heard : has hearers (suc i) ≡ false = ap (has hearers) (sym (add-one i)) ∙ deaf in
-    stays (heard_from (suc i) hearers sender jobs) (heard_from (suc (i + 1)) hearers sender jobs) [] all next i h (rw (not-heard, add-one i)) n
-
--- ---- the counts are cleared
-
-abbrev pub cleared : List Counts → List Counts
-cleared all = map (λ (counts : Counts). no_reports) all
-
-pub cleared-all : (all : List Counts) → cleared all ≡ no_reports_at (length all)
-cleared-all [] = refl
-cleared-all (counts ∷ all) = ap {B = List Counts} (λ r. no_reports ∷ r) (cleared-all all)
-
-pub cleared-next : (all : List Counts) (i : ℕ) → i < length all → Next cleared cleared [] all (set all i no_reports) i
-cleared-next all i h = stored cleared cleared [] all (set all i no_reports) i no_reports h refl refl
+    stored (heard_from (suc i) hearers sender jobs) (heard_from (suc (i + 1)) hearers sender jobs) [] all next i (get_or all i []) h (rw (not-heard, add-one i)) n

@@ -4,10 +4,10 @@
 // counts is decided in node.
 #![tactic(auto)]
 
-ghost use Rattle.std.specs.Prelude.{◌≡◌, ◌+◌, max, cond, length};
+ghost use Rattle.std.specs.Prelude.{◌≡◌, ◌+◌, cond, length};
 ghost use Rattle.nodeset.specs.Sets.{has};
-ghost use Rattle.node_reports.specs.Reports.{no_reports_at, row_within, counts_within, one_more, row_with, counts_with, heard_by};
-ghost use Rattle.node_reports.specs.Inner.{row_greatest, greatest_of};
+ghost use Rattle.node_reports.specs.Reports.{no_reports_at, row_within, counts_within, row_with, counts_with, heard_by};
+ghost use Rattle.node_reports.specs.Inner.{row_greatest, counts_greatest, greatest_of};
 
 // No reports heard.
 pub const NO_REPORTS: [[u64; 8]; 32] = [[0; 8]; 32];
@@ -16,72 +16,38 @@ pub const NO_REPORTS: [[u64; 8]; 32] = [[0; 8]; 32];
 fn row_within(row: [u64; 8], slots: u64) -> bool
     ensures { result ≡ row_within slots row }
 {
-    let mut job = 0;
-    while job < 8 {
-        if slots < row[job] {
-            return false;
-        }
-        job += 1;
-    }
-    true
+    row.iter().all(|&count| count <= slots)
 }
 
 // Whether no count of a node is above the slot count.
 pub fn counts_within(counts: [[u64; 8]; 32], slots: u64) -> bool
     ensures { result ≡ counts_within slots counts }
 {
-    let mut sender = 0;
-    while sender < 32 {
-        if !row_within(counts[sender], slots) {
-            return false;
-        }
-        sender += 1;
-    }
-    true
-}
-
-// The greater number.
-fn larger(a: u64, b: u64) -> u64
-    ensures { result ≡ max a b }
-{
-    if a < b { b } else { a }
+    counts.iter().all(|&row| row_within(row, slots))
 }
 
 // The greatest count of a row.
 fn row_greatest(row: [u64; 8]) -> u64
     ensures { result ≡ row_greatest row }
 {
-    larger(
-        larger(larger(row[0], row[1]), larger(row[2], row[3])),
-        larger(larger(row[4], row[5]), larger(row[6], row[7])),
-    )
+    row.iter().fold(0, |best, &count| best.max(count))
+}
+
+// The greatest count of a node.
+fn counts_greatest(counts: &[[u64; 8]; 32]) -> u64
+    ensures { result ≡ counts_greatest counts.now }
+{
+    counts
+        .iter()
+        .fold(0, |best, &row| best.max(row_greatest(row)))
 }
 
 // The greatest count of all nodes, 0 where there is none.
 pub fn greatest(all: &[[[u64; 8]; 32]]) -> u64
     ensures { result ≡ greatest_of all.now }
 {
-    let mut best = 0;
-    let mut node = 0;
-    while node < all.len() {
-        let mut row = 0;
-        while row < 32 {
-            best = larger(best, row_greatest(all[node][row]));
-            row += 1;
-        }
-        node += 1;
-    }
-    best
-}
-
-// One report more; the greatest count there is stays.
-fn one_more(x: u64) -> u64
-    ensures { result ≡ one_more x }
-{
-    if x == u64::MAX {
-        return x;
-    }
-    x + 1
+    all.iter()
+        .fold(0, |best, counts| best.max(counts_greatest(counts)))
 }
 
 // The row with one report more for each job whose bit is 1.
@@ -90,13 +56,11 @@ fn row_with(row: [u64; 8], jobs: u8) -> [u64; 8]
 {
     let mut counts = row;
     let mut rest = jobs;
-    let mut job = 0;
-    while job < 8 {
+    for count in &mut counts {
         if rest % 2 == 1 {
-            counts[job] = one_more(counts[job]);
+            *count = count.saturating_add(1);
         }
-        rest = rest / 2;
-        job += 1;
+        rest /= 2;
     }
     counts
 }
@@ -122,10 +86,7 @@ pub fn counts_with(counts: [[u64; 8]; 32], sender: u32, jobs: u8) -> [[u64; 8]; 
 fn hears(hearers: u32, i: usize) -> bool
     ensures { result ≡ has hearers (i + 1) }
 {
-    if 32 <= i {
-        return false;
-    }
-    nodeset::has(hearers, i as u32 + 1)
+    i < 32 && nodeset::has(hearers, i as u32 + 1)
 }
 
 // Each of the hearers has heard the sender's job byte. The first counts are those of node 1.
@@ -142,12 +103,10 @@ pub fn add_reports(all: &mut [[[u64; 8]; 32]], hearers: u32, sender: u32, jobs: 
         return;
     }
     let row = sender as usize - 1;
-    let mut i = 0;
-    while i < all.len() {
+    for (i, counts) in all.iter_mut().enumerate() {
         if hears(hearers, i) {
-            all[i][row] = row_with(all[i][row], jobs);
+            counts[row] = row_with(counts[row], jobs);
         }
-        i += 1;
     }
 }
 
@@ -155,12 +114,7 @@ pub fn add_reports(all: &mut [[[u64; 8]; 32]], hearers: u32, sender: u32, jobs: 
 pub fn clear_reports(all: &mut [[[u64; 8]; 32]], asked: bool)
     ensures { all.new ≡ cond asked (no_reports_at (length all.old)) all.old }
 {
-    if !asked {
-        return;
-    }
-    let mut i = 0;
-    while i < all.len() {
-        all[i] = NO_REPORTS;
-        i += 1;
+    if asked {
+        all.fill(NO_REPORTS);
     }
 }

@@ -22,170 +22,102 @@
 // does. Any other byte ends the run. Before the first command all counts are 0.
 #![tactic(auto)]
 
-use node_bytes::calls::Outcome;
+use node_bytes::calls::{Outcome, Request};
 use node_bytes::{bytes, calls, counts};
 use run_io::block::Block;
-use run_io::input::{Source, Unread};
+use run_io::commands;
+use run_io::commands::Program;
 use run_io::output::Sink;
-use run_io::{input, output};
-use std::io;
-use std::io::{Read, Write};
+use std::io::Write;
 
-// A command: its letter, and its size if it has one.
+// The record and its counts.
 #[derive(Clone, Copy)]
-struct Command {
-    letter: u8,
-    size: u8,
-    left: Unread,
+struct State {
+    record: Block,
+    counts: [[u64; 8]; 32],
 }
 
-fn is_command(letter: u8) -> bool {
-    match letter {
-        b'U' | b'S' | b'T' | b'F' | b'R' | b'L' | b'H' | b'A' | b'C' | b'K' => true,
-        _ => false,
-    }
+#[derive(Clone, Copy)]
+enum Command {
+    Call(Request),
+    LoadCount,
+    PutCounts,
 }
 
-// The letter and the size. At the end of the input the letter is read as 0.
-fn head<R: Read>(input: &mut Source<R>, left: Unread) -> Command {
-    let first = input::next(input, left);
-    let letter = first.byte;
-    let left = first.left;
-    match letter {
-        b'U' | b'S' | b'T' => {
-            let second = input::next(input, left);
-            let left = second.left;
-            Command {
-                letter: letter,
-                size: second.byte,
-                left: left,
+// The number, and a record.
+fn answer<W: Write>(output: &mut Sink<W>, number: u32, record: &[u8]) {
+    output.put((number % 256) as u8);
+    output.put_all(record);
+}
+
+fn answer_to_send<W: Write>(output: &mut Sink<W>, outcome: Outcome, buffer: &[u8]) {
+    output.put((outcome.number % 256) as u8);
+    output.put((outcome.sent % 256) as u8);
+    output.put_all(buffer);
+}
+
+impl State {
+    // Carries a call out and answers.
+    fn call<W: Write>(&mut self, output: &mut Sink<W>, request: Request, size: u8, block: &Block) {
+        let mut block = *block;
+        let (record, counts) = (&mut self.record, &mut self.counts);
+        let outcome = calls::call(record, counts, &mut block, request, size);
+        let number = outcome.number;
+        match request {
+            Request::Load => {}
+            Request::AsSet => answer(output, number, &block[..usize::from(bytes::RULES)]),
+            Request::Send => answer_to_send(output, outcome, &block[..usize::from(size)]),
+            Request::SetUp | Request::Slot | Request::Off | Request::Restart | Request::Hold => {
+                answer(output, number, &self.record[..usize::from(bytes::RECORD)])
             }
         }
-        _ => Command {
-            letter: letter,
-            size: 0,
-            left: left,
-        },
     }
 }
 
-// How many bytes the numbers of set-up and so many places take.
-fn set_up_end(places: u8) -> u8 {
-    if places <= 235 { places + 20 } else { 255 }
-}
+impl Program for State {
+    type Command = Command;
 
-// How many bytes follow the letter and the size.
-fn body(letter: u8, size: u8) -> u8 {
-    match letter {
-        b'U' => set_up_end(size),
-        b'S' => size,
-        b'T' => 1,
-        b'L' => bytes::RECORD,
-        b'H' => bytes::RULES,
-        b'C' => 10,
-        _ => 0,
+    fn has_byte(letter: u8) -> bool {
+        matches!(letter, b'U' | b'S' | b'T')
     }
-}
 
-// A whole command; its further bytes go into the start of `block`.
-fn read<R: Read>(input: &mut Source<R>, left: Unread, block: &mut Block) -> Command {
-    let command = head(input, left);
-    let letter = command.letter;
-    let size = command.size;
-    let left = command.left;
-    let left = input::fill(input, left, block, body(letter, size));
-    Command {
-        letter: letter,
-        size: size,
-        left: left,
-    }
-}
-
-// The number, and the first `length` bytes of a record.
-fn answer<W: Write>(
-    output: &mut Sink<W>,
-    held: usize,
-    number: u32,
-    record: &Block,
-    length: u8,
-) -> usize {
-    let held = output::put(output, held, (number % 256) as u8);
-    output::put_block(output, held, record, length)
-}
-
-fn answer_to_send<W: Write>(
-    output: &mut Sink<W>,
-    held: usize,
-    block: &Block,
-    size: u8,
-    outcome: Outcome,
-) -> usize {
-    let held = output::put(output, held, (outcome.number % 256) as u8);
-    let held = output::put(output, held, (outcome.sent % 256) as u8);
-    output::put_block(output, held, block, size)
-}
-
-// Carries a call out and answers.
-fn run_call<W: Write>(
-    output: &mut Sink<W>,
-    held: usize,
-    record: &mut Block,
-    counts: &mut [[u64; 8]; 32],
-    block: &mut Block,
-    letter: u8,
-    size: u8,
-) -> usize {
-    let outcome = calls::call(record, counts, block, letter, size);
-    match letter {
-        b'L' => held,
-        b'A' => answer(output, held, outcome.number, block, bytes::RULES),
-        b'T' => answer_to_send(output, held, block, size, outcome),
-        _ => answer(output, held, outcome.number, record, bytes::RECORD),
-    }
-}
-
-// Carries a command out and answers.
-fn run<W: Write>(
-    output: &mut Sink<W>,
-    held: usize,
-    record: &mut Block,
-    counts: &mut [[u64; 8]; 32],
-    block: &mut Block,
-    command: Command,
-) -> usize {
-    let letter = command.letter;
-    match letter {
-        b'C' => {
-            counts::load(counts, block);
-            held
+    fn command_of(letter: u8) -> Option<Command> {
+        match letter {
+            b'U' => Some(Command::Call(Request::SetUp)),
+            b'S' => Some(Command::Call(Request::Slot)),
+            b'T' => Some(Command::Call(Request::Send)),
+            b'F' => Some(Command::Call(Request::Off)),
+            b'R' => Some(Command::Call(Request::Restart)),
+            b'L' => Some(Command::Call(Request::Load)),
+            b'H' => Some(Command::Call(Request::Hold)),
+            b'A' => Some(Command::Call(Request::AsSet)),
+            b'C' => Some(Command::LoadCount),
+            b'K' => Some(Command::PutCounts),
+            _ => None,
         }
-        b'K' => counts::put_counts(output, held, counts),
-        _ => run_call(output, held, record, counts, block, letter, command.size),
     }
-}
 
-// A proved loop has to end, so it counts its turns, up to a number that no run reaches.
-fn run_all<R: Read, W: Write>(input: &mut Source<R>, output: &mut Sink<W>) -> usize {
-    let mut record = bytes::first();
-    let mut counts = node_reports::NO_REPORTS;
-    let mut left = Unread { at: 0, end: 0 };
-    let mut held = 0;
-    for _ in 0..u64::MAX {
-        let mut block = [0xA5u8; 255];
-        let command = read(input, left, &mut block);
-        if !is_command(command.letter) {
-            return held;
+    fn body(command: Command, size: u8) -> u8 {
+        match command {
+            Command::Call(request) => calls::body(request, size),
+            Command::LoadCount => 10,
+            Command::PutCounts => 0,
         }
-        held = run(output, held, &mut record, &mut counts, &mut block, command);
-        let rest = command.left;
-        left = rest;
     }
-    held
+
+    fn run<W: Write>(&mut self, output: &mut Sink<W>, command: Command, size: u8, block: &Block) {
+        match command {
+            Command::Call(request) => self.call(output, request, size, block),
+            Command::LoadCount => counts::load(&mut self.counts, block),
+            Command::PutCounts => counts::put_counts(output, &self.counts),
+        }
+    }
 }
 
 fn main(rt: HostRuntime) {
-    let mut input = input::buffered(rt.reader());
-    let mut output = output::buffered(io::writer(&rt));
-    let held = run_all(&mut input, &mut output);
-    output::flush(&mut output, held);
+    let mut state = State {
+        record: bytes::first(),
+        counts: node_reports::NO_REPORTS,
+    };
+    commands::run_all(&rt, &mut state);
 }

@@ -22,9 +22,8 @@ fn mark_bits(v: Held) -> u32
     let p = row::rank(order, row, v.own);
     let here = row::has(row, v.own);
     let mut bits = 0;
-    let mut j = 0;
-    while j < most {
-        j += 1;
+    for earlier in 0..most {
+        let j = earlier + 1;
         let member = row_sponsors::back(row, p, here, j + cable.lag);
         let marked = nodeset::has(v.present, member);
         bits = nodeset::with_if(marked, bits, j);

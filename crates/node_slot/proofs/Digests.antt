@@ -1,5 +1,6 @@
 -- A slot by the digest of any set (specs/Inner) is the slot of document 01 (specs/Slot), for a record that has the digest's cable; and the facts of a sound
 -- record that this asks for. Assumes nothing.
+use Rattle.std.specs.Prelude.{Err}
 use Prim.Native.Nat.{ℕ, ◌^◌, ◌≤◌, ◌<◌}
 use mathlib.Core.Path.{◌≡◌, refl, sym, ap, ◌∙◌}
 use mathlib.Core.Bool.{Bool, true, false, cond, ◌&&◌, true≢false}
@@ -12,8 +13,7 @@ use Rattle.node_record.specs.nodeset.Sets.{within, subset}
 use Rattle.node_record.proofs.nodeset.Tests.{both}
 use Rattle.message.specs.cable.declared.Cable.{Cable}
 use Rattle.message.proofs.cable.Ranges.{ring-size, node-number}
-use Rattle.message.specs.declared.Reading.{Reading}
-use Rattle.message.specs.declared.Reading.TheVariants as reading
+use Rattle.message.specs.Answers.{Reading}
 use Rattle.node_record.specs.declared.Node.{Node}
 use Rattle.node_record.specs.declared.State.{State}
 use Rattle.node_record.specs.declared.State.TheVariants.{Member, Listening, Following, Knocking, Out}
@@ -50,7 +50,7 @@ sound-marks v e =
 
 -- where a node hears a message or nothing, what it hears is the message
 pub heard-told : (own : Bool) (heard told : Reading) → (is_heard told ≡ true → told ≡ heard)
-    → is_heard (cond own (reading.Refused MessageLength) told) ≡ true → cond own (reading.Refused MessageLength) told ≡ heard
+    → is_heard (cond own (Err MessageLength) told) ≡ true → cond own (Err MessageLength) told ≡ heard
 heard-told true heard told h e = absurd (true≢false (sym e))
 heard-told false heard told h e = h e
 

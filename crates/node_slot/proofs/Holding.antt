@@ -4,7 +4,7 @@ use mathlib.Core.Path.{◌≡◌, refl, sym, ap, ◌∙◌}
 use mathlib.Core.Bool.{true}
 use Rattle.message.specs.cable.declared.Cable.{Cable}
 use Rattle.node_record.specs.row.Rows.{as_row}
-use Rattle.message.specs.declared.Reading.{Reading}
+use Rattle.message.specs.Answers.{Reading}
 use Rattle.node_record.specs.declared.Node.{Node}
 use Rattle.node_record.specs.States.{is_out, is_listening}
 use Rattle.node_record.specs.Held.{rowed}

@@ -1,12 +1,12 @@
 -- The slot of specs/Slot by what is heard of it, where of the own slot nothing is (specs/Inner). Assumes nothing.
+use Rattle.std.specs.Prelude.{Err, Ok}
 use Prim.Native.Nat.{ℕ}
 use mathlib.Core.Path.{◌≡◌, refl, sym, ap, ◌∙◌}
 use mathlib.Core.Logic.{◌≢◌}
 use lib.Dec.{eqb}
 use borrow.Author.Tests.{eqb-false}
 use Rattle.node_record.proofs.nodeset.Tests.{by_cases, otherwise}
-use Rattle.message.specs.declared.Reading.{Reading}
-use Rattle.message.specs.declared.Reading.TheVariants as reading
+use Rattle.message.specs.Answers.{Reading}
 use Rattle.message.proofs.From.{FromOther}
 use Rattle.node_record.specs.declared.Node.{Node}
 use Rattle.node_record.specs.declared.State.{State}
@@ -23,8 +23,8 @@ pub from-other : (s : ℕ) (heard : Reading) (v : Node) → FromOther s (heard_f
 from-other s heard v = by_cases (eqb s v.own) (λ e. rw e tt) (λ e. rw e (go heard (eqb-false s v.own e)))
   where
     go : (heard : Reading) → s ≢ v.own → FromOther s heard v.own
-    go (reading.Heard bits return_bit) d = d
-    go (reading.Refused r) d = tt
+    go (Ok h) d = d
+    go (Err r) d = tt
 
 -- a message handed over in the own slot is ignored
 pub slot_read : (times s : ℕ) (heard : Reading) (v : Node) → slot_with times s heard v ≡ slot_by_cases times s (heard_from s heard v) v

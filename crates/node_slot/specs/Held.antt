@@ -1,6 +1,6 @@
 -- Inner: the slot of a held record, as the code works it out. The law in proofs/Holding ties it to specs/Inner; it need not be believed.
 use Rattle.std.specs.Prelude.{ℕ, cond}
-use Rattle.message.specs.declared.Reading.{Reading}
+use Rattle.message.specs.Answers.{Reading}
 use Rattle.node_record.specs.declared.Held.{Held}
 use Rattle.node_record.specs.States.{is_out, is_listening}
 use Rattle.node_record.specs.Held.{setted}

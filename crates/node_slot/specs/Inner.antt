@@ -1,8 +1,7 @@
 -- Inner: the slot of specs/Slot as the code and the proofs take it. The laws are in proofs/Read and proofs/Digests.
-use Rattle.std.specs.Prelude.{ℕ, cond, eqb}
+use Rattle.std.specs.Prelude.{ℕ, cond, eqb, Err}
 use Rattle.refusal.specs.declared.Refusal.TheVariants.{MessageLength}
-use Rattle.message.specs.declared.Reading.{Reading}
-use Rattle.message.specs.declared.Reading.TheVariants.{Refused}
+use Rattle.message.specs.Answers.{Reading}
 use Rattle.node_record.specs.declared.Node.{Node}
 use Rattle.node_record.specs.declared.State.{State}
 use Rattle.node_record.specs.declared.State.TheVariants.{Member, Listening, Following, Knocking, Out}
@@ -13,7 +12,7 @@ use Rattle.node_hearing.specs.Hearing.{listening_by}
 
 -- What is heard of the own slot is a refused reading.
 abbrev pub heard_from : ℕ → Reading → Node → Reading
-heard_from s heard v = cond (eqb s v.own) (Refused MessageLength) heard
+heard_from s heard v = cond (eqb s v.own) (Err MessageLength) heard
 
 -- The slot of a node in a state, by such a reading and with so many departure steps.
 abbrev pub read_in : ℕ → State → ℕ → Reading → Node → Node

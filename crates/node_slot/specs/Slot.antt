@@ -1,6 +1,6 @@
 -- One slot, for a sound record in any state: s is the slot's sender.
 use Rattle.std.specs.Prelude.{ℕ}
-use Rattle.message.specs.declared.Reading.{Reading}
+use Rattle.message.specs.Answers.{Reading}
 use Rattle.node_record.specs.declared.Node.{Node}
 use Rattle.node_record.specs.declared.State.{State}
 use Rattle.node_record.specs.declared.State.TheVariants.{Member, Listening, Following, Knocking, Out}

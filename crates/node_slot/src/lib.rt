@@ -17,7 +17,7 @@ fn heard_from(s: u32, heard: Reading, v: Held) -> Reading
     ensures { result ≡ heard_from s heard (setted v) }
 {
     if s == v.own {
-        return Reading::Refused(Refusal::MessageLength);
+        return Err(Refusal::MessageLength);
     }
     heard
 }

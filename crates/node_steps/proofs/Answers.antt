@@ -1,4 +1,5 @@
 -- What the acknowledgements of a message say of this node's own one (`says` of specs/Steps), and which of them says it. Assumes nothing.
+use Rattle.std.specs.Prelude.{None, Option, Some}
 use Prim.Native.Nat.{ℕ, zero, suc, ◌<◌}
 use mathlib.Core.Path.{◌≡◌, refl, sym, ap, ◌∙◌}
 use mathlib.Core.Bool.{Bool, true, true≢false}
@@ -8,22 +9,22 @@ use borrow.Author.Tests.{eqb-true, eq-eqb}
 use Rattle.nodeset.specs.Sets.{has}
 use Rattle.nodeset.proofs.Tests.{by_cases, both, all, or_left, or_right, or_else}
 use Rattle.row.specs.ring.declared.Found.{Found}
-use Rattle.row.specs.ring.declared.Found.TheVariants as found
 use Rattle.row.specs.ring.Ring.{is_found}
 use Rattle.node_record.specs.declared.Node.{Node}
 use Rattle.node_record.specs.Sponsoring.{sponsored_in}
 use Rattle.node_steps.specs.Steps.{says_so, says}
+use Rattle.row.specs.ring.Ring.{found}
 
 -- Node x was found, so many slots back.
-pub record At (x : ℕ) (f : Found) : Type 0 where
+pub record At (x : ℕ) (f : Option Found) : Type 0 where
   pub back : ℕ
-  pub it : f ≡ found.Member x back
+  pub it : f ≡ found x back
 
-pub found_it : (x : ℕ) (f : Found) → is_found x f ≡ true → At x f
-found_it x (found.Member m back) e = record { back = back; it = ap (λ (y : ℕ). found.Member y back) (eqb-true m x e) }
-found_it x found.Nobody e = absurd (true≢false (sym e))
+pub found_it : (x : ℕ) (f : Option Found) → is_found x f ≡ true → At x f
+found_it x (Some f) e = record { back = f.back; it = ap (λ (y : ℕ). found y f.back) (eqb-true f.member x e) }
+found_it x None e = absurd (true≢false (sym e))
 
-pub is-found : (x : ℕ) (f : Found) → At x f → is_found x f ≡ true
+pub is-found : (x : ℕ) (f : Option Found) → At x f → is_found x f ≡ true
 is-found x f a = ap (is_found x) a.it ∙ eq-eqb x x refl
 
 -- Node x is one of the first j members that s sponsors, and its acknowledgement says so.

@@ -1,4 +1,5 @@
 -- The slot of specs/Steps, which does the steps in their order, is the slot by cases of specs/Inner. Assumes nothing.
+use Rattle.std.specs.Prelude.{Err, None, Option, Ok, Some}
 use Prim.Native.Nat.{ℕ, zero, suc}
 use mathlib.Core.Path.{◌≡◌, refl, sym, ap, ap₂, ◌∙◌}
 use mathlib.Core.Bool.{Bool, true, false, cond, not, ◌&&◌, ◌||◌, and-true, and-false}
@@ -7,10 +8,8 @@ use borrow.Author.Tests.{eqb-true, eq-eqb, ne_eqb}
 use Rattle.nodeset.specs.Sets.{has, without}
 use Rattle.nodeset.proofs.Tests.{by_cases, chosen, otherwise}
 use Rattle.row.specs.ring.declared.Found.{Found}
-use Rattle.row.specs.ring.declared.Found.TheVariants as found
 use Rattle.row.specs.ring.Ring.{member_in, is_found}
-use Rattle.message.specs.declared.Reading.{Reading}
-use Rattle.message.specs.declared.Reading.TheVariants as reading
+use Rattle.message.specs.Answers.{Reading}
 use Rattle.message.proofs.From.{FromOther}
 use Rattle.node_record.specs.declared.Node.{Node}
 use Rattle.node_record.specs.States.{leaving_cause}
@@ -22,8 +21,8 @@ use Rattle.node_steps.specs.Inner.{read_return, read_heard, read_marked, departi
 -- ---- step 1: what is heard of the own slot is a refused reading
 
 returns-read : (s : ℕ) (heard : Reading) (v : Node) → FromOther s heard v.own → hears_return s heard v ≡ return_in heard
-returns-read s (reading.Heard bits return_bit) v f = rw (ne_eqb s v.own f) refl
-returns-read s (reading.Refused r) v f = by_cases (is_own s v) (λ e. rw e refl) (λ e. rw e refl)
+returns-read s (Ok h) v f = rw (ne_eqb s v.own f) refl
+returns-read s (Err r) v f = by_cases (is_own s v) (λ e. rw e refl) (λ e. rw e refl)
 
 marked-read : (s : ℕ) (heard : Reading) (v : Node) → FromOther s heard v.own → marked s heard v ≡ read_marked s heard v
 marked-read s heard v f =
@@ -36,13 +35,13 @@ marked-read s heard v f =
 own-leaves : (s : ℕ) (v : Node) → leaves s v v.own ≡ (leaves s v (member_in (decided_in s v)) && eqb (member_in (decided_in s v)) v.own)
 own-leaves s v = go (decided_in s v)
   where
-    go : (f : Found) → (is_found v.own f && not (has v.present v.own)) ≡ ((is_found (member_in f) f && not (has v.present (member_in f))) && eqb (member_in f) v.own)
-    go (found.Member m back) =
-        let self : eqb m m ≡ true = eq-eqb m m refl in
-        by_cases (eqb m v.own)
-        (λ e. rw (self, e) (ap (λ (x : ℕ). not (has v.present x)) (sym (eqb-true m v.own e)) ∙ sym (and-true (not (has v.present m)))))
-        (λ e. rw (self, e) (sym (and-false (not (has v.present m)))))
-    go found.Nobody = refl
+    go : (f : Option Found) → (is_found v.own f && not (has v.present v.own)) ≡ ((is_found (member_in f) f && not (has v.present (member_in f))) && eqb (member_in f) v.own)
+    go (Some f) =
+        let self : eqb f.member f.member ≡ true = eq-eqb f.member f.member refl in
+        by_cases (eqb f.member v.own)
+        (λ e. rw (self, e) (ap (λ (x : ℕ). not (has v.present x)) (sym (eqb-true f.member v.own e)) ∙ sym (and-true (not (has v.present f.member)))))
+        (λ e. rw (self, e) (sym (and-false (not (has v.present f.member)))))
+    go None = refl
 
 -- a step in which nobody leaves changes nothing, and no further one does
 unchanged : (s : ℕ) (v : Node) → leaves s v (member_in (decided_in s v)) ≡ false → departed s v ≡ v

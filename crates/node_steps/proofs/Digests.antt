@@ -1,5 +1,6 @@
 -- A slot by the digest of the own set (specs/Digests) is the slot by cases (specs/Inner): what a message says is the same for all who hold
 -- one set, and so is the decided member. Assumes nothing.
+use Rattle.std.specs.Prelude.{Err, None, Option, Ok, Some}
 use Prim.Native.Nat.{ℕ, zero, suc, ◌^◌, ◌≤◌, ◌<◌}
 use mathlib.Core.Path.{◌≡◌, refl, sym, ap, ap₂, ◌∙◌}
 use mathlib.Core.Logic.{◌≢◌}
@@ -14,11 +15,9 @@ use Rattle.nodeset.proofs.Bits.{has-none}
 use Rattle.nodeset.proofs.Laws.{has-with, has-with-other, with-lt-32, union-with}
 use Rattle.cable.specs.declared.Cable.{Cable}
 use Rattle.row.specs.ring.declared.Found.{Found}
-use Rattle.row.specs.ring.declared.Found.TheVariants as found
 use Rattle.row.specs.ring.Ring.{sponsors, sponsored, decided, member_in, is_found}
 use Rattle.row.proofs.ring.Members.{sponsored-member}
-use Rattle.message.specs.declared.Reading.{Reading}
-use Rattle.message.specs.declared.Reading.TheVariants as reading
+use Rattle.message.specs.Answers.{Reading}
 use Rattle.message.proofs.From.{FromOther}
 use Rattle.node_record.specs.declared.Node.{Node}
 use Rattle.node_record.specs.declared.Cause.TheVariants.{Unconfirmed, MissedReturn}
@@ -29,7 +28,8 @@ use Rattle.node_steps.specs.declared.Said.{Said}
 use Rattle.node_steps.specs.declared.Effect.{Effect}
 use Rattle.node_steps.specs.Steps.{is_heard, return_in, confirmed, says_so, says, hears_no, hears_yes, heard_marks, marks_after, yes_after, noted, leaves, settle}
 use Rattle.node_steps.specs.Inner.{read_marked, departing, inside_slot, outside_slot, slot_by_cases}
-use Rattle.node_steps.specs.Digests.{Departure, bits_heard, answered, said_of, digest_of, said_by, decided_by, marks_by, heard_effect, effect_of, noted_by, stays_on, departures, departing_by, tracking_with, tracking_by}
+use Rattle.node_steps.specs.Digests.{bits_heard, answered, said_of, digest_of, said_by, decided_by, marks_by, heard_effect, effect_of, noted_by, stays_on, departures, ended, departing_by, tracking_with, tracking_by}
+use Rattle.row.specs.ring.Ring.{found}
 
 -- ---- what a message says
 
@@ -60,15 +60,15 @@ confirmed-union (suc j) s bits v l =
     (confirmed-union j s bits v l)
 
 -- one member more: is it this node?
-one-more : (own nodes : ℕ) (f : Found) (so : Bool) → 1 ≤ own → own ≤ 32 → has (cond so (with nodes (member_in f)) nodes) own ≡ (has nodes own || (is_found own f && so))
+one-more : (own nodes : ℕ) (f : Option Found) (so : Bool) → 1 ≤ own → own ≤ 32 → has (cond so (with nodes (member_in f)) nodes) own ≡ (has nodes own || (is_found own f && so))
 unfolding with
-one-more own nodes (found.Member m back) true a b =
-    by_cases (eqb m own)
-    (λ e. rw e (ap (λ (x : ℕ). has (with nodes x) own) (eqb-true m own e) ∙ has-with nodes own a b ∙ sym (or-true (has nodes own))))
-    (λ e. rw e (has-with-other nodes m own (eqb-false m own e) ∙ sym (or-false (has nodes own))))
-one-more own nodes (found.Member m back) false a b = sym (ap (λ (c : Bool). has nodes own || c) (and-false (eqb m own)) ∙ or-false (has nodes own))
-one-more own nodes found.Nobody true a b = sym (or-false (has nodes own))
-one-more own nodes found.Nobody false a b = sym (or-false (has nodes own))
+one-more own nodes (Some f) true a b =
+    by_cases (eqb f.member own)
+    (λ e. rw e (ap (λ (x : ℕ). has (with nodes x) own) (eqb-true f.member own e) ∙ has-with nodes own a b ∙ sym (or-true (has nodes own))))
+    (λ e. rw e (has-with-other nodes f.member own (eqb-false f.member own e) ∙ sym (or-false (has nodes own))))
+one-more own nodes (Some f) false a b = sym (ap (λ (c : Bool). has nodes own || c) (and-false (eqb f.member own)) ∙ or-false (has nodes own))
+one-more own nodes None true a b = sym (or-false (has nodes own))
+one-more own nodes None false a b = sym (or-false (has nodes own))
 
 -- whether this node is among them is what the message says of its own one
 answered-own : (answer : Bool) (nodes j s bits : ℕ) (v : Node) → 1 ≤ v.own → v.own ≤ 32
@@ -117,67 +117,66 @@ yes-is s bits v d a b =
 module _ (s : ℕ) (heard : Reading) (v : Node) (set : ℕ) where
   pub effect_is : (told : Reading) → (is_heard told ≡ true → told ≡ heard) → FromOther s told v.own → 1 ≤ v.own → v.own ≤ 32 → v.present < 2 ^ 32
       → effect_of (digest_of s heard v.cable set) s told v ≡ record { heard = is_heard told; marks = marks_after s told v; yes = yes_after s told v; returned = return_in told }
-  effect_is (reading.Heard bits return_bit) h d a b l =
-      let same : bits ≡ bits_heard heard = ap bits_heard (h refl) in
-      let said : said_by (digest_of s heard v.cable set) s bits v ≡ said_of s bits v.cable v.set
+  effect_is (Ok told) h d a b l =
+      let same : told.acknowledgements ≡ bits_heard heard = ap bits_heard (h refl) in
+      let said : said_by (digest_of s heard v.cable set) s told.acknowledgements v ≡ said_of s told.acknowledgements v.cable v.set
       = ap (λ (x : ℕ). said_by (digest_of s heard v.cable set) s x v) same ∙ said-is s heard v set ∙ ap (λ (x : ℕ). said_of s x v.cable v.set) (sym same) in
       let other : eqb s v.own ≡ false = ne_eqb s v.own d in
-      ap (λ (x : Said). heard_effect x return_bit v) said
-      ∙ ap₂ (λ (m : ℕ) (y : Bool). record { heard = true; marks = m; yes = y; returned = return_bit })
-      (marks-are s bits v a b l ∙ sym (otherwise _ _ other))
-      (ap (λ (c : Bool). v.yes_heard || c) (yes-is s bits v d a b) ∙ ap (λ (c : Bool). not c && (v.yes_heard || hears_yes s bits v)) (sym other))
-  effect_is (reading.Refused r) h d a b l = refl
+      ap (λ (x : Said). heard_effect x told.return_bit v) said
+      ∙ ap₂ (λ (m : ℕ) (y : Bool). record { heard = true; marks = m; yes = y; returned = told.return_bit })
+      (marks-are s told.acknowledgements v a b l ∙ sym (otherwise _ _ other))
+      (ap (λ (c : Bool). v.yes_heard || c) (yes-is s told.acknowledgements v d a b) ∙ ap (λ (c : Bool). not c && (v.yes_heard || hears_yes s told.acknowledgements v)) (sym other))
+  effect_is (Err r) h d a b l = refl
 
 -- ---- step 3
 
 -- nobody is decided
-none-leaves : (times s set : ℕ) (v : Node) → departures times 0 s set v ≡ record { set = set; left = false }
+none-leaves : (times s set : ℕ) (v : Node) → departures times 0 s set v ≡ Some set
 unfolding departures
 none-leaves zero s set v = refl
 none-leaves (suc times) s set v = refl
 
 nobody : (inside : Bool) (s : ℕ) (w : Node) → departing_by inside 0 s w ≡ settle inside s w
-nobody inside s w =
-    ap (λ (d : Departure). cond d.left (leave Unconfirmed w) (settle inside s (with_set d.set w))) (none-leaves w.cable.n s w.set w)
+nobody inside s w = ap (λ (d : Option ℕ). ended inside s d w) (none-leaves w.cable.n s w.set w)
 
 -- a decided member is a node
-decided-node : (cable : Cable) (set s m back : ℕ) → decided cable set s ≡ found.Member m back → 1 ≤ m
+decided-node : (cable : Cable) (set s m back : ℕ) → decided cable set s ≡ found m back → 1 ≤ m
 unfolding decided has
 decided-node cable set s zero back e = absurd (true≢false (sym (sponsored-member cable set s (sponsors cable set) 0 back e)))
 decided-node cable set s (suc m) back e = omega arith
 
 -- it leaves where the code does not see that nobody does
-leaves_by : (f : Found) (marks : ℕ) → ((m back : ℕ) → f ≡ found.Member m back → 1 ≤ m)
+leaves_by : (f : Option Found) (marks : ℕ) → ((m back : ℕ) → f ≡ found m back → 1 ≤ m)
     → (is_found (member_in f) f && not (has marks (member_in f))) ≡ not (eqb (member_in f) 0 || has marks (member_in f))
-leaves_by (found.Member m back) marks h =
-    let self : eqb m m ≡ true = eq-eqb m m refl in
-    let some : eqb m 0 ≡ false = ne_eqb m 0 (λ z. omega (arith, h m back refl)) in
+leaves_by (Some f) marks h =
+    let self : eqb f.member f.member ≡ true = eq-eqb f.member f.member refl in
+    let some : eqb f.member 0 ≡ false = ne_eqb f.member 0 (λ z. omega (arith, h f.member f.back refl)) in
     rw (self, some) refl
-leaves_by found.Nobody marks h = refl
+leaves_by None marks h = refl
 
 -- who leaves does so whatever its set is
 leave-set : (set : ℕ) (v : Node) → leave (leaving_cause 1) (with_set set v) ≡ leave Unconfirmed v
 unfolding leave
 leave-set set v = refl
 
-abbrev ended : ℕ → Node → Departure → Node
-ended s v d = cond d.left (leave Unconfirmed v) (settle true s (with_set d.set v))
-
-departures-are : (times s set : ℕ) (v : Node) → ended s v (departures times (member_in (decided v.cable set s)) s set v) ≡ departing times s (with_set set v)
+departures-are : (times s set : ℕ) (v : Node) → ended true s (departures times (member_in (decided v.cable set s)) s set v) v ≡ departing times s (with_set set v)
 unfolding departures departing
 departures-are zero s set v = refl
 departures-are (suc times) s set v =
     by_cases (stays_on m v)
-    (λ e. ap (ended s v) (chosen _ _ e) ∙ sym (otherwise _ _ (goes ∙ ap not e)))
+    (λ e. ap rest (chosen _ _ e) ∙ sym (otherwise _ _ (goes ∙ ap not e)))
     (λ e.
-    ap (ended s v) (otherwise _ _ e)
+    ap rest (otherwise _ _ e)
     ∙ by_cases (eqb m v.own)
-    (λ o. ap (ended s v) (chosen _ _ o) ∙ sym (leave-set set v) ∙ sym (chosen _ _ o))
-    (λ o. ap (ended s v) (otherwise _ _ o) ∙ departures-are times s (without set m) v ∙ sym (otherwise _ _ o))
+    (λ o. ap rest (chosen _ _ o) ∙ sym (leave-set set v) ∙ sym (chosen _ _ o))
+    (λ o. ap rest (otherwise _ _ o) ∙ departures-are times s (without set m) v ∙ sym (otherwise _ _ o))
     ∙ sym (chosen _ _ (goes ∙ ap not e)))
   where
     m : ℕ
     m = member_in (decided v.cable set s)
+
+    rest : Option ℕ → Node
+    rest d = ended true s d v
 
     goes : leaves s (with_set set v) (member_in (decided v.cable set s)) ≡ not (stays_on (member_in (decided v.cable set s)) v)
     goes = leaves_by (decided v.cable set s) v.present (λ x back p. decided-node v.cable set s x back p)

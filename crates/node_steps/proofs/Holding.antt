@@ -1,4 +1,5 @@
 -- Each step of a slot on a held record (specs/Held) makes what holds the record that the step makes on sets (specs/Steps, Digests). Assumes nothing.
+use Rattle.std.specs.Prelude.{Err, None, Option, Ok, Some}
 use Prim.Native.Nat.{ℕ, zero, suc, ◌≤◌, ◌<◌, ◌^◌}
 use mathlib.Core.Path.{◌≡◌, refl, sym, ap, ap₂, ◌∙◌}
 use mathlib.Core.Bool.{Bool, true, false, cond, not, ◌&&◌}
@@ -11,31 +12,27 @@ use Rattle.nodeset.proofs.Tests.{by_cases}
 use Rattle.cable.specs.slot_table.Order.{is_kept}
 use Rattle.cable.specs.declared.Cable.{Cable}
 use Rattle.row.specs.ring.declared.Found.{Found}
-use Rattle.row.specs.ring.declared.Found.TheVariants as found
 use Rattle.row.specs.ring.Ring.{sponsors, decided, member_before, member_in, is_found}
 use Rattle.row.specs.declared.Row.{Row}
 use Rattle.row.specs.Rows.{as_row}
 use Rattle.row.specs.Sponsoring.{decided_row}
 use Rattle.node_record.proofs.row_laws.Laws.{has-row, size-row, with-row, without-row, before-row, same-row}
 use Rattle.node_record.proofs.row_laws.Sponsored.{sponsors-row, sponsored-row, decided-row}
-use Rattle.message.specs.declared.Reading.{Reading}
-use Rattle.message.specs.declared.Reading.TheVariants as reading
+use Rattle.message.specs.Answers.{Reading}
 use Rattle.node_record.specs.declared.Node.{Node}
 use Rattle.node_record.specs.declared.State.TheVariants.{Following, Knocking}
 use Rattle.node_record.specs.declared.Cause.TheVariants.{Unconfirmed, NothingHeard, MissedReturn}
 use Rattle.node_record.specs.States.{is_member, is_following, is_knocking}
 use Rattle.node_record.specs.Held.{rowed}
 use Rattle.node_changes.specs.Changes as rules
-use Rattle.node_changes.specs.Held as changes
 use Rattle.node_changes.proofs.Holding.{listening-held, leave-held, either_held, tested-held}
 use Rattle.node_steps.specs.declared.Said.{Said}
 use Rattle.node_steps.specs.declared.Digest as row
-use Rattle.node_steps.specs.declared.Departure as row'
 use Rattle.node_steps.specs.declared.Effect.{Effect}
 use Rattle.node_steps.specs.Steps as steps
 use Rattle.node_steps.specs.Steps.{says_so, state_on_list, nothing_heard}
 use Rattle.node_steps.specs.Digests as sets
-use Rattle.node_steps.specs.Digests.{Digest, Departure, bits_heard, stays_on, decided_where}
+use Rattle.node_steps.specs.Digests.{Digest, bits_heard, stays_on, decided_where}
 use Rattle.node_steps.specs.Held as held
 
 -- ---- the digest
@@ -44,8 +41,9 @@ use Rattle.node_steps.specs.Held as held
 abbrev pub digest_row : List ℕ → Digest → row.Digest
 digest_row order d = record { row = as_row order d.set; said = d.said; decided = d.decided }
 
-abbrev departure_row : List ℕ → Departure → row'.Departure
-departure_row order d = record { row = as_row order d.set; left = d.left }
+abbrev departure_row : List ℕ → Option ℕ → Option Row
+departure_row order (Some set) = Some (as_row order set)
+departure_row order None = None
 
 module _ (cable : Cable) (kept : is_kept cable.n cable.order ≡ true) (s : ℕ) (low : 1 ≤ s) (high : s ≤ cable.n) where
   abbrev order : List ℕ
@@ -72,7 +70,7 @@ module _ (cable : Cable) (kept : is_kept cable.n cable.order ≡ true) (s : ℕ)
   unfolding held.departures sets.departures
   departures-row zero m set v on = refl
   departures-row (suc times) m set v on =
-      ap (λ (d : row'.Departure). cond (stays_on m v) (departure_row order (record { set = set; left = false })) (cond (eqb m v.own) (departure_row order (record { set = set; left = true })) d))
+      ap (λ (d : Option Row). cond (stays_on m v) (Some (as_row order set)) (cond (eqb m v.own) None d))
       (ap (λ (r : Row). held.departures times (decided_row v.cable r s) s r (rowed v)) (without-row order set m)
       ∙ ap (λ (x : ℕ). held.departures times x s (as_row order (without set m)) (rowed v)) next
       ∙ departures-row times (member_in (decided v.cable (without set m) s)) (without set m) v on)
@@ -84,8 +82,7 @@ module _ (cable : Cable) (kept : is_kept cable.n cable.order ≡ true) (s : ℕ)
           ∙ decided-row cable kept (without set m) s low high
           ∙ sym (ap (λ (c : Cable). member_in (decided c (without set m) s)) on)
 
-      pushed : (a b : Bool) (d : Departure) → cond a (departure_row order (record { set = set; left = false })) (cond b (departure_row order (record { set = set; left = true })) (departure_row order d))
-          ≡ departure_row order (cond a (record { set = set; left = false }) (cond b (record { set = set; left = true }) d))
+      pushed : (a b : Bool) (d : Option ℕ) → cond a (Some (as_row order set)) (cond b None (departure_row order d)) ≡ departure_row order (cond a (Some set) (cond b None d))
       pushed true b d = refl
       pushed false true d = refl
       pushed false false d = refl
@@ -100,18 +97,18 @@ pub record Good (s : ℕ) (v : Node) : Type 0 where
   pub back : v.returning ≤ v.cable.n
 
 -- who is found, by number
-found-is : (s : ℕ) → 1 ≤ s → (f : Found) → eqb (member_in f) s ≡ is_found s f
-found-is s low (found.Member m back) = refl
-found-is s low found.Nobody = ne_eqb 0 s (λ e. omega (arith, e, low))
+found-is : (s : ℕ) → 1 ≤ s → (f : Option Found) → eqb (member_in f) s ≡ is_found s f
+found-is s low (Some f) = refl
+found-is s low None = ne_eqb 0 s (λ e. omega (arith, e, low))
 
 module _ (s : ℕ) where
   -- ---- steps 1 and 2
   effect-row : (d : Digest) (heard : Reading) (v : Node) → Good s v → d.set < 2 ^ v.cable.n → v.set < 2 ^ v.cable.n
       → held.effect_of (digest_row v.cable.order d) s heard (rowed v) ≡ sets.effect_of d s heard v
-  effect-row d (reading.Refused r) v g small small' = refl
-  effect-row d (reading.Heard bits return_bit) v g small small' =
-      ap (λ (said : Said). sets.heard_effect said return_bit v)
-      (ap₂ (λ (b : Bool) (said : Said). cond b d.said said) (same-row v.cable.n v.cable.order g.kept d.set v.set small small') (said_row v.cable g.kept s g.low g.high bits v.set))
+  effect-row d (Err r) v g small small' = refl
+  effect-row d (Ok h) v g small small' =
+      ap (λ (said : Said). sets.heard_effect said h.return_bit v)
+      (ap₂ (λ (b : Bool) (said : Said). cond b d.said said) (same-row v.cable.n v.cable.order g.kept d.set v.set small small') (said_row v.cable g.kept s g.low g.high h.acknowledgements v.set))
 
   decided-by-row : (d : Digest) (v : Node) → Good s v → d.set < 2 ^ v.cable.n → v.set < 2 ^ v.cable.n → held.decided_by (digest_row v.cable.order d) s (rowed v) ≡ sets.decided_by d s v
   decided-by-row d v g small small' =
@@ -153,13 +150,14 @@ module _ (s : ℕ) where
       (tested-held (inside && steps.joins s v) _ v (ap (λ (b : Bool). inside && b) (joins-row v g)) (join-row v g) refl))
 
   -- ---- the steps in their order
+  ended-row : (inside : Bool) (d : Option ℕ) (v : Node) → Good s v → held.ended inside s (departure_row v.cable.order d) (rowed v) ≡ rowed (sets.ended inside s d v)
+  ended-row inside (Some set) v g = settle-row inside (rules.with_set set v) (record { kept = g.kept; low = g.low; high = g.high; own = g.own; back = g.back })
+  ended-row inside None v g = leave-held Unconfirmed v
+
   departing-row : (inside : Bool) (m : ℕ) (v : Node) → Good s v → held.departing_by inside m s (rowed v) ≡ rowed (sets.departing_by inside m s v)
   departing-row inside m v g =
-      let d = sets.departures v.cable.n m s v.set v in
-      ap (λ (x : row'.Departure). cond x.left (changes.leave Unconfirmed (rowed v)) (held.settle inside s (changes.with_row x.row (rowed v))))
-      (departures-row v.cable g.kept s g.low g.high v.cable.n m v.set v refl)
-      ∙ either_held d.left (rules.leave Unconfirmed v) (steps.settle inside s (rules.with_set d.set v)) (leave-held Unconfirmed v)
-      (settle-row inside (rules.with_set d.set v) (record { kept = g.kept; low = g.low; high = g.high; own = g.own; back = g.back }))
+      ap (λ (d : Option Row). held.ended inside s d (rowed v)) (departures-row v.cable g.kept s g.low g.high v.cable.n m v.set v refl)
+      ∙ ended-row inside (sets.departures v.cable.n m s v.set v) v g
 
   -- the record after steps 1 and 2
   marked-good : (e : Effect) (v : Node) → Good s v → Good s (sets.marked_by e v)

@@ -1,5 +1,6 @@
 -- One slot of a member, following or knocking node (specs/Steps) keeps its record sound. Each step keeps the facts of `Tracking`; at the end
 -- either the node has left or started afresh, or the set is large enough. Assumes nothing.
+use Rattle.std.specs.Prelude.{Err, None, Option, Ok, Some}
 use Prim.Native.Nat.{ℕ, zero, suc, ◌^◌, ◌≤◌, ◌<◌}
 use mathlib.Core.Path.{◌≡◌, refl, sym, ap, ◌∙◌}
 use mathlib.Core.Logic.{◌≢◌}
@@ -13,13 +14,11 @@ use Rattle.nodeset.proofs.Tests.{by_cases, both, all, or_else}
 use Rattle.nodeset.proofs.Laws.{has-with, has-with-other, has-without, has-without-other, with-lt, without-lt, has-range}
 use Rattle.nodeset.proofs.Counts.{size-with}
 use Rattle.row.specs.ring.declared.Found.{Found}
-use Rattle.row.specs.ring.declared.Found.TheVariants as found
 use Rattle.cable.specs.Cable.{node_number}
 use Rattle.row.specs.ring.Ring.{member_in, is_found}
 use Rattle.cable.proofs.Ranges.{ring-size, node-number}
 use Rattle.row.proofs.ring.Members.{sponsored-member}
-use Rattle.message.specs.declared.Reading.{Reading}
-use Rattle.message.specs.declared.Reading.TheVariants as reading
+use Rattle.message.specs.Answers.{Reading}
 use Rattle.node_record.specs.declared.Node.{Node}
 use Rattle.node_record.specs.declared.State.{State}
 use Rattle.node_record.specs.declared.State.TheVariants.{Member, Listening, Following, Knocking, Out}
@@ -33,6 +32,7 @@ use Rattle.node_changes.proofs.Sound.{InRange, fresh-sound, leave-sound}
 use Rattle.node_steps.specs.Steps.{is_heard, return_in, is_own, confirmed, says, hears_no, hears_yes, heard_marks, read_marks, marks_after, read_yes, noted, leaves, too_few, nothing_heard, joins, state_on_list, joined, join, settle}
 use Rattle.node_steps.proofs.Answers.{told-by}
 use Rattle.node_steps.specs.Inner.{read_return, read_marked, departing, inside_slot, outside_slot, slot_by_cases}
+use Rattle.row.specs.ring.Ring.{found}
 
 numbers : (v : Node) → Tracking v → InRange v.cable v.own v.slots
 numbers v k = record { choices = k.choices; own-in = k.own; slots-in = k.slots }
@@ -63,10 +63,10 @@ without-marks n set marks m k = record { lt = without-lt n marks m k.lt; within 
 -- ---- step 1
 
 -- a sponsored member, if there is one, is marked
-found-marks : (n set marks : ℕ) (f : Found) → n ≤ 32 → set < 2 ^ n → ((m back : ℕ) → f ≡ found.Member m back → has set m ≡ true) → Marks n set marks → Marks n set (with marks (member_in f))
+found-marks : (n set marks : ℕ) (f : Option Found) → n ≤ 32 → set < 2 ^ n → ((m back : ℕ) → f ≡ found m back → has set m ≡ true) → Marks n set marks → Marks n set (with marks (member_in f))
 unfolding with
-found-marks n set marks (found.Member m back) h l e k = with-marks n set marks m h l (e m back refl) k
-found-marks n set marks found.Nobody h l e k = k
+found-marks n set marks (Some f) h l e k = with-marks n set marks f.member h l (e f.member f.back refl) k
+found-marks n set marks None h l e k = k
 
 confirmed-marks : (j s bits : ℕ) (v : Node) → v.cable.n ≤ 32 → v.set < 2 ^ v.cable.n → has v.set s ≡ true → Marks v.cable.n v.set v.present → Marks v.cable.n v.set (confirmed j s bits v)
 unfolding confirmed
@@ -86,8 +86,8 @@ heard-marks s bits v h l e k =
     by_cases (hears_no s bits v && not v.yes_heard) (λ t. rw t (without-marks v.cable.n v.set marks v.own m)) (λ t. rw t m)
 
 read-marks : (s : ℕ) (heard : Reading) (v : Node) → v.cable.n ≤ 32 → v.set < 2 ^ v.cable.n → has v.set s ≡ true → Marks v.cable.n v.set v.present → Marks v.cable.n v.set (read_marks s heard v)
-read-marks s (reading.Heard bits return_bit) v h l e k = heard-marks s bits v h l e k
-read-marks s (reading.Refused r) v h l e k = without-marks v.cable.n v.set v.present s k
+read-marks s (Ok said) v h l e k = heard-marks s said.acknowledgements v h l e k
+read-marks s (Err r) v h l e k = without-marks v.cable.n v.set v.present s k
 
 marks-after : (s : ℕ) (heard : Reading) (v : Node) → v.cable.n ≤ 32 → v.set < 2 ^ v.cable.n → has v.set s ≡ true → Marks v.cable.n v.set v.present → Marks v.cable.n v.set (marks_after s heard v)
 marks-after s heard v h l e k =
@@ -103,9 +103,9 @@ says-in answer j s bits v e =
 
 -- a yes is heard by a member only
 yes-member : (s : ℕ) (heard : Reading) (v : Node) → Tracking v → read_yes s heard v ≡ true → is_member v.state ≡ true
-yes-member s (reading.Heard bits return_bit) v k e =
-    by_cases v.yes_heard (λ t. k.yes t) (λ t. k.own_in ∙ says-in true (sponsors_in v) s bits v (or_else v.yes_heard (hears_yes s bits v) e t))
-yes-member s (reading.Refused r) v k e = k.yes e
+yes-member s (Ok h) v k e =
+    by_cases v.yes_heard (λ t. k.yes t) (λ t. k.own_in ∙ says-in true (sponsors_in v) s h.acknowledgements v (or_else v.yes_heard (hears_yes s h.acknowledgements v) e t))
+yes-member s (Err r) v k e = k.yes e
 
 -- return heard is set only while knocking
 heard-knocking : (a b c : Bool) → (a ≡ true → b ≡ true) → (a || (b && c)) ≡ true → b ≡ true
@@ -375,7 +375,7 @@ settle-sound inside s v k =
     (λ j. rw j (join-sound s v (both inside (joins s v) j).1 k (enough-left v t)))
     (λ j. rw j (tracking-sound v k (enough-left v t)))))))
 
-leaves-found : (s m : ℕ) (f : Found) (v : Node) → (is_found m f && not (has v.present m)) ≡ true → has v.present m ≡ false
+leaves-found : (s m : ℕ) (f : Option Found) (v : Node) → (is_found m f && not (has v.present m)) ≡ true → has v.present m ≡ false
 leaves-found s m f v e = not-true (has v.present m) (both (is_found m f) (not (has v.present m)) e).1
 
 departing-sound : (times s : ℕ) (v : Node) → Tracking v → sound (departing times s v) ≡ true

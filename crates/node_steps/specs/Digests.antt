@@ -1,10 +1,9 @@
 -- Inner: one slot by what it means to all who hold one set, which is worked out once for all of them. The law in proofs/Digests ties it to specs/Steps; specs/Held has it on rows, as the code works.
-use Rattle.std.specs.Prelude.{ℕ, zero, suc, Bool, true, false, cond, not, ◌&&◌, ◌||◌, eqb}
+use Rattle.std.specs.Prelude.{ℕ, zero, suc, Bool, true, false, cond, not, ◌&&◌, ◌||◌, eqb, Err, Ok, Option, Some, None}
 use Rattle.nodeset.specs.Sets.{has, with, with_if, without, union}
 use Rattle.cable.specs.declared.Cable.{Cable}
 use Rattle.row.specs.ring.Ring.{sponsors, sponsored, decided, member_in}
-use Rattle.message.specs.declared.Reading.{Reading}
-use Rattle.message.specs.declared.Reading.TheVariants as reading
+use Rattle.message.specs.Answers.{Reading}
 use Rattle.node_record.specs.declared.Node.{Node}
 use Rattle.node_record.specs.declared.State.TheVariants.{Knocking}
 use Rattle.node_record.specs.declared.Cause.TheVariants.{Unconfirmed, MissedReturn}
@@ -24,8 +23,8 @@ pub record Digest : Type 0 where
 
 -- The acknowledgements heard.
 abbrev pub bits_heard : Reading → ℕ
-bits_heard (reading.Heard bits return_bit) = bits
-bits_heard (reading.Refused r) = 0
+bits_heard (Ok h) = h.acknowledgements
+bits_heard (Err r) = 0
 
 -- The nodes given, with those of the first j members that s sponsors whose acknowledgement says so.
 unfoldable pub answered : Bool → ℕ → ℕ → ℕ → ℕ → Cable → ℕ → ℕ
@@ -74,8 +73,8 @@ unheard_effect s v = record { heard = false; marks = unheard_marks s v; yes = no
 
 -- What the message does.
 abbrev pub effect_of : Digest → ℕ → Reading → Node → Effect
-effect_of d s (reading.Heard bits return_bit) v = heard_effect (said_by d s bits v) return_bit v
-effect_of d s (reading.Refused r) v = unheard_effect s v
+effect_of d s (Ok h) v = heard_effect (said_by d s h.acknowledgements v) h.return_bit v
+effect_of d s (Err r) v = unheard_effect s v
 
 -- Steps 1 and 2.
 abbrev pub marked_by : Effect → Node → Node
@@ -98,22 +97,21 @@ decided_where inside m = cond inside m 0
 abbrev pub stays_on : ℕ → Node → Bool
 stays_on m v = eqb m 0 || has v.present m
 
-pub record Departure : Type 0 where
-  pub set : ℕ
-  pub left : Bool
-
--- The set after at most so many departures from a set whose decided member is m, and whether the node itself left.
-unfoldable pub departures : ℕ → ℕ → ℕ → ℕ → Node → Departure
-departures zero m s set v = record { set = set; left = false }
+-- The set after at most so many departures from a set whose decided member is m; none where the node itself left.
+unfoldable pub departures : ℕ → ℕ → ℕ → ℕ → Node → Option ℕ
+departures zero m s set v = Some set
 departures (suc times) m s set v =
-    cond (stays_on m v) (record { set = set; left = false })
-    (cond (eqb m v.own) (record { set = set; left = true })
+    cond (stays_on m v) (Some set)
+    (cond (eqb m v.own) None
     (departures times (member_in (decided v.cable (without set m) s)) s (without set m) v))
 
+-- The rest of the slot, by the set after the departures.
+abbrev pub ended : Bool → ℕ → Option ℕ → Node → Node
+ended inside s (Some set) v = settle inside s (with_set set v)
+ended inside s None v = leave Unconfirmed v
+
 abbrev pub departing_by : Bool → ℕ → ℕ → Node → Node
-departing_by inside m s v =
-    let d = departures v.cable.n m s v.set v in
-    cond d.left (leave Unconfirmed v) (settle inside s (with_set d.set v))
+departing_by inside m s v = ended inside s (departures v.cable.n m s v.set v) v
 
 -- Any slot of a member, following or knocking node.
 abbrev pub tracking_with : Bool → Effect → ℕ → ℕ → Node → Node

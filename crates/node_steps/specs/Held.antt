@@ -1,12 +1,11 @@
 -- Inner: one slot of a held record, as the code works it out: the definitions of specs/Steps and specs/Digests with a row in place of the set. The laws in proofs/Holding tie each to its namesake; it need not be believed.
-use Rattle.std.specs.Prelude.{ℕ, zero, suc, Bool, true, false, cond, not, ◌&&◌, ◌||◌, eqb, ltb}
+use Rattle.std.specs.Prelude.{ℕ, zero, suc, Bool, true, false, cond, not, ◌&&◌, ◌||◌, eqb, ltb, Err, Ok, Option, Some, None}
 use Rattle.nodeset.specs.Sets.{has, with, with_if}
 use Rattle.cable.specs.declared.Cable.{Cable}
 use Rattle.row.specs.declared.Row.{Row}
 use Rattle.row.specs.Inner.{has_row, with_row, without_row, before_row, same_row}
 use Rattle.row.specs.Sponsoring.{sponsors_row, sponsored_row, decided_row}
-use Rattle.message.specs.declared.Reading.{Reading}
-use Rattle.message.specs.declared.Reading.TheVariants as reading
+use Rattle.message.specs.Answers.{Reading}
 use Rattle.node_record.specs.declared.Held.{Held}
 use Rattle.node_record.specs.declared.State.{State}
 use Rattle.node_record.specs.declared.State.TheVariants.{Following, Knocking}
@@ -18,7 +17,6 @@ use Rattle.node_changes.specs.Held.{leave, fresh, with_marks, with_returning}
 use Rattle.node_steps.specs.declared.Said.{Said}
 use Rattle.node_steps.specs.declared.Digest.{Digest}
 use Rattle.node_steps.specs.declared.Effect.{Effect}
-use Rattle.node_steps.specs.declared.Departure.{Departure}
 use Rattle.node_steps.specs.Steps.{says_so, state_on_list, nothing_heard}
 use Rattle.node_steps.specs.Digests.{bits_heard, heard_effect, unheard_effect, stays_on, decided_where}
 
@@ -48,8 +46,8 @@ decided_by d s v = cond (same_row d.row v.row) d.decided (decided_row v.cable v.
 -- ---- the slot
 
 abbrev pub effect_of : Digest → ℕ → Reading → Held → Effect
-effect_of d s (reading.Heard bits return_bit) v = heard_effect (said_by d s bits v) return_bit (setted v)
-effect_of d s (reading.Refused r) v = unheard_effect s (setted v)
+effect_of d s (Ok h) v = heard_effect (said_by d s h.acknowledgements v) h.return_bit (setted v)
+effect_of d s (Err r) v = unheard_effect s (setted v)
 
 -- Steps 1 and 2.
 abbrev pub marked_by : Effect → Held → Held
@@ -65,11 +63,11 @@ abbrev pub taken_by : Bool → ℕ → Effect → Held → Held
 taken_by inside s e v = cond inside (marked_by e v) (noted_by s e.heard v)
 
 -- Step 3.
-unfoldable pub departures : ℕ → ℕ → ℕ → Row → Held → Departure
-departures zero m s row v = record { row = row; left = false }
+unfoldable pub departures : ℕ → ℕ → ℕ → Row → Held → Option Row
+departures zero m s row v = Some row
 departures (suc times) m s row v =
-    cond (stays_on m (setted v)) (record { row = row; left = false })
-    (cond (eqb m v.own) (record { row = row; left = true })
+    cond (stays_on m (setted v)) (Some row)
+    (cond (eqb m v.own) None
     (departures times (decided_row v.cable (without_row row m) s) s (without_row row m) v))
 
 -- Steps 4 and 5.
@@ -95,10 +93,13 @@ settle inside s v =
     (cond (nothing_heard (setted v)) (leave NothingHeard v)
     (cond (inside && joins s v) (join v) v))
 
+-- The rest of the slot, by the row after the departures.
+abbrev pub ended : Bool → ℕ → Option Row → Held → Held
+ended inside s (Some row) v = settle inside s (changes.with_row row v)
+ended inside s None v = leave Unconfirmed v
+
 abbrev pub departing_by : Bool → ℕ → ℕ → Held → Held
-departing_by inside m s v =
-    let d = departures v.cable.n m s v.row v in
-    cond d.left (leave Unconfirmed v) (settle inside s (changes.with_row d.row v))
+departing_by inside m s v = ended inside s (departures v.cable.n m s v.row v) v
 
 -- Any slot of a member, following or knocking node.
 abbrev pub tracking_with : Bool → Effect → ℕ → ℕ → Held → Held

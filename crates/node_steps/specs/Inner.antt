@@ -3,7 +3,7 @@
 use Rattle.std.specs.Prelude.{ℕ, zero, suc, Bool, true, false, cond, ◌&&◌, ◌||◌, eqb}
 use Rattle.nodeset.specs.Sets.{has, without}
 use Rattle.row.specs.ring.Ring.{member_in}
-use Rattle.message.specs.declared.Reading.{Reading}
+use Rattle.message.specs.Answers.{Reading}
 use Rattle.node_record.specs.declared.Node.{Node}
 use Rattle.node_record.specs.States.{is_knocking, leaving_cause}
 use Rattle.node_record.specs.Sponsoring.{decided_in}

@@ -1,11 +1,10 @@
 -- One slot, for a member, following or knocking node (document 01, "One slot"): the definitions of each numbered step under its sentences, then
 -- one that does them in order. s is the slot's sender; a reading is what the reader made of the bytes that were handed over.
 -- Acknowledgement bits are a set of numbers: bit j is 1 where j is in it.
-use Rattle.std.specs.Prelude.{ℕ, zero, suc, Bool, true, false, cond, not, ◌&&◌, ◌||◌, eqb, ltb}
+use Rattle.std.specs.Prelude.{ℕ, zero, suc, Bool, true, false, cond, not, ◌&&◌, ◌||◌, eqb, ltb, Err, Ok}
 use Rattle.nodeset.specs.Sets.{has, with, without, size}
 use Rattle.row.specs.ring.Ring.{member_before, member_in, is_found}
-use Rattle.message.specs.declared.Reading.{Reading}
-use Rattle.message.specs.declared.Reading.TheVariants as reading
+use Rattle.message.specs.Answers.{Reading}
 use Rattle.node_record.specs.declared.Node.{Node}
 use Rattle.node_record.specs.declared.State.{State}
 use Rattle.node_record.specs.declared.State.TheVariants.{Member, Listening, Following, Knocking, Out}
@@ -17,12 +16,12 @@ use Rattle.node_changes.specs.Changes.{fresh, leave, with_set, with_marks, with_
 
 -- "An unreadable message counts as not heard."
 abbrev pub is_heard : Reading → Bool
-is_heard (reading.Heard bits return_bit) = true
-is_heard (reading.Refused r) = false
+is_heard (Ok h) = true
+is_heard (Err r) = false
 
 abbrev pub return_in : Reading → Bool
-return_in (reading.Heard bits return_bit) = return_bit
-return_in (reading.Refused r) = false
+return_in (Ok h) = h.return_bit
+return_in (Err r) = false
 
 -- The sender is this node.
 abbrev pub is_own : ℕ → Node → Bool
@@ -70,16 +69,16 @@ heard_marks s bits v =
 
 -- "If its message is heard", so. "If not heard, its mark goes off."
 abbrev pub read_marks : ℕ → Reading → Node → ℕ
-read_marks s (reading.Heard bits return_bit) v = heard_marks s bits v
-read_marks s (reading.Refused r) v = without v.present s
+read_marks s (Ok h) v = heard_marks s h.acknowledgements v
+read_marks s (Err r) v = without v.present s
 
 abbrev pub marks_after : ℕ → Reading → Node → ℕ
 marks_after s heard v = cond (is_own s v) (own_marks v) (read_marks s heard v)
 
 -- "One more mark for "yes heard", cleared .. in the own slot" (e).
 abbrev pub read_yes : ℕ → Reading → Node → Bool
-read_yes s (reading.Heard bits return_bit) v = v.yes_heard || hears_yes s bits v
-read_yes s (reading.Refused r) v = v.yes_heard
+read_yes s (Ok h) v = v.yes_heard || hears_yes s h.acknowledgements v
+read_yes s (Err r) v = v.yes_heard
 
 abbrev pub yes_after : ℕ → Reading → Node → Bool
 yes_after s heard v = not (is_own s v) && read_yes s heard v

@@ -23,7 +23,7 @@ pub struct Said {
 }
 
 // What a slot means to all who hold one row: that row; what the message says; and the member that the
-// sender decides, 0 for nobody. It is worked out once for all of them.
+// sender decides, 0 for nobody, by the definition `decided_row`. It is worked out once for all of them.
 #[derive(Clone, Copy)]
 pub struct Digest {
     pub row: Row,
@@ -41,13 +41,6 @@ struct Effect {
     returned: bool,
 }
 
-// What comes of step 3: the row after it, and whether this node is the one that leaves.
-#[derive(Clone, Copy)]
-struct Departure {
-    row: Row,
-    left: bool,
-}
-
 // ---- The digest
 
 // The acknowledgements heard; none where nothing is.
@@ -55,11 +48,8 @@ fn bits_heard(heard: Reading) -> u32
     ensures { result ≡ bits_heard heard }
 {
     match heard {
-        Reading::Heard {
-            acknowledgements,
-            return_bit: _,
-        } => acknowledgements,
-        Reading::Refused(_) => 0,
+        Ok(heard) => heard.acknowledgements,
+        Err(_) => 0,
     }
 }
 
@@ -74,9 +64,8 @@ fn said_of(s: u32, bits: u32, cable: Cable, row: Row) -> Said
     let here = row::has(row, s);
     let mut yes = nodeset::with(0, s);
     let mut no = 0;
-    let mut j = 0;
-    while j < most {
-        j += 1;
+    for earlier in 0..most {
+        let j = earlier + 1;
         let node = row_sponsors::back(row, rank, here, j + cable.lag);
         let bit = nodeset::has(bits, j);
         yes = nodeset::with_if(bit, yes, node);
@@ -98,9 +87,7 @@ pub fn digest_of(s: u32, heard: Reading, cable: Cable, row: Row) -> Digest
 fn is_for(digest: Digest, v: Held) -> bool
     ensures { result ≡ same_row digest.row v.row }
 {
-    let one = digest.row;
-    let other = v.row;
-    row::same(one, other)
+    row::same(digest.row, v.row)
 }
 
 // What the message says, by the digest, if it is that of the node's row.
@@ -110,9 +97,7 @@ fn said_by(digest: Digest, s: u32, bits: u32, v: Held) -> Said
     if is_for(digest, v) {
         return digest.said;
     }
-    let cable = v.cable;
-    let row = v.row;
-    said_of(s, bits, cable, row)
+    said_of(s, bits, v.cable, v.row)
 }
 
 // The member that the sender decides, by the digest, if it is that of the node's row.
@@ -122,9 +107,7 @@ fn decided_by(digest: Digest, s: u32, v: Held) -> u32
     if is_for(digest, v) {
         return digest.decided;
     }
-    let cable = v.cable;
-    let row = v.row;
-    row_sponsors::decided(cable, row, s)
+    row_sponsors::decided(v.cable, v.row, s)
 }
 
 // ---- Steps 1 and 2
@@ -181,22 +164,21 @@ fn unheard_effect(s: u32, v: Held) -> Effect
 fn effect_of(digest: Digest, s: u32, heard: Reading, v: Held) -> Effect
     ensures { result ≡ effect_of digest s heard v }
 {
-    let Reading::Heard {
-        acknowledgements,
-        return_bit,
-    } = heard
-    else {
+    let Ok(heard) = heard else {
         return unheard_effect(s, v);
     };
-    heard_effect(said_by(digest, s, acknowledgements, v), return_bit, v)
+    heard_effect(
+        said_by(digest, s, heard.acknowledgements, v),
+        heard.return_bit,
+        v,
+    )
 }
 
 // Step 1: the marks, and whether a return bit was heard while knocking.
 fn marked(effect: Effect, v: Held) -> Held
     ensures { result ≡ marked_by effect v }
 {
-    let state = v.state;
-    let heard = v.return_heard | (is_knocking(state) & effect.returned);
+    let heard = v.return_heard | (is_knocking(v.state) & effect.returned);
     node_changes::with_marks(effect.marks, effect.yes, heard, v)
 }
 
@@ -205,16 +187,15 @@ fn marked(effect: Effect, v: Held) -> Held
 fn noted(s: u32, heard: bool, v: Held) -> Held
     ensures { result ≡ noted_by s heard v }
 {
-    let state = v.state;
     let free = v.returning == 0;
     if s == v.own {
-        if is_following(state) & free {
+        if is_following(v.state) & free {
             return node_changes::with_returning(State::Knocking, v.own, v);
         }
         return v;
     }
     if heard & free {
-        return node_changes::with_returning(state, s, v);
+        return node_changes::with_returning(v.state, s, v);
     }
     v
 }
@@ -231,7 +212,8 @@ fn taken(inside: bool, s: u32, effect: Effect, v: Held) -> Held
 
 // ---- Step 3
 
-// The decided member; 0 where there is none, or the sender is outside the set.
+// The decided member; 0 where there is none, or the sender is outside the set, by the definition
+// `decided_where`: nobody leaves then (`stays_on`).
 fn decided_where(inside: bool, m: u32) -> u32
     ensures { result ≡ decided_where inside m }
 {
@@ -245,29 +227,24 @@ fn stays_on(m: u32, v: Held) -> bool
     (m == 0) | nodeset::has(v.present, m)
 }
 
-// The departures, with the member that is decided first: in the shortened row the sender may decide
-// another. At most n members leave.
-fn departures(m: u32, s: u32, v: Held) -> Departure
+// The row after the departures, none where this node is the one that leaves. The member decided first
+// is given: in the shortened row the sender may decide another. At most n members leave.
+fn departures(m: u32, s: u32, v: Held) -> Option<Row>
     ensures { result ≡ departures v.cable.n m s v.row v }
 {
-    let cable = v.cable;
-    let mut times = cable.n;
     let mut row = v.row;
     let mut m = m;
-    loop {
-        if times == 0 {
-            break Departure { row, left: false };
-        }
+    for _ in 0..v.cable.n {
         if stays_on(m, v) {
-            break Departure { row, left: false };
+            return Some(row);
         }
         if m == v.own {
-            break Departure { row, left: true };
+            return None;
         }
-        times -= 1;
         row = row::without(row, m);
-        m = row_sponsors::decided(cable, row, s);
+        m = row_sponsors::decided(v.cable, row, s);
     }
+    Some(row)
 }
 
 // ---- Steps 4 and 5
@@ -276,8 +253,7 @@ fn departures(m: u32, s: u32, v: Held) -> Departure
 fn too_few(v: Held) -> bool
     ensures { result ≡ too_few v }
 {
-    let state = v.state;
-    !is_member(state) & (v.row.length < 2)
+    !is_member(v.state) & (v.row.length < 2)
 }
 
 // Step 4: whether no other member is marked.
@@ -294,10 +270,7 @@ fn joins(s: u32, v: Held) -> bool
     if v.returning == 0 {
         return false;
     }
-    let cable = v.cable;
-    let order = cable.order;
-    let row = v.row;
-    row_sponsors::before(order, row, v.returning, 1) == s
+    row_sponsors::before(v.cable.order, v.row, v.returning, 1) == s
 }
 
 // The state of a node that is on the list.
@@ -317,25 +290,13 @@ fn state_on_list(state: State) -> State
 fn joined(v: Held) -> Held
     ensures { result ≡ joined v }
 {
-    let state = v.state;
-    let next = state_on_list(state);
-    let cable = v.cable;
-    let order = cable.order;
-    let members = v.row;
-    let row = row::with(order, members, v.returning);
-    let present = nodeset::with(v.present, v.returning);
-    let window = v.listening;
     Held {
-        cable,
-        own: v.own,
-        slots: v.slots,
-        state: next,
-        row,
-        present,
+        state: state_on_list(v.state),
+        row: row::with(v.cable.order, v.row, v.returning),
+        present: nodeset::with(v.present, v.returning),
         returning: 0,
         return_heard: false,
-        yes_heard: v.yes_heard,
-        listening: window,
+        ..v
     }
 }
 
@@ -343,8 +304,7 @@ fn joined(v: Held) -> Held
 fn join(v: Held) -> Held
     ensures { result ≡ join v }
 {
-    let state = v.state;
-    if is_knocking(state) & !v.return_heard {
+    if is_knocking(v.state) & !v.return_heard {
         return node_changes::with_returning(State::Following, 0, v);
     }
     joined(v)
@@ -378,10 +338,8 @@ pub fn tracking_slot(s: u32, heard: Reading, digest: Digest, v: Held) -> Held
     }
     let w = taken(inside, s, effect, v);
     let m = decided_where(inside, decided_by(digest, s, v));
-    let departure = departures(m, s, w);
-    if departure.left {
+    let Some(row) = departures(m, s, w) else {
         return node_changes::leave(Cause::Unconfirmed, w);
-    }
-    let row = departure.row;
+    };
     settle(inside, s, node_changes::with_row(row, w))
 }

@@ -11,24 +11,38 @@
 // an outcome does not have is 0. The functions are safe and end; no contract says more.
 #![tactic(auto)]
 
-use bench::{Fate, Listed, Outcome};
+use bench::{Fate, Outcome};
 use node_bytes::{bytes, rows};
-use node_record::Held;
 use plan_program::{Part, Plan};
 use refusal::Refusal;
+use run_io::block;
 use run_io::block::Block;
-use run_io::input::Head;
 use run_io::output::Sink;
-use run_io::{block, output};
 use std::io::Write;
 
-// How many bytes follow the letter and the byte after it.
-pub fn body(letter: u8) -> u8 {
+// What a command loads.
+#[derive(Clone, Copy)]
+pub enum Target {
+    Plan,
+    Row,
+    Part,
+}
+
+pub fn target_of(letter: u8) -> Option<Target> {
     match letter {
-        b'P' => 35,
-        b'L' => bytes::RECORD,
-        b'T' => 129,
-        _ => 0,
+        b'P' => Some(Target::Plan),
+        b'L' => Some(Target::Row),
+        b'T' => Some(Target::Part),
+        _ => None,
+    }
+}
+
+// How many bytes follow the letter and the byte after it.
+pub fn body(target: Target) -> u8 {
+    match target {
+        Target::Plan => 35,
+        Target::Row => bytes::RECORD,
+        Target::Part => 129,
     }
 }
 
@@ -41,6 +55,7 @@ fn fate_of(number: u8) -> Fate {
     }
 }
 
+// This and `set_list` stand in `bench_runs`, too: neither crate stands on the other.
 fn fate_number(fate: Fate) -> u8 {
     match fate {
         Fate::Silent => 0,
@@ -50,21 +65,21 @@ fn fate_number(fate: Fate) -> u8 {
     }
 }
 
-fn list_of(block: &Block) -> Listed {
+fn list_of(block: &Block) -> Option<u32> {
     if block[26] == 1 {
-        Listed::Set(block::word(block, 27))
+        Some(block::word(block, 27))
     } else {
-        Listed::Nobody
+        None
     }
 }
 
-fn set_list(answer: &mut Block, list: Listed) {
+fn set_list(answer: &mut Block, list: Option<u32>) {
     match list {
-        Listed::Set(set) => {
+        Some(set) => {
             answer[26] = 1;
             block::set_word(answer, 27, set);
         }
-        Listed::Nobody => {}
+        None => {}
     }
 }
 
@@ -82,6 +97,7 @@ fn outcome_of(block: &Block) -> Outcome {
     }
 }
 
+// Sets the bytes from 12 on, where a command has them.
 fn set_outcome(answer: &mut Block, outcome: Outcome) {
     match outcome {
         Outcome::Quiet => {}
@@ -100,39 +116,17 @@ fn set_outcome(answer: &mut Block, outcome: Outcome) {
     }
 }
 
-fn with_row(plan: Plan, row: usize, record: Held) -> Plan {
-    let rows = plan.rows;
-    let rows = rows::loaded(rows, row, record);
-    let outcome = plan.outcome;
-    Plan {
-        lines: plan.lines,
-        n: plan.n,
-        rows: rows,
-        over: plan.over,
-        outcome: outcome,
-    }
+fn put_outcome<W: Write>(output: &mut Sink<W>, outcome: Outcome) {
+    let mut answer = [0u8; 255];
+    set_outcome(&mut answer, outcome);
+    output.put_all(&answer[12..35]);
 }
 
-fn with_numbers(plan: Plan, over: u8, block: &Block) -> Plan {
-    let rows = plan.rows;
-    let outcome = outcome_of(block);
-    Plan {
-        lines: block::long_word(block, 0),
-        n: block::word(block, 8),
-        rows: rows,
-        over: over == 1,
-        outcome: outcome,
-    }
-}
-
-// The plan after a command that loads; any other command leaves it.
-pub fn plan_loaded(plan: Plan, head: Head, block: &Block) -> Plan {
-    let letter = head.letter;
-    match letter {
-        b'P' => with_numbers(plan, head.byte, block),
-        b'L' => with_row(plan, head.byte as usize, bytes::held_of(block)),
-        _ => plan,
-    }
+fn load_plan(plan: &mut Plan, over: u8, block: &Block) {
+    plan.lines = block::long_word(block, 0);
+    plan.n = block::word(block, 8);
+    plan.over = over == 1;
+    plan.outcome = outcome_of(block);
 }
 
 fn part_of(block: &Block) -> Part {
@@ -142,31 +136,25 @@ fn part_of(block: &Block) -> Part {
     }
 }
 
-// The part after a command that loads; any other command leaves it.
-pub fn part_loaded(part: Part, head: Head, block: &Block) -> Part {
-    let letter = head.letter;
-    match letter {
-        b'T' => part_of(block),
-        _ => part,
+// The byte after the letter is `byte`.
+pub fn load(plan: &mut Plan, part: &mut Part, target: Target, byte: u8, block: &Block) {
+    match target {
+        Target::Plan => load_plan(plan, byte, block),
+        Target::Row => rows::load(&mut plan.rows, byte, bytes::held_of(block)),
+        Target::Part => *part = part_of(block),
     }
 }
 
 // Over (a byte), lines, n and outcome of the plan, and its 32 rows.
-pub fn put_plan<W: Write>(output: &mut Sink<W>, held: usize, plan: Plan) -> usize {
-    let over = if plan.over { 1 } else { 0 };
-    let held = output::put(output, held, over);
-    let mut answer = [0u8; 255];
-    block::set_long_word(&mut answer, 0, plan.lines);
-    block::set_word(&mut answer, 8, plan.n);
-    let outcome = plan.outcome;
-    set_outcome(&mut answer, outcome);
-    let held = output::put_block(output, held, &answer, 35);
-    let rows = plan.rows;
-    rows::put_rows(output, held, rows)
+pub fn put_plan<W: Write>(output: &mut Sink<W>, plan: &Plan) {
+    output.put(u8::from(plan.over));
+    output.put_long_words(&[plan.lines]);
+    output.put_all(&plan.n.to_le_bytes());
+    put_outcome(output, plan.outcome);
+    rows::put_rows(output, &plan.rows);
 }
 
 // The part's length (eight bytes) and its 121 bytes.
-pub fn put_part<W: Write>(output: &mut Sink<W>, held: usize, part: Part) -> usize {
-    let text = part.text;
-    text_bytes::put_text(output, held, part.length, text)
+pub fn put_part<W: Write>(output: &mut Sink<W>, part: &Part) {
+    text_bytes::put_text(output, part.length, &part.text);
 }

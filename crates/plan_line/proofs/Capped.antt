@@ -1,5 +1,6 @@
 -- No test of a plan tells numbers of 100 or more apart.
 -- Assumes nothing.
+use Rattle.std.specs.Prelude.{Err}
 use Prim.Native.Nat.{ℕ, zero, suc, ◌-◌, ◌≤◌, ◌<◌, min}
 use mathlib.Core.Path.{◌≡◌, refl, sym, ap, ◌∙◌}
 use mathlib.Core.Bool.{true, false, and-eq-true_iff}
@@ -11,7 +12,6 @@ use borrow.Author.Tests.{leb-true, lt-leb, le-ltb}
 use Rattle.refusal.specs.declared.Refusal.TheVariants.{RingSize, SponsorCount}
 use Rattle.nodeset.specs.Sets.{with}
 use Rattle.cable.specs.Cable.{node_number, ring_size}
-use Rattle.plan_line.specs.declared.Opening.TheVariants.{Refused}
 use Rattle.plan_line.specs.Plan.{if_opened, in_ring, ring_of}
 use Rattle.plan_line.proofs.Words.{and-false}
 
@@ -41,11 +41,11 @@ with-large s (suc i) h = simp (le-ltb i 32 (omega arith))
 pub with-capped : (s v : ℕ) → with s (min v 100) ≡ with s v
 with-capped s v = capped (λ (x : ℕ). with s x ≡ with s v) v refl (λ h. with-large s 100 (omega arith) ∙ sym (with-large s v (omega arith)))
 
-ring-large : (n k : ℕ) → 32 < n → ring_of n k ≡ Refused RingSize
+ring-large : (n k : ℕ) → 32 < n → ring_of n k ≡ Err RingSize
 unfolding ring_of
 ring-large n k h = rw (lt-leb n 32 h, and-false)
 
-sponsors-large : (n k : ℕ) → n ≤ 32 → 32 < k → ring_of n k ≡ if_opened (ring_size n) RingSize (Refused SponsorCount)
+sponsors-large : (n k : ℕ) → n ≤ 32 → 32 < k → ring_of n k ≡ if_opened (ring_size n) RingSize (Err SponsorCount)
 unfolding ring_of
 sponsors-large n k small h = rw (lt-leb k (n - 1) (omega arith), and-false)
 
@@ -58,5 +58,5 @@ ring-capped n k = go (dec_le n 32)
         ap (λ (m : ℕ). ring_of m (min k 100)) same
         ∙ capped (λ (x : ℕ). ring_of n x ≡ ring_of n k) k refl (λ more. sponsors-large n 100 h (omega arith) ∙ sym (sponsors-large n k h (omega arith)))
     go (no h) =
-        capped (λ (m : ℕ). ring_of m (min k 100) ≡ Refused RingSize) n (ring-large n (min k 100) (omega arith)) (λ more. ring-large 100 (min k 100) (omega arith))
+        capped (λ (m : ℕ). ring_of m (min k 100) ≡ Err RingSize) n (ring-large n (min k 100) (omega arith)) (λ more. ring-large 100 (min k 100) (omega arith))
         ∙ sym (ring-large n k (omega arith))

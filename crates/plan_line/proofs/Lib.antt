@@ -3,5 +3,4 @@ pub mod Words
 pub mod Numbers
 pub mod Capped
 pub mod Lists
-pub mod Cases
 pub mod Ranges

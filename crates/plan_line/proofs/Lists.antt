@@ -1,5 +1,6 @@
 -- A list of numbers, word by word: what the words that are left say after those that were read, and where each word of a text stands.
 -- Assumes nothing.
+use Rattle.std.specs.Prelude.{Ok, Err}
 use Prim.Native.Nat.{ℕ, suc, ◌+◌, ◌-◌, ◌≤◌, ◌<◌, min}
 use mathlib.Core.Path.{◌≡◌, refl, ap, ◌∙◌}
 use mathlib.Core.Bool.{Bool, true, false, cond, ◌&&◌, and-eq-true_iff}
@@ -10,11 +11,19 @@ use lib.ListN.{length, take, drop, length-drop}
 use lib.Seq.{drop-drop}
 use lib.Dec.{eqb, leb, leb-suc-suc}
 use borrow.Author.Tests.{le-leb, lt-leb}
+use denote.Param.Members.{Mut}
+use denote.Ref.{Bor}
+use Rattle.std.specs.declared.slice.Split.{Split}
+use Rattle.std.specs.Fn.{CalledAt}
+use Rattle.std.specs.List.{onto_first, slice_split}
+use Rattle.std.specs.Slice.Iter.{split_callee, split_done, split_rest, split_steps}
+use Rattle.std.proofs.lemmas.Iterator.{YieldsList}
+use Rattle.std.proofs.lemmas.Iterator.Splits.{YieldsList-from_slice_split}
 use Rattle.refusal.specs.declared.Refusal.TheVariants.{NodeNumber, PlanLine}
 use Rattle.nodeset.specs.Sets.{with}
 use Rattle.plan_line.specs.declared.Missed.{Missed}
-use Rattle.plan_line.specs.declared.Line.{Line}
-use Rattle.plan_line.specs.declared.Line.TheVariants.{Miss, Refused}
+use Rattle.plan_line.specs.Plan.{Said}
+use Rattle.plan_line.specs.declared.Line.TheVariants as lines
 use Rattle.plan_line.specs.Words.{gap, is_number, least_after, longer, parted, value_of, words_of}
 use Rattle.plan_line.specs.Plan.{all_in_ring, all_numbers, if_said, in_ring, missed_with, missed_line, missing_of, rising_from, values_of, with_all}
 use Rattle.plan_line.proofs.Words.{and-false}
@@ -24,11 +33,11 @@ use Rattle.plan_line.proofs.Capped.{in-ring-capped, with-capped}
 -- ---- what is left
 
 -- What a line says whose words so far came to `missed`, the last of them `last`, with these words left.
-unfoldable pub rest : ℕ → List ℕ → Missed → List (List ℕ) → Line
+unfoldable pub rest : ℕ → List ℕ → Missed → List (List ℕ) → Said
 rest n last missed words =
     if_said (all_numbers words && rising_from (least_after last) (values_of words)) PlanLine
     (if_said (missed.inside && all_in_ring n (values_of words)) NodeNumber
-    (Miss (with_all missed.set (values_of words))))
+    (Ok (lines.Miss (with_all missed.set (values_of words)))))
 
 pub rest-start : (n : ℕ) (text : List ℕ) → missing_of n text ≡ rest n [] (record { inside = true; set = 0 }) (words_of text)
 unfolding missing_of rest
@@ -50,10 +59,10 @@ one-fails false b c d e = refl
 
 pub rest_end : (n : ℕ) (last : List ℕ) (missed : Missed) → rest n last missed [] ≡ missed_line missed
 unfolding rest all_numbers values_of rising_from all_in_ring with_all
-rest_end n last missed = ap (λ (b : Bool). if_said b NodeNumber (Miss missed.set)) (and-true missed.inside)
+rest_end n last missed = ap (λ (b : Bool). if_said b NodeNumber (Ok (lines.Miss missed.set))) (and-true missed.inside)
 
 pub rest-stop : (n : ℕ) (last : List ℕ) (missed : Missed) (word : List ℕ) (words : List (List ℕ)) → (is_number word && leb (least_after last) (value_of word)) ≡ false
-    → rest n last missed (word ∷ words) ≡ Refused PlanLine
+    → rest n last missed (word ∷ words) ≡ Err PlanLine
 unfolding rest all_numbers values_of rising_from
 rest-stop n last missed word words e =
     simp (one-fails (is_number word) (all_numbers words) (leb (least_after last) (value_of word)) (rising_from (suc (value_of word)) (values_of words)) e)
@@ -71,7 +80,7 @@ rest-next n last missed word words e =
     let v = value_of word in
     let least : least_after word ≡ suc v = least_more word (form word both.0).0 in
     simp (both.0, both.1, least)
-    (ap (λ (b : Bool). if_said (all_numbers words && rising_from (suc v) (values_of words)) PlanLine (if_said b NodeNumber (Miss (with_all (with missed.set v) (values_of words)))))
+    (ap (λ (b : Bool). if_said (all_numbers words && rising_from (suc v) (values_of words)) PlanLine (if_said b NodeNumber (Ok (lines.Miss (with_all (with missed.set v) (values_of words))))))
     (and_assoc missed.inside (in_ring n v) (all_in_ring n (values_of words))))
 
 pub joined-capped : (n : ℕ) (missed : Missed) (v : ℕ) → missed_with n missed (min v 100) ≡ missed_with n missed v
@@ -79,7 +88,19 @@ joined-capped n missed v = cc (in-ring-capped n v, with-capped missed.set v)
 
 -- ---- where the parts of a text stand
 
+onto : (b : ℕ) (parts : List (List ℕ)) → onto_first b parts ≡ longer b parts
+onto b [] = refl
+onto b (part ∷ parts) = refl
+
 module _ (mark : ℕ) where
+  -- the parts are the pieces of std's `split`
+  pub pieces : (l : List ℕ) → slice_split (λ b. eqb b mark) l ≡ parted mark l
+  unfolding parted
+  pieces [] = refl
+  pieces (b ∷ l) =
+      ap (λ (ps : List (List ℕ)). cond (eqb b mark) ([] ∷ ps) (onto_first b ps)) (pieces l)
+      ∙ ap (cond (eqb b mark) ([] ∷ parted mark l)) (onto b (parted mark l))
+
   pub gap-le : (l : List ℕ) → gap mark l ≤ length l
   unfolding gap
   gap-le [] = omega arith
@@ -138,3 +159,9 @@ module _ (mark : ℕ) where
   pub from_end : (l : List ℕ) (i : ℕ) → length l < i → parts_from l i ≡ []
   unfolding parts_from
   from_end l i h = simp (lt-leb i (length l) h)
+
+-- std's `split` at the spaces gives the words
+pub split-words : {F : Type 0} {s : Split ℕ F} (g : Mut F (Bor ℕ × Unit {0}) Bool) {f : F} (text : List ℕ) → split_rest s ≡ text → split_done s ≡ false → split_callee s ≡ f
+    → ((x : ℕ) (b : Bool) (q : F) → CalledAt g f x b q → (q ≡ f) × (b ≡ eqb x 32)) → YieldsList (split_steps g) (λ x. x.now) s (words_of text)
+split-words {s = s} g text left more callee computes =
+    rw (pieces 32 text) at (YieldsList-from_slice_split {s = s} g (λ b. eqb b 32) text left more callee computes)

@@ -6,11 +6,14 @@ use mathlib.Core.Bool.{Bool, true, false, cond, not, ◌&&◌, and-eq-true_iff}
 use mathlib.Core.List.{List, [], ◌∷◌}
 use native.Mathlib.Omega.{arith}
 use native.Mathlib.Decide.{dec_lt, ℕ_discrete}
-use lib.ListN.{length, get_or, drop}
-use native.Mathlib.Numerals.{add-one}
-use lib.Seq.{drop-cons, drop-length}
+use lib.ListN.{length, get_or}
 use lib.Dec.{eqb, leb, ltb}
 use borrow.Author.Tests.{le-leb, eq-eqb, ne_eqb, lt-ltb, le-ltb, ltb-true, leb-true, not-true}
+use Rattle.std.specs.Cmp.Lexicographic.{slice_partial_cmp}
+use Rattle.std.specs.Prelude.{Some}
+use Rattle.std.specs.Ordering.{is_lt, is_some_and, nat_cmp}
+use Rattle.std.proofs.lemmas.Bool.Decides.{nat_tests}
+use Rattle.std.proofs.lemmas.Cmp.{same_from_slice_cmp_tested}
 use Rattle.plan_line.specs.Words.{all_digits, is_digit, is_number, leading_zero, least_after, value_from, value_of}
 use Rattle.plan_line.proofs.Words.{and-false}
 
@@ -51,9 +54,6 @@ zero-alone w h = simp (le-ltb 1 (length w) h)
 pub zero-not : (w : List ℕ) → (get_or w 0 0 ≡ 48 → ⊥) → leading_zero w ≡ false
 zero-not w h = rw (ne_eqb (get_or w 0 0) 48 h) (and-false (ltb 1 (length w)))
 
-pub zero-first : (w : List ℕ) → 1 < length w → get_or w 0 0 ≡ 48 → leading_zero w ≡ true
-zero-first w long e = simp (lt-ltb 1 (length w) long, eq-eqb (get_or w 0 0) 48 e)
-
 -- ---- the order
 
 -- more before digits of the same number is more
@@ -87,9 +87,10 @@ shorter a (b ∷ d ∷ bl) some few da db zb =
     let first = first-digit b d bl zb in
     value-longer (0 * 10 + (b - 48)) a (d ∷ bl) (omega arith) da (omega arith)
 
--- the first digit that differs decides
+-- the first digit that differs decides; where none does, the longer is more
 unfoldable pub lexb : List ℕ → List ℕ → Bool
-lexb [] b = false
+lexb [] [] = false
+lexb [] (y ∷ b) = true
 lexb (x ∷ a) [] = false
 lexb (x ∷ a) (y ∷ b) = cond (eqb x y) (lexb a b) (ltb x y)
 
@@ -178,22 +179,7 @@ module _ (last word : List ℕ) (zero-free : leading_zero last ≡ false) (digit
       same_case [] d h = absurd (omega (arith, (form word number).0))
       same_case (b ∷ l) d h = by_digits 0 (b ∷ l) word h d (form word number).2
 
--- one digit more
-module _ (a b : List ℕ) (i : ℕ) (in-a : i < length a) (in_b : i < length b) where
-  lex-at : lexb (drop i a) (drop i b) ≡ cond (eqb (get_or a i 0) (get_or b i 0)) (lexb (drop (i + 1) a) (drop (i + 1) b)) (ltb (get_or a i 0) (get_or b i 0))
-  unfolding lexb
-  lex-at = rw (drop-cons a i 0 in-a, drop-cons b i 0 in_b, add-one i)
-
-  pub lex-next : get_or a i 0 ≡ get_or b i 0 → lexb (drop i a) (drop i b) ≡ lexb (drop (i + 1) a) (drop (i + 1) b)
-  lex-next e =
-      lex-at
-      ∙ ap (λ (t : Bool). cond t (lexb (drop (i + 1) a) (drop (i + 1) b)) (ltb (get_or a i 0) (get_or b i 0))) (eq-eqb (get_or a i 0) (get_or b i 0) e)
-
-  pub lex-stop : (get_or a i 0 ≡ get_or b i 0 → ⊥) → lexb (drop i a) (drop i b) ≡ ltb (get_or a i 0) (get_or b i 0)
-  lex-stop h =
-      lex-at
-      ∙ ap (λ (t : Bool). cond t (lexb (drop (i + 1) a) (drop (i + 1) b)) (ltb (get_or a i 0) (get_or b i 0))) (ne_eqb (get_or a i 0) (get_or b i 0) h)
-
-pub lex-end : (a b : List ℕ) (i : ℕ) → i ≡ length a → lexb (drop i a) (drop i b) ≡ false
+-- as std's `<` of slices says it
+pub lex-is : (a b : List ℕ) (r : Bool) → r ≡ is_some_and is_lt (slice_partial_cmp (λ x y. Some (nat_cmp x y)) a b) → r ≡ lexb a b
 unfolding lexb
-lex-end a b i e = ap (λ (j : ℕ). lexb (drop j a) (drop i b)) e ∙ ap (λ (k : List ℕ). lexb k (drop i b)) (drop-length a)
+lex-is = same_from_slice_cmp_tested nat_cmp is_lt lexb refl (λ _ _. refl) (λ _ _. refl) (λ x y xs ys o h. grind (arith, nat_tests))

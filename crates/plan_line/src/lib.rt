@@ -3,18 +3,11 @@
 #![tactic(auto)]
 
 ghost use Rattle.std.specs.Prelude.{◌≡◌, true, false, ◌&&◌, ◌+◌, min, drop, leb};
-ghost use Rattle.plan_line.specs.Words.{all_digits, begins, gap, is_number, leading_zero, least_after, same, value_of};
-ghost use Rattle.plan_line.specs.Plan.{in_ring, missed_with, missed_line, missing_of, named_of, numbers_of, off_line, on_line, opening_of, line_of, ring_of, word_of};
+ghost use Rattle.plan_line.specs.Words.{all_digits, gap, is_number, leading_zero, least_after, same, value_of};
+ghost use Rattle.plan_line.specs.Plan.{in_ring, missed_with, missed_line, missing_of, named_of, numbers_of, opening_of, line_of, ring_of, word_of};
 
 use cable::Choices;
 use refusal::Refusal;
-
-// What line one says.
-#[derive(Clone, Copy)]
-pub enum Opening {
-    Ring(u32, u32),
-    Refused(Refusal),
-}
 
 // What a later line says; Miss holds the set of the nodes named.
 #[derive(Clone, Copy)]
@@ -24,17 +17,10 @@ pub enum Line {
     Miss(u32),
     Off(u32),
     On(u32),
-    Refused(Refusal),
 }
 
-// The node that stands after a plan word.
-#[derive(Clone, Copy)]
-enum Named {
-    Node(u32),
-    Refused(Refusal),
-}
-
-// What came of the words after `miss ` so far: whether each names a node, and the set of the nodes.
+// What came of the words after `miss ` so far: whether each names a node, and the set of the nodes. No
+// `Option` of a set: the definition `missed_with` goes on with the set.
 #[derive(Clone, Copy)]
 struct Missed {
     inside: bool,
@@ -45,32 +31,15 @@ struct Missed {
 fn all_digits(word: &[u8]) -> bool
     ensures { result ≡ all_digits word.now }
 {
-    let mut i = 0;
-    while i < word.len() {
-        if word[i] < 48 {
-            return false;
-        }
-        if 57 < word[i] {
-            return false;
-        }
-        i += 1;
-    }
-    true
+    word.iter().all(|byte| byte.is_ascii_digit())
 }
 
 // Whether the word is a number: digits, at least one, and no 0 before others.
 pub fn is_number(word: &[u8]) -> bool
     ensures { result ≡ is_number word.now }
 {
-    if word.len() == 0 {
-        return false;
-    }
-    if 1 < word.len() {
-        if word[0] == 48 {
-            return false;
-        }
-    }
-    all_digits(word)
+    let leading_zero = 1 < word.len() && word[0] == 48;
+    !word.is_empty() && !leading_zero && all_digits(word)
 }
 
 // The value of a number, 100 where it is 100 or more: no test of a plan tells those apart.
@@ -79,10 +48,10 @@ pub fn small_value(word: &[u8]) -> u32
     ensures { result ≡ min (value_of word.now) 100 }
 {
     if word.len() == 1 {
-        return word[0] as u32 - 48;
+        return u32::from(word[0] - 48);
     }
     if word.len() == 2 {
-        return (word[0] as u32 - 48) * 10 + (word[1] as u32 - 48);
+        return u32::from(word[0] - 48) * 10 + u32::from(word[1] - 48);
     }
     100
 }
@@ -91,41 +60,19 @@ pub fn small_value(word: &[u8]) -> u32
 pub fn part_end(text: &[u8], from: usize, mark: u8) -> usize
     ensures { result ≡ from + gap mark (drop from text.now) }
 {
-    let mut i = from;
-    while i < text.len() {
+    for i in from..text.len() {
         if text[i] == mark {
             return i;
         }
-        i += 1;
     }
-    i
-}
-
-// Whether the line begins with the word's bytes.
-fn begins(word: &[u8], line: &[u8]) -> bool
-    ensures { result ≡ begins word.now line.now }
-{
-    if line.len() < word.len() {
-        return false;
-    }
-    let mut i = 0;
-    while i < word.len() {
-        if word[i] != line[i] {
-            return false;
-        }
-        i += 1;
-    }
-    true
+    from.max(text.len())
 }
 
 // Whether the line is just the word's bytes.
 pub fn same(word: &[u8], line: &[u8]) -> bool
     ensures { result ≡ same word.now line.now }
 {
-    if word.len() != line.len() {
-        return false;
-    }
-    begins(word, line)
+    word == line
 }
 
 // Whether the word, a number, is more than the last one. Where there is none yet, `last` is empty.
@@ -134,20 +81,10 @@ fn rises(last: &[u8], word: &[u8]) -> bool
     requires { (leading_zero last.now ≡ false) × (all_digits last.now ≡ true) × (is_number word.now ≡ true) }
     ensures { result ≡ leb (least_after last.now) (value_of word.now) }
 {
-    if last.len() < word.len() {
-        return true;
+    if last.len() != word.len() {
+        return last.len() < word.len();
     }
-    if word.len() < last.len() {
-        return false;
-    }
-    let mut i = 0;
-    while i < word.len() {
-        if last[i] != word[i] {
-            return last[i] < word[i];
-        }
-        i += 1;
-    }
-    false
+    last < word
 }
 
 // Whether the word is a number that may follow the last one.
@@ -155,10 +92,7 @@ fn follows(last: &[u8], word: &[u8]) -> bool
     requires { (leading_zero last.now ≡ false) × (all_digits last.now ≡ true) }
     ensures { result ≡ (is_number word.now && leb (least_after last.now) (value_of word.now)) }
 {
-    if !is_number(word) {
-        return false;
-    }
-    rises(last, word)
+    is_number(word) && rises(last, word)
 }
 
 // Whether a is a node of a ring of n.
@@ -169,17 +103,17 @@ fn in_ring(n: u32, a: u32) -> bool
 }
 
 // The node that a word names.
-fn node_named(n: u32, word: &[u8]) -> Named
+fn node_named(n: u32, word: &[u8]) -> Result<u32, Refusal>
     ensures { result ≡ named_of n word.now }
 {
     if !is_number(word) {
-        return Named::Refused(Refusal::PlanLine);
+        return Err(Refusal::PlanLine);
     }
     let a = small_value(word);
     if !in_ring(n, a) {
-        return Named::Refused(Refusal::NodeNumber);
+        return Err(Refusal::NodeNumber);
     }
-    Named::Node(a)
+    Ok(a)
 }
 
 // What came of the words so far, with one node more.
@@ -194,127 +128,102 @@ fn missed_with(n: u32, missed: Missed, a: u32) -> Missed
 }
 
 // What all the words say.
-fn missed_line(missed: Missed) -> Line
+fn missed_line(missed: Missed) -> Result<Line, Refusal>
     ensures { result ≡ missed_line missed }
 {
     if !missed.inside {
-        return Line::Refused(Refusal::NodeNumber);
+        return Err(Refusal::NodeNumber);
     }
-    Line::Miss(missed.set)
+    Ok(Line::Miss(missed.set))
 }
 
-// What the text after `miss ` says. The next word starts at `at`; the last one is last..end.
-fn missing(n: u32, text: &[u8]) -> Line
+// What the text after `miss ` says: its words stand between single spaces. Before the first, `last` is empty.
+fn missing(n: u32, text: &[u8]) -> Result<Line, Refusal>
     ensures { result ≡ missing_of n text.now }
 {
     let mut missed = Missed {
         inside: true,
         set: 0,
     };
-    let mut last = 0;
-    let mut end = 0;
-    let mut at = 0;
-    while at <= text.len() {
-        let next = part_end(text, at, 32);
-        if !follows(&text[last..end], &text[at..next]) {
-            return Line::Refused(Refusal::PlanLine);
+    let mut last: &[u8] = &[];
+    for word in text.split(|&byte| byte == 32) {
+        if !follows(last, word) {
+            return Err(Refusal::PlanLine);
         }
-        missed = missed_with(n, missed, small_value(&text[at..next]));
-        last = at;
-        end = next;
-        at = next + 1;
+        missed = missed_with(n, missed, small_value(word));
+        last = word;
     }
     missed_line(missed)
 }
 
-// A node to switch off.
-fn off_line(found: Named) -> Line
-    ensures { result ≡ off_line found }
-{
-    match found {
-        Named::Node(a) => Line::Off(a),
-        Named::Refused(cause) => Line::Refused(cause),
-    }
-}
-
-// A node to restart.
-fn on_line(found: Named) -> Line
-    ensures { result ≡ on_line found }
-{
-    match found {
-        Named::Node(a) => Line::On(a),
-        Named::Refused(cause) => Line::Refused(cause),
-    }
-}
-
 // What a line of any length says.
-fn word(n: u32, line: &[u8]) -> Line
+fn word(n: u32, line: &[u8]) -> Result<Line, Refusal>
     ensures { result ≡ word_of n line.now }
 {
     if same(b"ok", line) {
-        return Line::Ok;
+        return Ok(Line::Ok);
     }
     if same(b"lost", line) {
-        return Line::Lost;
+        return Ok(Line::Lost);
     }
-    if begins(b"miss ", line) {
-        return missing(n, &line[5..]);
+    if let Some(text) = line.strip_prefix(b"miss ") {
+        return missing(n, text);
     }
-    if begins(b"off ", line) {
-        return off_line(node_named(n, &line[4..]));
+    if let Some(node) = line.strip_prefix(b"off ") {
+        return node_named(n, node).map(Line::Off);
     }
-    if begins(b"on ", line) {
-        return on_line(node_named(n, &line[3..]));
+    if let Some(node) = line.strip_prefix(b"on ") {
+        return node_named(n, node).map(Line::On);
     }
-    Line::Refused(Refusal::PlanLine)
+    Err(Refusal::PlanLine)
 }
 
 // What a line after line one says. It refuses by 12 and 3, in this order.
-pub fn line_of(n: u32, line: &[u8]) -> Line
+pub fn line_of(n: u32, line: &[u8]) -> Result<Line, Refusal>
     ensures { result ≡ line_of n line.now }
 {
     if 120 < line.len() {
-        return Line::Refused(Refusal::PlanLine);
+        return Err(Refusal::PlanLine);
     }
     word(n, line)
 }
 
 // The opening by these two numbers: a ring of n nodes in which a member has k sponsors. It refuses by 1 and 2.
-fn ring_of(n: u32, k: u32) -> Opening
+fn ring_of(n: u32, k: u32) -> Result<(u32, u32), Refusal>
     ensures { result ≡ ring_of n k }
 {
     if !cable::is_ring_size(n) {
-        return Opening::Refused(Refusal::RingSize);
+        return Err(Refusal::RingSize);
     }
     if !cable::is_sponsor_count(cable::plain_cable(Choices { n, k, m: 0, lag: 0 })) {
-        return Opening::Refused(Refusal::SponsorCount);
+        return Err(Refusal::SponsorCount);
     }
-    Opening::Ring(n, k)
+    Ok((n, k))
 }
 
-// The ring that two words say.
-fn two_numbers(first: &[u8], second: &[u8]) -> Opening
+// The ring that two words say: n and k.
+fn two_numbers(first: &[u8], second: &[u8]) -> Result<(u32, u32), Refusal>
     ensures { result ≡ numbers_of first.now second.now }
 {
     if !is_number(first) {
-        return Opening::Refused(Refusal::PlanLine);
+        return Err(Refusal::PlanLine);
     }
     if !is_number(second) {
-        return Opening::Refused(Refusal::PlanLine);
+        return Err(Refusal::PlanLine);
     }
     ring_of(small_value(first), small_value(second))
 }
 
-// What line one says. It refuses by 12, 1 and 2, in this order.
-pub fn opening_of(line: &[u8]) -> Opening
+// What line one says, n and k. It refuses by 12, 1 and 2, in this order.
+pub fn opening_of(line: &[u8]) -> Result<(u32, u32), Refusal>
     ensures { result ≡ opening_of line.now }
 {
     if 120 < line.len() {
-        return Opening::Refused(Refusal::PlanLine);
+        return Err(Refusal::PlanLine);
     }
     let end = part_end(line, 0, 32);
     if line.len() <= end {
-        return Opening::Refused(Refusal::PlanLine);
+        return Err(Refusal::PlanLine);
     }
     two_numbers(&line[..end], &line[end + 1..])
 }

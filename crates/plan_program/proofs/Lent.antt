@@ -1,4 +1,5 @@
 -- A line that is carried out on the first rows of a plan's bench, which are taken as they are, is the line of specs/Program. Assumes nothing.
+use Rattle.std.specs.Prelude.{Err, Ok}
 use Prim.Native.Nat.{ℕ, ◌≤◌, ◌<◌}
 use mathlib.Core.Path.{◌≡◌, sym, ap, ◌∙◌}
 use mathlib.Core.Bool.{Bool, true, false, cond}
@@ -22,12 +23,10 @@ use Rattle.bench.specs.declared.Outcome.{Outcome}
 use Rattle.bench.specs.declared.Outcome.TheVariants as outcome
 use Rattle.plan_run.specs.bench_orders.Orders.{carried_from}
 use Rattle.bench_by_value.specs.ByValue.{Rows, table_of}
-use Rattle.plan_line.specs.declared.Opening.{Opening}
-use Rattle.plan_line.specs.declared.Opening.TheVariants as opening
+use Rattle.plan_line.specs.Plan.{Opening}
 use Rattle.plan_line.specs.Plan.{opening_of, line_of}
 use Rattle.plan_line.proofs.Ranges.{RingIn, opened}
-use Rattle.plan_run.specs.declared.Act.{Act}
-use Rattle.plan_run.specs.declared.Act.TheVariants as act
+use Rattle.plan_run.specs.Run.{Act}
 use Rattle.plan_run.specs.Run.{act_of, choices_of, no_rows, opened_by, opened_of, ran_by, ran_of}
 use Rattle.plan_run.specs.Inner.{errand_on, opening_act, outcome_on}
 use Rattle.plan_run.proofs.Glimpses as line
@@ -87,8 +86,8 @@ with-both L n {rows} {rows'} {o} {o'} e = ap (λ (l : Rows). plan_with L n l o) 
 
 -- line one
 first-is : (L : ℕ) (o : Opening) → RingIn o → plan_with L (opened_by o).n (left (size_of (opened_by o).n) no_rows (opening_act o)) (said (size_of (opened_by o).n) no_rows (opening_act o)) ≡ plan_opened L (opened_by o)
-first-is L (opening.Ring n k) r = with-both L n (on-bench n no_rows (opening_act (opening.Ring n k)) (length-replicate 32 (rowed no_node)) (omega (arith, ring-size n (fitting (cable_of n k) r).ring)) (line.opened n no_rows (choices_of n k)))
-first-is L (opening.Refused cause) r = with-both L 0 (line.refused 1 no_rows cause)
+first-is L (Ok (n, k)) r = with-both L n (on-bench n no_rows (opening_act (Ok (n, k))) (length-replicate 32 (rowed no_node)) (omega (arith, ring-size n (fitting (cable_of n k) r).ring)) (line.opened n no_rows (choices_of n k)))
+first-is L (Err cause) r = with-both L 0 (line.refused 1 no_rows cause)
 
 -- a later line
 later-is : (L n : ℕ) (rows : Rows) (a : Act) → length rows ≡ 32 → table_sound (table_of n rows) ≡ true → plan_with L n (left (size_of n) rows a) (said (size_of n) rows a) ≡ plan_ran L n (ran_by n rows a)
@@ -102,7 +101,7 @@ module _ (p : Plan) (l : List ℕ) where
   size over first = size_of (cond over p.n (cond first (opened_of l).n p.n))
 
   abbrev does : Bool → Bool → Act
-  does over first = cond over (act.Refuse PlanLine) (cond first (opening_act (opening_of l)) (act_of (line_of p.n l)))
+  does over first = cond over (Err PlanLine) (cond first (opening_act (opening_of l)) (act_of (line_of p.n l)))
 
   by-case : (over first : Bool) → cond over true (cond first true (table_sound (table_of p.n p.rows))) ≡ true → length (base over first) ≡ 32
       → plan_of (cond over p.lines (next_line p.lines)) (cond over p.n (cond first (opened_of l).n p.n)) (left (size over first) (base over first) (does over first))

@@ -1,4 +1,5 @@
 -- What the program prints is what is printed where the bench is a table of the rules (specs/OnSets): each line leaves rows that hold the table that it leaves there. Assumes nothing.
+use Rattle.std.specs.Prelude.{Err, Ok}
 use Prim.Native.Nat.{ℕ, zero, suc}
 use mathlib.Core.Path.{◌≡◌, refl, sym, ap, ap₂, ◌∙◌}
 use mathlib.Core.Bool.{true}
@@ -20,14 +21,12 @@ use Rattle.bench.specs.declared.Command.TheVariants as command
 use Rattle.bench.specs.declared.Outcome.{Outcome}
 use Rattle.bench_by_value.specs.ByValue as by_value
 use Rattle.bench_by_value.specs.ByValue.{Rows, table_of}
-use Rattle.plan_line.specs.declared.Opening.{Opening}
-use Rattle.plan_line.specs.declared.Opening.TheVariants as opening
-use Rattle.plan_line.specs.declared.Line.{Line}
+use Rattle.plan_line.specs.Plan.{Opening}
+use Rattle.plan_line.specs.Plan.{Said}
 use Rattle.plan_line.specs.Plan.{opening_of, line_of}
 use Rattle.plan_line.proofs.Ranges.{RingIn, opened}
 use Rattle.plan_text.specs.Text.{next_line}
-use Rattle.plan_run.specs.declared.Act.{Act}
-use Rattle.plan_run.specs.declared.Act.TheVariants as act
+use Rattle.plan_run.specs.Run.{Act}
 use Rattle.plan_run.specs.Run.{act_of, choices_of, no_rows, opened_by, ran_by}
 use Rattle.plan_run.proofs.Plain.{plain-set-up}
 use Rattle.plan_program.specs.declared.Plan.{Plan}
@@ -45,10 +44,10 @@ on_sets p = record { lines = p.lines; n = p.n; table = table_of p.n p.rows; over
 -- what there is to print is told of the table
 said-on : (n : ℕ) (rows : Rows) (a : Act) → (ran_by n rows a).outcome ≡ (act_on (table_of n rows) a).1
 unfolding by_value.call_of ended_of
-said-on n rows (act.Call c) = refl
-said-on n rows (act.Refuse cause) = refl
+said-on n rows (Ok c) = refl
+said-on n rows (Err cause) = refl
 
-ran-shown : (L n : ℕ) (rows : Rows) → table_sound (table_of n rows) ≡ true → (l : Line) → on_sets (plan_ran L n (ran_by n rows (act_of l))) ≡ set_plan L n (act_on (table_of n rows) (act_of l))
+ran-shown : (L n : ℕ) (rows : Rows) → table_sound (table_of n rows) ≡ true → (l : Said) → on_sets (plan_ran L n (ran_by n rows (act_of l))) ≡ set_plan L n (act_on (table_of n rows) (act_of l))
 ran-shown L n rows sound l = ap₂ (λ (t : Table) (o : Outcome). set_plan L n (t, o)) (line-left n rows sound l) (said-on n rows (act_of l))
 
 -- rows of no node hold records of no node
@@ -62,12 +61,12 @@ none-held (suc n) (suc m) = ap₂ {C = Table} (λ v t. v ∷ t) no-node-back (no
 
 opened-shown : (L : ℕ) (o : Opening) → RingIn o → on_sets (plan_opened L (opened_by o)) ≡ opened_on L o
 unfolding ended_of
-opened-shown L (opening.Ring n k) fits =
-    let a : Act = act.Call (command.SetUp (choices_of n k)) in
+opened-shown L (Ok (n, k)) fits =
+    let a : Act = Ok (command.SetUp (choices_of n k)) in
     let t = table_of n no_rows in
-    let left : table_of n (opened_by (opening.Ring n k)).rows ≡ (act_on t a).0 = opened-table n k fits ∙ sym (ap (λ (c : Called). c.table) (plain-set-up (choices_of n k) t)) in
+    let left : table_of n (opened_by (Ok (n, k))).rows ≡ (act_on t a).0 = opened-table n k fits ∙ sym (ap (λ (c : Called). c.table) (plain-set-up (choices_of n k) t)) in
     ap₂ (λ (x : Table) (o : Outcome). set_plan L n (x, o)) left (said-on n no_rows a) ∙ ap (λ (x : Table). set_plan L n (act_on x a)) (none-held n 32)
-opened-shown L (opening.Refused cause) fits = refl
+opened-shown L (Err cause) fits = refl
 
 line-shown : (p : Plan) (l : List ℕ) → plan_sound p ≡ true → on_sets (after_line p l) ≡ after_line_on (on_sets p) l
 unfolding plan_sound

@@ -1,6 +1,7 @@
 -- A text that comes in pieces prints what the whole text prints, though 121 bytes are kept of a line that has not ended; nothing is printed of what
 -- comes after a refusal.
 -- Assumes nothing.
+use Rattle.std.specs.Prelude.{Ok}
 use Prim.Native.Nat.{ℕ, zero, suc, ◌+◌, ◌*◌, ◌≤◌}
 use mathlib.Core.Path.{◌≡◌, refl, sym, ap, ◌∙◌}
 use mathlib.Core.Bool.{Bool, true, false, cond}
@@ -13,8 +14,7 @@ use borrow.Author.Tests.{le-leb}
 use Rattle.refusal.specs.declared.Refusal.TheVariants.{Unsound, OutputShort}
 use Rattle.plan_line.specs.Words.{parted}
 use Rattle.plan_text.specs.Text.{input_of, next_line, PutAt, pasted, refusal_text, written_of, Piece}
-use Rattle.plan_text.specs.declared.Written.{Written}
-use Rattle.plan_text.specs.declared.Written.TheVariants.{Bytes}
+use Rattle.plan_text.specs.Text.{Written}
 use Rattle.plan_text.proofs.Paste.{both, empty-take}
 use Rattle.plan_text.specs.Bytewise.{begun_with}
 use Rattle.plan_text.proofs.Bytewise.{begun-none}
@@ -89,7 +89,7 @@ module _ (p : Plan) (part : Part) (input out : List ℕ) where
   fed-some e f = simp (e, f)
 
   pub fed-run : {last : List ℕ} (r : Ahead) (rest : Part) → rest ≡ part_of (bytes_in r.part) → plan_sound p ≡ true → has_room input out ≡ true → Goes ran (length input) out r last
-      → fed_as (record { plan = r.plan; part = rest; written = Bytes r.count }) last ≡ fed_of p part input out
+      → fed_as (record { plan = r.plan; part = rest; written = Ok r.count }) last ≡ fed_of p part input out
   fed-run r rest cleaned e f goes =
       let count : r.count ≡ length ran.text = omega (arith, goes.put.end) in
       let kept : rest ≡ part_of (take 121 ran.rest) = cleaned ∙ ap part_of goes.part-is in
@@ -135,9 +135,9 @@ from_start input = ap (λ (ps : List (List ℕ)). whole_text (run_of no_plan ps)
 -- ---- what the calls write
 
 -- where there is room for the end
-finished : (p : Plan) (x last : List ℕ) → 80 ≤ length last → finished_of p x last ≡ (Bytes (length (end_text p x)), laid (end_text p x) last)
+finished : (p : Plan) (x last : List ℕ) → 80 ≤ length last → finished_of p x last ≡ (Ok (length (end_text p x)), laid (end_text p x) last)
 unfolding written_of
-finished p x last room = simp (le-leb 80 (length last) room) (ap (λ (l : List ℕ). (Bytes (length (end_text p x)), l)) (laid-is (end_text p x) last))
+finished p x last room = simp (le-leb 80 (length last) room) (ap (λ (l : List ℕ). (Ok (length (end_text p x)), l)) (laid-is (end_text p x) last))
 
 fed-texts : (pieces : List Piece) (p : Plan) (part : Part) (last : List ℕ) → plan_sound p ≡ true → Roomy pieces last
     → texts_fed p part pieces last ≡ whole_text (run_pieces p (bytes_in part) pieces)
@@ -213,7 +213,7 @@ whole p x input r plan-is begun-is goes end =
     rw (← all) (both (omega arith) goes.put end)
 
 pub printed-in : (input : List ℕ) {out last : List ℕ} {next : ℕ} → 80 * length input + 80 ≤ length out → PutAt next 0 (printed input) out last
-    → ◌≡◌ {A = Written × List ℕ} (Bytes next, last) (printed_in input out)
+    → ◌≡◌ {A = Written × List ℕ} (Ok next, last) (printed_in input out)
 unfolding printed_in
 printed-in input {out} {last} {next} room put =
     let count : next ≡ length (printed input) = omega (arith, put.end) in

@@ -1,5 +1,6 @@
 -- What a line does to the table: line one sets a sound one up, each later line makes its call on it and leaves it sound. So `feed` refuses by 4 no plan that it
 -- made. Assumes nothing.
+use Rattle.std.specs.Prelude.{Err, Ok}
 use Prim.Native.Nat.{ℕ, ◌+◌, ◌≤◌}
 use mathlib.Core.Path.{◌≡◌, refl, sym, ap, ◌∙◌}
 use mathlib.Core.Bool.{Bool, true, false, cond, false≢true}
@@ -14,14 +15,12 @@ use Rattle.node_record.proofs.nodeset.Tests.{by_cases}
 use Rattle.node_record.specs.cable.Cable.{cable_of, cable_fits}
 use Rattle.node_record.proofs.cable.Ranges.{ring-size, fitting}
 use Rattle.node_record.specs.Held.{rowed}
-use Rattle.bench.specs.node.declared.Answer.{Answer}
-use Rattle.bench.specs.node.declared.Answer.TheVariants as answer
+use Rattle.bench.specs.node.Answers.{Answer}
 use Rattle.bench.specs.Calls.{Called, set_up_of, slot_of, off_of, restart_of}
 use Rattle.bench.specs.Kept.{if_done}
 use Rattle.bench.specs.Held.{HeldTable, rowed_all, setted_all, held_by}
 use Rattle.bench.specs.declared.Command.TheVariants as command
 use Rattle.bench.proofs.Ledgers.{given-none}
-use Rattle.plan_run.specs.declared.Act.TheVariants as act
 use Rattle.bench.specs.node.Calls.{no_node}
 use Rattle.bench.specs.Table.{Table, record_of, slots_of, table_sound}
 use Rattle.bench.specs.Outcomes.{ended_of, slot_given}
@@ -31,9 +30,8 @@ use Rattle.bench.proofs.Runs.{placed-call, start-placed}
 use Rattle.bench.proofs.Standing.{length-setted, Keeps, set-up-keeps, off-keeps, restart-keeps, given-keeps, SoundIfMade, set-up-made, off-made, restart-made, slot-made, stands}
 use Rattle.bench_by_value.specs.ByValue as by_value
 use Rattle.bench_by_value.specs.ByValue.{Rows, table_of}
-use Rattle.plan_line.specs.declared.Opening.{Opening}
-use Rattle.plan_line.specs.declared.Opening.TheVariants as opening
-use Rattle.plan_line.specs.declared.Line.{Line}
+use Rattle.plan_line.specs.Plan.{Opening}
+use Rattle.plan_line.specs.Plan.{Said}
 use Rattle.plan_line.specs.declared.Line.TheVariants as lines
 use Rattle.plan_line.specs.Plan.{opening_of, line_of}
 use Rattle.plan_line.proofs.Ranges.{RingIn, opened}
@@ -64,8 +62,8 @@ held-length : (t : HeldTable) (called : Called) → length called.table ≡ leng
 held-length t called same = go called.answer
   where
     go : (a : Answer) → length (if_done a (rowed_all called.table) t) ≡ length t
-    go answer.Done = length-map called.table rowed ∙ same ∙ length-setted t
-    go (answer.Refused cause) = refl
+    go (Ok _) = length-map called.table rowed ∙ same ∙ length-setted t
+    go (Err cause) = refl
 
 -- the table of the rows after a call is the one that the call leaves
 table-left : (n : ℕ) (rows : Rows) (called : Called) → Keeps (table_of n rows) called → SoundIfMade called → length called.table ≡ length (table_of n rows)
@@ -98,46 +96,46 @@ module _ (n : ℕ) (rows : Rows) (sound : table_sound (table_of n rows) ≡ true
   abbrev t : Table
   t = table_of n rows
 
-  slot-left : (lost : Bool) (missed : ℕ) → table_of n (ran_by n rows (act.Call (command.Slot lost missed 0))).rows ≡ (slot_given lost missed 0 64 t).table
+  slot-left : (lost : Bool) (missed : ℕ) → table_of n (ran_by n rows (Ok (command.Slot lost missed 0))).rows ≡ (slot_given lost missed 0 64 t).table
   unfolding by_value.call_of call_of
   slot-left lost missed =
       table-left n rows (slot_given lost missed 0 64 t) (given-keeps lost missed 0 64 t) (slot-made lost missed 0 64 t sound)
       (ap (λ (c : Called). length c.table) (given-none lost missed 64 t) ∙ same_size t sound (slot lost missed 64))
 
   -- the rows after a line hold the table that its call leaves
-  pub line-left : (l : Line) → table_of n (ran_by n rows (act_of l)).rows ≡ (act_on t (act_of l)).0
+  pub line-left : (l : Said) → table_of n (ran_by n rows (act_of l)).rows ≡ (act_on t (act_of l)).0
   unfolding by_value.call_of call_of ended_of
-  line-left lines.Ok = slot-left false 0
-  line-left lines.Lost = slot-left true 0
-  line-left (lines.Miss missed) = slot-left false missed
-  line-left (lines.Off a) = table-left n rows (off_of a t) (off-keeps a t) (off-made a t sound) (same_size t sound (off a))
-  line-left (lines.On a) = table-left n rows (restart_of a t) (restart-keeps a t) (restart-made a t) (same_size t sound (restart a))
-  line-left (lines.Refused cause) = refl
+  line-left (Ok lines.Ok) = slot-left false 0
+  line-left (Ok lines.Lost) = slot-left true 0
+  line-left (Ok (lines.Miss missed)) = slot-left false missed
+  line-left (Ok (lines.Off a)) = table-left n rows (off_of a t) (off-keeps a t) (off-made a t sound) (same_size t sound (off a))
+  line-left (Ok (lines.On a)) = table-left n rows (restart_of a t) (restart-keeps a t) (restart-made a t) (same_size t sound (restart a))
+  line-left (Err cause) = refl
 
   -- a line's slot has job byte 0
   slot-call : (lost : Bool) (missed : ℕ) → (slot_given lost missed 0 64 t).table ≡ (slot_of lost missed 64 t).table
   slot-call lost missed = ap (λ (c : Called). c.table) (given-none lost missed 64 t)
 
-  line-call : (l : Line) → (act_on t (act_of l)).0 ≡ table_after t (made_by l)
+  line-call : (l : Said) → (act_on t (act_of l)).0 ≡ table_after t (made_by l)
   unfolding table_after call_of ended_of
-  line-call lines.Ok = slot-call false 0
-  line-call lines.Lost = slot-call true 0
-  line-call (lines.Miss missed) = slot-call false missed
-  line-call (lines.Off a) = refl
-  line-call (lines.On a) = refl
-  line-call (lines.Refused cause) = refl
+  line-call (Ok lines.Ok) = slot-call false 0
+  line-call (Ok lines.Lost) = slot-call true 0
+  line-call (Ok (lines.Miss missed)) = slot-call false missed
+  line-call (Ok (lines.Off a)) = refl
+  line-call (Ok (lines.On a)) = refl
+  line-call (Err cause) = refl
 
-  pub line-table : (l : Line) → table_of n (ran_by n rows (act_of l)).rows ≡ table_after t (made_by l)
+  pub line-table : (l : Said) → table_of n (ran_by n rows (act_of l)).rows ≡ table_after t (made_by l)
   line-table l = line-left l ∙ line-call l
 
-  line-sound : (l : Line) → table_sound (table_after t (made_by l)) ≡ true
+  line-sound : (l : Said) → table_sound (table_after t (made_by l)) ≡ true
   unfolding table_after
-  line-sound lines.Ok = still-sound t sound (slot false 0 64)
-  line-sound lines.Lost = still-sound t sound (slot true 0 64)
-  line-sound (lines.Miss missed) = still-sound t sound (slot false missed 64)
-  line-sound (lines.Off a) = still-sound t sound (off a)
-  line-sound (lines.On a) = still-sound t sound (restart a)
-  line-sound (lines.Refused cause) = sound
+  line-sound (Ok lines.Ok) = still-sound t sound (slot false 0 64)
+  line-sound (Ok lines.Lost) = still-sound t sound (slot true 0 64)
+  line-sound (Ok (lines.Miss missed)) = still-sound t sound (slot false missed 64)
+  line-sound (Ok (lines.Off a)) = still-sound t sound (off a)
+  line-sound (Ok (lines.On a)) = still-sound t sound (restart a)
+  line-sound (Err cause) = sound
 
 -- ---- line one
 
@@ -151,7 +149,7 @@ module _ (n k : ℕ) (fits : cable_fits (cable_of n k) ≡ true) where
   start : Placed (cable_of n k) 0 (start_of n k)
   start = start-placed (cable_of n k) fits (table_of n no_rows) one_each
 
-  pub opened-table : table_of n (opened_by (opening.Ring n k)).rows ≡ start_of n k
+  pub opened-table : table_of n (opened_by (Ok (n, k))).rows ≡ start_of n k
   unfolding by_value.call_of
   opened-table =
       let t = table_of n no_rows in
@@ -217,9 +215,9 @@ first-line p l begun going = simp (going, begun)
 
 opened-sound : (L : ℕ) (o : Opening) → RingIn o → plan_sound (plan_opened L (opened_by o)) ≡ true
 unfolding plan_sound
-opened-sound L (opening.Ring n k) r =
-    sound-table (plan_opened L (opened_by (opening.Ring n k))) (ap table_sound (opened-table n k r) ∙ start-sound n k r)
-opened-sound L (opening.Refused cause) r = refl
+opened-sound L (Ok (n, k)) r =
+    sound-table (plan_opened L (opened_by (Ok (n, k)))) (ap table_sound (opened-table n k r) ∙ start-sound n k r)
+opened-sound L (Err cause) r = refl
 
 pub sound-line : (p : Plan) (l : List ℕ) → plan_sound p ≡ true → plan_sound (after_line p l) ≡ true
 unfolding plan_sound

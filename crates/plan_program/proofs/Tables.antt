@@ -1,4 +1,5 @@
 -- The tables of a plan are those of its lines' calls. Assumes nothing.
+use Rattle.std.specs.Prelude.{Ok, Err}
 use Prim.Native.Nat.{ℕ}
 use mathlib.Core.Path.{◌≡◌, refl, sym, ap, ◌∙◌}
 use mathlib.Core.Bool.{Bool, true, false, cond}
@@ -7,9 +8,8 @@ use lib.Dec.{eqb}
 use Rattle.bench.specs.Table.{Table}
 use Rattle.bench.specs.Runs.{Call, table_after}
 use Rattle.bench_by_value.specs.ByValue.{table_of}
-use Rattle.plan_line.specs.declared.Opening.{Opening}
-use Rattle.plan_line.specs.declared.Opening.TheVariants.{Ring}
-use Rattle.plan_line.specs.declared.Line.{Line}
+use Rattle.plan_line.specs.Plan.{Opening}
+use Rattle.plan_line.specs.Plan.{Said}
 use Rattle.plan_line.specs.declared.Line.TheVariants as lines
 use Rattle.plan_line.specs.Plan.{line_of}
 use Rattle.plan_line.proofs.Ranges.{RingIn, opened}
@@ -36,14 +36,14 @@ in-turn : (start : Table) (p : Plan) (l : List ℕ) (before : List Call) → tab
 unfolding table_after
 in-turn start p l before = go p.over (line_of p.n l)
   where
-    go : (over : Bool) (said : Line) → table_after start (cond over [] (made_by said) ++ before) ≡ table_after (table_after start before) (cond over [] (made_by said))
+    go : (over : Bool) (said : Said) → table_after start (cond over [] (made_by said) ++ before) ≡ table_after (table_after start before) (cond over [] (made_by said))
     go true said = refl
-    go false lines.Ok = refl
-    go false lines.Lost = refl
-    go false (lines.Miss missed) = refl
-    go false (lines.Off a) = refl
-    go false (lines.On a) = refl
-    go false (lines.Refused cause) = refl
+    go false (Ok lines.Ok) = refl
+    go false (Ok lines.Lost) = refl
+    go false (Ok (lines.Miss missed)) = refl
+    go false (Ok (lines.Off a)) = refl
+    go false (Ok (lines.On a)) = refl
+    go false (Err cause) = refl
 
 -- A plan after line one and these calls.
 pub record Reached (start : Table) (p : Plan) (cs : List Call) : Type 0 where
@@ -69,13 +69,13 @@ all start p cs (l ∷ more) r = all start (after_line p l) (calls_in p l ++ cs) 
 -- ---- line one
 
 module _ (n k : ℕ) (first : List ℕ) (opens : Opens n k first) where
-  pub ring : RingIn (Ring n k)
+  pub ring : RingIn (Ok (n, k))
   ring = rw opens.says at (opened first)
 
   abbrev p₁ : Plan
   p₁ = after_line no_plan first
 
-  pub begun : p₁ ≡ plan_opened (next_line 0) (opened_by (Ring n k))
+  pub begun : p₁ ≡ plan_opened (next_line 0) (opened_by (Ok (n, k)))
   begun = first-line no_plan first refl refl ∙ ap (λ (o : Opening). plan_opened (next_line 0) (opened_by o)) opens.says
 
   pub reached-first : Reached (start_of n k) p₁ []

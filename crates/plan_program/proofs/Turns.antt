@@ -12,7 +12,7 @@ use Rattle.node_record.specs.declared.Held.{Held}
 use Rattle.bench.specs.declared.Outcome.{Outcome}
 use Rattle.plan_run.specs.bench_orders.Orders.{carried_from}
 use Rattle.bench_by_value.specs.ByValue.{Rows}
-use Rattle.plan_run.specs.declared.Act.{Act}
+use Rattle.plan_run.specs.Run.{Act}
 use Rattle.plan_run.specs.Inner.{errand_on, outcome_on}
 use Rattle.plan_text.specs.Text.{PutAt}
 use Rattle.plan_text.proofs.Paste.{both, nothing}

@@ -1,13 +1,12 @@
 -- What `feed`, `finish` and `print_plan` answer, what they leave in the lent bytes, and the law that ties them.
-use Rattle.std.specs.Prelude.{ℕ, ◌+◌, ◌*◌, ◌≡◌, ◌≤◌, Bool, true, cond, List, [], ◌∷◌, ◌++◌, eqb, leb, length, take, drop, replicate}
+use Rattle.std.specs.Prelude.{ℕ, ◌+◌, ◌*◌, ◌≡◌, ◌≤◌, Bool, true, cond, List, [], ◌∷◌, ◌++◌, eqb, leb, length, take, drop, replicate, Err, Ok}
 use Rattle.refusal.specs.declared.Refusal.{Refusal}
 use Rattle.refusal.specs.Causes.{cause}
 use Rattle.bench.specs.Table.{table_sound}
 use Rattle.bench_by_value.specs.ByValue.{table_of}
 use Rattle.plan_text.specs.Text.{input_of, written_in, written_of, Piece}
 use Rattle.plan_text.specs.Bytewise.{begun_with}
-use Rattle.plan_text.specs.declared.Written.{Written}
-use Rattle.plan_text.specs.declared.Written.TheVariants.{Bytes, Refused}
+use Rattle.plan_text.specs.Text.{Written}
 use Rattle.plan_program.specs.declared.Plan.{Plan}
 use Rattle.plan_program.specs.declared.Part.{Part}
 use Rattle.plan_program.specs.declared.Fed as code
@@ -53,11 +52,11 @@ pub record Fed : Type 0 where
 
 -- Of a line that has not ended 121 bytes are kept: "Lines of at most 120 bytes".
 abbrev pub fed_by : Run → List ℕ → Fed
-fed_by r out = record { plan = r.plan; part = part_of (take 121 r.rest); written = Bytes (length r.text); out = laid r.text out }
+fed_by r out = record { plan = r.plan; part = part_of (take 121 r.rest); written = Ok (length r.text); out = laid r.text out }
 
 -- A refusal changes nothing.
 abbrev pub unfed : Refusal → Plan → Part → List ℕ → Fed
-unfed cause p part out = record { plan = p; part = part; written = Refused cause; out = out }
+unfed cause p part out = record { plan = p; part = part; written = Err cause; out = out }
 
 unfoldable pub fed_of : Plan → Part → List ℕ → List ℕ → Fed
 fed_of p part input out =
@@ -75,8 +74,8 @@ fed_as r out = record { plan = r.plan; part = r.part; written = r.written; out =
 unfoldable pub printed_in : List ℕ → List ℕ → Written × List ℕ
 printed_in input out =
     cond (leb (80 * length input + 80) (length out))
-    (Bytes (length (printed input)), laid (printed input) out)
-    (Refused (cause 9), out)
+    (Ok (length (printed input)), laid (printed input) out)
+    (Err (cause 9), out)
 
 -- ---- finish: 9
 

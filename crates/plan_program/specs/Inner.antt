@@ -1,5 +1,5 @@
 -- Inner: the lines of a piece as the loop over them keeps them; what that loop leaves.
-use Rattle.std.specs.Prelude.{ℕ, ◌+◌, ◌-◌, ◌*◌, ◌≤◌, ◌≡◌, Bool, true, false, cond, List, [], ◌++◌, eqb, leb, ltb, length, take, drop}
+use Rattle.std.specs.Prelude.{ℕ, ◌+◌, ◌-◌, ◌*◌, ◌≤◌, ◌≡◌, Bool, true, false, cond, List, [], ◌++◌, eqb, leb, ltb, length, take, drop, Err, Ok}
 use Rattle.refusal.specs.declared.Refusal.TheVariants.{PlanLine}
 use Rattle.bench.specs.declared.Outcome.{Outcome}
 use Rattle.bench.specs.declared.Outcome.TheVariants as outcome
@@ -7,10 +7,8 @@ use Rattle.bench_by_value.specs.ByValue.{Rows}
 use Rattle.plan_line.specs.Words.{gap}
 use Rattle.plan_line.specs.Plan.{line_of, opening_of}
 use Rattle.plan_text.specs.Text.{next_line, PutAt}
-use Rattle.plan_text.specs.declared.Written.{Written}
-use Rattle.plan_text.specs.declared.Written.TheVariants.{Bytes, Refused}
-use Rattle.plan_run.specs.declared.Act.{Act}
-use Rattle.plan_run.specs.declared.Act.TheVariants as act
+use Rattle.plan_text.specs.Text.{Written}
+use Rattle.plan_run.specs.Run.{Act}
 use Rattle.plan_run.specs.Run.{act_of, no_rows, opened_of}
 use Rattle.plan_run.specs.Inner.{opening_act}
 use Rattle.plan_program.specs.declared.Plan.{Plan}
@@ -37,7 +35,7 @@ size_after lines n over line = cond over n (cond (eqb lines 0) (opened_of line).
 
 -- What a line has the bench do. A refusal leaves the table as it is.
 abbrev pub act_in : ℕ → ℕ → Bool → List ℕ → Act
-act_in lines n over line = cond over (act.Refuse PlanLine) (cond (eqb lines 0) (opening_act (opening_of line)) (act_of (line_of n line)))
+act_in lines n over line = cond over (Err PlanLine) (cond (eqb lines 0) (opening_act (opening_of line)) (act_of (line_of n line)))
 
 -- ---- where the lines stand
 
@@ -50,7 +48,7 @@ begun_of p part = record {
   held = 0;
   part = part;
   more = false;
-  act = act.Refuse PlanLine;
+  act = Err PlanLine;
   size = p.n;
   at = 0;
 }
@@ -119,8 +117,8 @@ came_of rows g = record {
 
 -- The place after a text that was written at a place.
 unfoldable pub end_of : ℕ → Written → ℕ
-end_of at (Bytes count) = cond (leb (at + count) 18446744073709551615) (at + count) at
-end_of at (Refused cause) = at
+end_of at (Ok count) = cond (leb (at + count) 18446744073709551615) (at + count) at
+end_of at (Err cause) = at
 
 -- A piece was run, and its text put.
 pub record Goes (f : Run) (most : ℕ) (out : List ℕ) (r : Ahead) (written : List ℕ) : Type 0 where

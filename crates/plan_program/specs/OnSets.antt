@@ -1,18 +1,16 @@
 -- Document 02, request l: "The bench must show the same digits and the same bytes as the old layout did." What is printed of a plan text where the bench is a table of the rules, with sets: the definitions of
 -- specs/Program, and no row is held. `ShownAsBefore`: the program prints just this.
-use Rattle.std.specs.Prelude.{ℕ, ◌≡◌, Bool, true, false, cond, List, [], ◌∷◌, ◌++◌, eqb, length, take, replicate}
+use Rattle.std.specs.Prelude.{ℕ, ◌≡◌, Bool, true, false, cond, List, [], ◌∷◌, ◌++◌, eqb, length, take, replicate, Err, Ok}
 use Rattle.bench.specs.node.Calls.{no_node}
 use Rattle.bench.specs.Table.{Table}
 use Rattle.bench.specs.Outcomes.{ended_of}
 use Rattle.bench.specs.declared.Command.TheVariants as command
 use Rattle.bench.specs.declared.Outcome.{Outcome}
 use Rattle.bench.specs.declared.Outcome.TheVariants as outcome
-use Rattle.plan_line.specs.declared.Opening.{Opening}
-use Rattle.plan_line.specs.declared.Opening.TheVariants as opening
+use Rattle.plan_line.specs.Plan.{Opening}
 use Rattle.plan_line.specs.Plan.{opening_of, line_of}
 use Rattle.plan_text.specs.Text.{next_line, refusal_text}
-use Rattle.plan_run.specs.declared.Act.{Act}
-use Rattle.plan_run.specs.declared.Act.TheVariants as act
+use Rattle.plan_run.specs.Run.{Act}
 use Rattle.plan_run.specs.Run.{act_of, choices_of, slots_for}
 use Rattle.plan_program.specs.Program.{is_refused, lines_in, printed, text_of}
 
@@ -26,8 +24,8 @@ pub record SetPlan : Type 0 where
 
 -- The table that a line leaves, and what there is to print.
 abbrev pub act_on : Table → Act → Table × Outcome
-act_on t (act.Call c) = let e = ended_of c (slots_for c) 64 t in (e.table, e.reply.outcome)
-act_on t (act.Refuse cause) = (t, outcome.Refused cause)
+act_on t (Ok c) = let e = ended_of c (slots_for c) 64 t in (e.table, e.reply.outcome)
+act_on t (Err cause) = (t, outcome.Refused cause)
 
 -- The plan after line L (`plan_with`).
 abbrev pub set_plan : ℕ → ℕ → Table × Outcome → SetPlan
@@ -35,8 +33,8 @@ set_plan L n r = record { lines = L; n = n; table = r.0; over = is_refused r.1; 
 
 -- Line one sets the table up, of as many records as it says nodes, 32 at the most (`opened_by`).
 abbrev pub opened_on : ℕ → Opening → SetPlan
-opened_on L (opening.Ring n k) = set_plan L n (act_on (take n (replicate 32 no_node)) (act.Call (command.SetUp (choices_of n k))))
-opened_on L (opening.Refused cause) = set_plan L 0 ([], outcome.Refused cause)
+opened_on L (Ok (n, k)) = set_plan L n (act_on (take n (replicate 32 no_node)) (Ok (command.SetUp (choices_of n k))))
+opened_on L (Err cause) = set_plan L 0 ([], outcome.Refused cause)
 
 -- "Line one: n, space, k."; each later line runs on the table (`run_line`).
 abbrev pub line_on : SetPlan → List ℕ → SetPlan

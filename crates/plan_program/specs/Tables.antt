@@ -1,12 +1,11 @@
 -- The run behind `printed` is a run of bench calls (bench's specs/Runs): after each line the table is the one that the lines' calls leave.
-use Rattle.std.specs.Prelude.{ℕ, ◌≡◌, true, false, cond, List, [], ◌∷◌, ◌++◌}
+use Rattle.std.specs.Prelude.{ℕ, ◌≡◌, true, false, cond, List, [], ◌∷◌, ◌++◌, Ok, Err}
 use Rattle.node_record.specs.cable.Cable.{cable_of}
 use Rattle.bench.specs.Table.{Table}
 use Rattle.bench.specs.Calls.{set_up_of}
 use Rattle.bench.specs.Runs.{Call, slot, off, restart, table_after}
 use Rattle.bench_by_value.specs.ByValue.{table_of}
-use Rattle.plan_line.specs.declared.Opening.TheVariants.{Ring}
-use Rattle.plan_line.specs.declared.Line.{Line}
+use Rattle.plan_line.specs.Plan.{Said}
 use Rattle.plan_line.specs.declared.Line.TheVariants as lines
 use Rattle.plan_line.specs.Plan.{opening_of, line_of}
 use Rattle.plan_run.specs.Run.{no_rows}
@@ -33,13 +32,13 @@ texts_of p (line ∷ more) = line_text (after_line p line) ++ texts_of (after_li
 -- ---- the calls of a plan
 
 -- "Demand 3's calls are the bench's slot, off and restart": that of a line, with 64 bytes for the pairs; none where the line is refused.
-abbrev pub made_by : Line → List Call
-made_by lines.Ok = slot false 0 64 ∷ []
-made_by lines.Lost = slot true 0 64 ∷ []
-made_by (lines.Miss missed) = slot false missed 64 ∷ []
-made_by (lines.Off a) = off a ∷ []
-made_by (lines.On a) = restart a ∷ []
-made_by (lines.Refused cause) = []
+abbrev pub made_by : Said → List Call
+made_by (Ok lines.Ok) = slot false 0 64 ∷ []
+made_by (Ok lines.Lost) = slot true 0 64 ∷ []
+made_by (Ok (lines.Miss missed)) = slot false missed 64 ∷ []
+made_by (Ok (lines.Off a)) = off a ∷ []
+made_by (Ok (lines.On a)) = restart a ∷ []
+made_by (Err cause) = []
 
 -- None is made after the end of the run.
 abbrev pub calls_in : Plan → List ℕ → List Call
@@ -62,7 +61,7 @@ PrintedByLines = (p : Plan) (parts : List (List ℕ)) → (run_of p parts).text 
 
 -- A plan whose line one says n and k.
 pub record Opens (n k : ℕ) (first : List ℕ) : Type 0 where
-  pub says : opening_of first ≡ Ring n k
+  pub says : opening_of first ≡ Ok (n, k)
 
 -- Its table after the later lines is the one that these calls leave.
 abbrev pub SameTables : Type 0

@@ -14,7 +14,6 @@ ghost use Rattle.plan_program.specs.Inner.{act_in, after_in, begun_of, came_of, 
 use bench::{Command, Outcome};
 use node_record::Held;
 use plan_run::Act;
-use plan_text::Written;
 use refusal::Refusal;
 
 // A plan as far as its lines have been run: how many, the bench (the first n rows are its table),
@@ -28,7 +27,8 @@ pub struct Plan {
     pub outcome: Outcome,
 }
 
-// What has come of the next line: its first 121 bytes at the most. No longer line is readable.
+// What has come of the next line: its first 121 bytes at the most, in an array, since there is no heap. No
+// longer line is readable.
 #[derive(Clone, Copy)]
 pub struct Part {
     pub length: usize,
@@ -65,7 +65,7 @@ struct Ahead {
 pub struct Fed {
     pub plan: Plan,
     pub part: Part,
-    pub written: Written,
+    pub written: Result<usize, Refusal>,
 }
 
 fn is_refused(outcome: Outcome) -> bool
@@ -83,14 +83,13 @@ fn longer(part: Part, bytes: &[u8]) -> Part
     ensures { result ≡ part_in part.text (take 121 (bytes_in part ++ bytes.now)) }
 {
     let mut text = part.text;
-    let mut length = if part.length < 121 { part.length } else { 121 };
-    let mut i = 0;
-    while i < bytes.len() && length < 121 {
-        text[length] = bytes[i];
-        length += 1;
-        i += 1;
+    let start = part.length.min(121);
+    let count = bytes.len().min(121 - start);
+    text[start..start + count].copy_from_slice(&bytes[..count]);
+    Part {
+        length: start + count,
+        text,
     }
-    Part { length, text }
 }
 
 // Nothing of the next line.
@@ -107,9 +106,7 @@ pub fn no_part() -> Part
 fn clean(part: Part) -> Part
     ensures { result ≡ part_of (bytes_in part) }
 {
-    let text = part.text;
-    let length = if part.length < 121 { part.length } else { 121 };
-    longer(no_part(), &text[..length])
+    longer(no_part(), &part.text[..part.length.min(121)])
 }
 
 // A plan before line one.
@@ -132,7 +129,7 @@ fn act_of(lines: u64, n: u32, over: bool, text: &[u8]) -> Act
     ensures { result ≡ act_in lines n over text.now }
 {
     if over {
-        return Act::Refuse(Refusal::PlanLine);
+        return Err(Refusal::PlanLine);
     }
     if lines == 0 {
         return plan_run::first_act(text);
@@ -144,10 +141,7 @@ fn act_of(lines: u64, n: u32, over: bool, text: &[u8]) -> Act
 fn size_after(lines: u64, n: u32, over: bool, text: &[u8]) -> u32
     ensures { result ≡ size_after lines n over text.now }
 {
-    if over {
-        return n;
-    }
-    if lines != 0 {
+    if over || lines != 0 {
         return n;
     }
     plan_run::first_size(text)
@@ -167,17 +161,14 @@ fn lines_after(lines: u64, over: bool) -> u64
 fn over_after(over: bool, outcome: Outcome) -> bool
     ensures { result ≡ over_after over outcome }
 {
-    if over {
-        return true;
-    }
-    is_refused(outcome)
+    over || is_refused(outcome)
 }
 
 // The place after the bytes that were written at a place.
-fn end_of(at: usize, written: Written) -> usize
+fn end_of(at: usize, written: Result<usize, Refusal>) -> usize
     ensures { result ≡ end_of at written }
 {
-    let Written::Bytes(count) = written else {
+    let Ok(count) = written else {
         return at;
     };
     if count <= usize::MAX - at {
@@ -211,16 +202,15 @@ fn put(out: &mut [u8], at: usize, number: u64, outcome: Outcome) -> usize
 fn begun(plan: Plan, part: Part) -> Going
     ensures { result ≡ begun_of plan part }
 {
-    let outcome = plan.outcome;
     Going {
         lines: plan.lines,
         n: plan.n,
         over: plan.over,
-        outcome,
+        outcome: plan.outcome,
         held: 0,
         part,
         more: false,
-        act: Act::Refuse(Refusal::PlanLine),
+        act: Err(Refusal::PlanLine),
         size: plan.n,
         at: 0,
     }
@@ -230,16 +220,14 @@ fn begun(plan: Plan, part: Part) -> Going
 fn with_line(g: Going, part: Part, more: bool, at: usize) -> Going
     ensures { result ≡ with_line g part more at }
 {
-    let text = part.text;
-    let length = if part.length < 121 { part.length } else { 121 };
-    let act = act_of(g.lines, g.n, g.over, &text[..length]);
-    let size = size_after(g.lines, g.n, g.over, &text[..length]);
-    let outcome = g.outcome;
+    let text = &part.text[..part.length.min(121)];
+    let act = act_of(g.lines, g.n, g.over, text);
+    let size = size_after(g.lines, g.n, g.over, text);
     Going {
         lines: g.lines,
         n: g.n,
         over: g.over,
-        outcome,
+        outcome: g.outcome,
         held: g.held,
         part,
         more,
@@ -254,11 +242,9 @@ fn seek(input: &[u8], g: Going) -> Going
     requires { g.at ≤ length input.now }
     ensures { result ≡ sought input.now g }
 {
-    let at = g.at;
-    let end = plan_line::part_end(input, at, 10);
-    let part = g.part;
-    let text = longer(part, &input[at..end]);
-    with_line(g, text, end < input.len(), end + 1)
+    let end = plan_line::part_end(input, g.at, 10);
+    let part = longer(g.part, &input[g.at..end]);
+    with_line(g, part, end < input.len(), end + 1)
 }
 
 // What there is to print of the line: nothing after the end of the run.
@@ -273,17 +259,15 @@ fn after(g: Going, lines: u64, outcome: Outcome, held: usize) -> Going
     ensures { result ≡ after_in g lines outcome held }
 {
     let over = over_after(g.over, outcome);
-    let part = no_part();
-    let act = g.act;
     Going {
         lines,
         n: g.size,
         over,
         outcome,
         held,
-        part,
+        part: no_part(),
         more: g.more,
-        act,
+        act: g.act,
         size: g.size,
         at: g.at,
     }
@@ -300,46 +284,26 @@ fn tell(out: &mut [u8], g: Going, outcome: Outcome) -> Going
     after(g, lines, outcome, held)
 }
 
-// Whether the next line ends in this piece.
-fn has_more(g: Going) -> bool
-    ensures { result ≡ g.more }
-{
-    g.more
-}
-
 // How many rows the next line is carried out on: one at least.
 fn size_of(g: Going) -> usize
     ensures { result ≡ size_of g.size }
 {
-    let n = g.size;
-    if n < 1 {
-        return 1;
-    }
-    if 32 < n { 32 } else { n as usize }
-}
-
-// What the next line has the bench do.
-fn act_in(g: Going) -> Act
-    ensures { result ≡ g.act }
-{
-    g.act
+    g.size.clamp(1, 32) as usize
 }
 
 // What came of the piece.
 fn came(rows: [Held; 32], g: Going) -> Ahead
     ensures { result ≡ came_of rows g }
 {
-    let outcome = g.outcome;
-    let part = g.part;
     Ahead {
         plan: Plan {
             lines: g.lines,
             n: g.n,
             rows,
             over: g.over,
-            outcome,
+            outcome: g.outcome,
         },
-        part,
+        part: g.part,
         count: g.held,
     }
 }
@@ -348,17 +312,11 @@ fn came(rows: [Held; 32], g: Going) -> Ahead
 fn rows_for(plan: Plan, g: Going) -> [Held; 32]
     ensures { result ≡ rows_for plan g.more }
 {
-    let rows = plan.rows;
-    if plan.over {
-        return rows;
+    if !plan.over && plan.lines == 0 && g.more {
+        plan_run::no_rows()
+    } else {
+        plan.rows
     }
-    if plan.lines != 0 {
-        return rows;
-    }
-    if g.more {
-        return plan_run::no_rows();
-    }
-    rows
 }
 
 // Runs the lines that end in the input; the rows of the bench are lent to each. Requires a plan that can
@@ -367,16 +325,14 @@ fn run_lines(plan: Plan, part: Part, input: &[u8], out: &mut [u8]) -> Ahead
     requires { (plan_sound plan ≡ true) × (80 * length input.now ≤ length out.old) }
     ensures { Goes (run_piece plan (bytes_in part) input.now) (length input.now) out.old result out.new }
 {
-    let start = begun(plan, part);
-    let mut g = seek(input, start);
+    let mut g = seek(input, begun(plan, part));
     let mut rows = rows_for(plan, g);
-    while has_more(g) {
+    // No `for`: a turn takes a line, of any length.
+    while g.more {
         let size = size_of(g);
-        let act = act_in(g);
-        let outcome = plan_run::run(&mut rows[..size], act);
+        let outcome = plan_run::run(&mut rows[..size], g.act);
         let told = tell(out, g, outcome);
-        let next = seek(input, told);
-        g = next;
+        g = seek(input, told);
     }
     came(rows, g)
 }
@@ -387,9 +343,7 @@ pub fn run_line(plan: Plan, part: Part) -> Plan
     ensures { result ≡ after_line plan (bytes_in part) }
 {
     let mut out = [0u8; 80];
-    let ran = run_lines(plan, part, b"\n", &mut out);
-    let after = ran.plan;
-    after
+    run_lines(plan, part, b"\n", &mut out).plan
 }
 
 // Whether the table of n rows is sound: a look is not refused.
@@ -407,17 +361,11 @@ fn is_table(n: u32, rows: [Held; 32]) -> bool
 }
 
 // Whether a plan can go on: its bench, where it has one, is sound.
+#[tactic(auto, unfolding(crate::specs::Calls::plan_sound))]
 pub fn is_sound(plan: Plan) -> bool
     ensures { result ≡ plan_sound plan }
 {
-    if plan.over {
-        return true;
-    }
-    if plan.lines == 0 {
-        return true;
-    }
-    let rows = plan.rows;
-    is_table(plan.n, rows)
+    plan.over || plan.lines == 0 || is_table(plan.n, plan.rows)
 }
 
 // Whether there are 80 bytes for each byte.
@@ -435,14 +383,14 @@ pub fn feed(plan: Plan, part: Part, input: &[u8], out: &mut [u8]) -> Fed
         return Fed {
             plan,
             part,
-            written: Written::Refused(Refusal::Unsound),
+            written: Err(Refusal::Unsound),
         };
     }
     if !has_room(input.len(), out.len()) {
         return Fed {
             plan,
             part,
-            written: Written::Refused(Refusal::OutputShort),
+            written: Err(Refusal::OutputShort),
         };
     }
     let ran = run_lines(plan, part, input, out);
@@ -451,7 +399,7 @@ pub fn feed(plan: Plan, part: Part, input: &[u8], out: &mut [u8]) -> Fed
     Fed {
         plan: after,
         part: rest,
-        written: Written::Bytes(ran.count),
+        written: Ok(ran.count),
     }
 }
 
@@ -459,13 +407,7 @@ pub fn feed(plan: Plan, part: Part, input: &[u8], out: &mut [u8]) -> Fed
 fn may_end(plan: Plan, part: Part) -> bool
     ensures { result ≡ may_end plan (bytes_in part) }
 {
-    if plan.over {
-        return true;
-    }
-    if plan.lines == 0 {
-        return false;
-    }
-    part.length == 0
+    plan.over || (plan.lines != 0 && part.length == 0)
 }
 
 // Puts what there is to print where the input ends.
@@ -485,24 +427,24 @@ fn put_end(out: &mut [u8], at: usize, plan: Plan, part: Part) -> usize
 }
 
 // Ends the input. It refuses by 9, and then does nothing.
-pub fn finish(plan: Plan, part: Part, out: &mut [u8]) -> Written
+pub fn finish(plan: Plan, part: Part, out: &mut [u8]) -> Result<usize, Refusal>
     ensures { (result, out.new) ≡ finished_of plan (bytes_in part) out.old }
 {
     if out.len() < 80 {
-        return Written::Refused(Refusal::OutputShort);
+        return Err(Refusal::OutputShort);
     }
-    Written::Bytes(put_end(out, 0, plan, part))
+    Ok(put_end(out, 0, plan, part))
 }
 
 // Prints a whole plan text. It refuses by 9, and then does nothing.
-pub fn print_plan(input: &[u8], out: &mut [u8]) -> Written
+pub fn print_plan(input: &[u8], out: &mut [u8]) -> Result<usize, Refusal>
     ensures { (result, out.new) ≡ printed_in input.now out.old }
 {
     if out.len() / 80 <= input.len() {
-        return Written::Refused(Refusal::OutputShort);
+        return Err(Refusal::OutputShort);
     }
     let ran = run_lines(no_plan(), no_part(), input, out);
     let plan = ran.plan;
     let part = ran.part;
-    Written::Bytes(put_end(out, ran.count, plan, part))
+    Ok(put_end(out, ran.count, plan, part))
 }

@@ -1,5 +1,6 @@
 -- The law of pieces: the texts of the pieces and of the end, one after the other, are what is printed of the whole text, however it is cut.
 -- Assumes nothing.
+use Rattle.std.specs.Prelude.{Err, Ok}
 use Prim.Native.Nat.{ℕ, ◌*◌, ◌≤◌, ◌<◌}
 use mathlib.Core.Path.{◌≡◌, refl, sym, ap, ◌∙◌}
 use mathlib.Core.Bool.{Bool, true, false, cond, not}
@@ -12,7 +13,6 @@ use borrow.Author.Tests.{le-leb, lt-leb, lt-ltb, le-ltb, ne_eqb}
 use Rattle.refusal.specs.declared.Refusal.TheVariants.{OutputShort, Unsound}
 use Rattle.plan_text.specs.Text.{input_of, pasted}
 use Rattle.plan_text.specs.Bytewise.{after_bytes}
-use Rattle.plan_text.specs.declared.Written.TheVariants.{Bytes, Refused}
 use Rattle.plan_text.proofs.Paste.{empty-take}
 use Rattle.plan_text.proofs.Bytewise.{all_lines, in_pieces, kept_full, kept_more, kept-none, put_first, ByLine, Follows, InPieces, Kept}
 use Rattle.plan_program.specs.Calls.{bytes_in, plan_sound}
@@ -29,16 +29,16 @@ use Rattle.plan_report.proofs.Plans.{by-plans}
 -- ---- what the calls write
 
 module _ (r : Report) (input out : List ℕ) where
-  pub fed-unsound : plan_sound r.tally.plan ≡ false → fed_of r input out ≡ record { report = r; written = Refused Unsound; out = out }
+  pub fed-unsound : plan_sound r.tally.plan ≡ false → fed_of r input out ≡ record { report = r; written = Err Unsound; out = out }
   unfolding fed_of
   fed-unsound e = simp e
 
-  pub fed-short : plan_sound r.tally.plan ≡ true → length out < 110 * length input → fed_of r input out ≡ record { report = r; written = Refused OutputShort; out = out }
+  pub fed-short : plan_sound r.tally.plan ≡ true → length out < 110 * length input → fed_of r input out ≡ record { report = r; written = Err OutputShort; out = out }
   unfolding fed_of
   fed-short e h = simp (e, lt-leb (110 * length input) (length out) h)
 
   pub fed-some : plan_sound r.tally.plan ≡ true → 110 * length input ≤ length out
-      → fed_of r input out ≡ record { report = after r input; written = Bytes (length (text_of r input)); out = pasted out 0 (text_of r input) }
+      → fed_of r input out ≡ record { report = after r input; written = Ok (length (text_of r input)); out = pasted out 0 (text_of r input) }
   unfolding fed_of
   fed-some e h = simp (e, le-leb (110 * length input) (length out) h)
 

@@ -1,5 +1,6 @@
 -- The figures of every plan have 64 bits: a table is no further than the slot limit, a line that runs a slot takes it one slot on, and a slot adds 32 to each figure at the most.
 -- Assumes nothing.
+use Rattle.std.specs.Prelude.{Err, Ok}
 use Prim.Native.Nat.{ℕ, ◌+◌, ◌-◌, ◌*◌, ◌≤◌}
 use mathlib.Core.Path.{◌≡◌, refl, sym, ap, ◌∙◌}
 use mathlib.Core.Bool.{Bool, true, false, cond, false≢true}
@@ -14,8 +15,7 @@ use Rattle.node_record.proofs.cable.Ranges.{ring-size}
 use Rattle.node_record.specs.Soundness.{limit}
 use Rattle.node_record.specs.States.{is_member}
 use Rattle.node_record.proofs.Facts.{clauses}
-use Rattle.node.specs.declared.Answer.{Answer}
-use Rattle.node.specs.declared.Answer.TheVariants as answer
+use Rattle.node.specs.Answers.{Answer}
 use Rattle.node.specs.Calls.{is_done}
 use Rattle.bench.specs.Table.{Table, node_count, record_of, slots_of, table_sound}
 use Rattle.bench.specs.Calls.{Called, greatest, off_of, restart_of}
@@ -28,7 +28,7 @@ use Rattle.bench.proofs.Places.{InPlace, sound-placed, slots-of-placed}
 use Rattle.bench.proofs.Runs.{placed-call}
 use Rattle.plan_program.specs.bench_by_value.ByValue as by_value
 use Rattle.plan_program.specs.bench_by_value.ByValue.{Rows, table_of}
-use Rattle.plan_line.specs.declared.Line.{Line}
+use Rattle.plan_line.specs.Plan.{Said}
 use Rattle.plan_line.specs.declared.Line.TheVariants as lines
 use Rattle.plan_line.specs.Plan.{line_of}
 use Rattle.plan_program.specs.plan_run.Run.{act_of, ran_by}
@@ -90,12 +90,12 @@ over-refused p line going =
     (λ begun. rw (ran_line p line begun going) refl)
 
 slot-line : (lost : Bool) (before after : Table) (a : Answer) → is_done a ≡ is_slot_line (slot_outcome lost before after a)
-slot-line lost before after answer.Done = refl
-slot-line lost before after (answer.Refused cause) = refl
+slot-line lost before after (Ok _) = refl
+slot-line lost before after (Err cause) = refl
 
 quiet_line : (a : Answer) → false ≡ is_slot_line (quiet_outcome a)
-quiet_line answer.Done = refl
-quiet_line (answer.Refused cause) = refl
+quiet_line (Ok _) = refl
+quiet_line (Err cause) = refl
 
 module _ (n : ℕ) (rows : Rows) (sound : table_sound (table_of n rows) ≡ true) where
   abbrev t : Table
@@ -107,14 +107,14 @@ module _ (n : ℕ) (rows : Rows) (sound : table_sound (table_of n rows) ≡ true
       sym (ap (λ (c : Called). is_done c.answer) (given-none lost missed 64 t))
       ∙ slot-line lost t (slot_given lost missed 0 64 t).table (slot_given lost missed 0 64 t).answer
 
-  line-slots : (l : Line) → slots_of (table_of n (ran_by n rows (act_of l)).rows) ≡ slots_of t + num (is_slot_line (ran_by n rows (act_of l)).outcome)
+  line-slots : (l : Said) → slots_of (table_of n (ran_by n rows (act_of l)).rows) ≡ slots_of t + num (is_slot_line (ran_by n rows (act_of l)).outcome)
   unfolding by_value.call_of ended_of table_after is_slot
-  line-slots lines.Ok = ap slots_of (line-table n rows sound lines.Ok) ∙ slots-call t sound (slot false 0 64) ∙ ap (λ (b : Bool). slots_of t + num b) (ran-slot false 0)
-  line-slots lines.Lost = ap slots_of (line-table n rows sound lines.Lost) ∙ slots-call t sound (slot true 0 64) ∙ ap (λ (b : Bool). slots_of t + num b) (ran-slot true 0)
-  line-slots (lines.Miss missed) = ap slots_of (line-table n rows sound (lines.Miss missed)) ∙ slots-call t sound (slot false missed 64) ∙ ap (λ (b : Bool). slots_of t + num b) (ran-slot false missed)
-  line-slots (lines.Off a) = ap slots_of (line-table n rows sound (lines.Off a)) ∙ slots-call t sound (off a) ∙ ap (λ (b : Bool). slots_of t + num b) (quiet_line (off_of a t).answer)
-  line-slots (lines.On a) = ap slots_of (line-table n rows sound (lines.On a)) ∙ slots-call t sound (restart a) ∙ ap (λ (b : Bool). slots_of t + num b) (quiet_line (restart_of a t).answer)
-  line-slots (lines.Refused cause) = omega arith
+  line-slots (Ok lines.Ok) = ap slots_of (line-table n rows sound (Ok lines.Ok)) ∙ slots-call t sound (slot false 0 64) ∙ ap (λ (b : Bool). slots_of t + num b) (ran-slot false 0)
+  line-slots (Ok lines.Lost) = ap slots_of (line-table n rows sound (Ok lines.Lost)) ∙ slots-call t sound (slot true 0 64) ∙ ap (λ (b : Bool). slots_of t + num b) (ran-slot true 0)
+  line-slots (Ok (lines.Miss missed)) = ap slots_of (line-table n rows sound (Ok (lines.Miss missed))) ∙ slots-call t sound (slot false missed 64) ∙ ap (λ (b : Bool). slots_of t + num b) (ran-slot false missed)
+  line-slots (Ok (lines.Off a)) = ap slots_of (line-table n rows sound (Ok (lines.Off a))) ∙ slots-call t sound (off a) ∙ ap (λ (b : Bool). slots_of t + num b) (quiet_line (off_of a t).answer)
+  line-slots (Ok (lines.On a)) = ap slots_of (line-table n rows sound (Ok (lines.On a))) ∙ slots-call t sound (restart a) ∙ ap (λ (b : Bool). slots_of t + num b) (quiet_line (restart_of a t).answer)
+  line-slots (Err cause) = omega arith
 
 refused-no-slot : (o : Outcome) → is_refused o ≡ true → is_slot_line o ≡ false
 refused-no-slot outcome.Quiet e = refl

@@ -1,12 +1,12 @@
 -- What is printed of a slot tells the figures of the table after it: the list and the distance are those of that table. Assumes nothing.
+use Rattle.std.specs.Prelude.{Err, Ok}
 use Prim.Native.Nat.{ℕ}
 use mathlib.Core.Path.{◌≡◌, refl, sym}
 use mathlib.Core.Bool.{Bool, true, false, cond}
 use mathlib.Core.List.{List}
 use lib.Dec.{eqb}
 use Rattle.nodeset.proofs.Tests.{by_cases}
-use Rattle.node.specs.declared.Answer.{Answer}
-use Rattle.node.specs.declared.Answer.TheVariants as answer
+use Rattle.node.specs.Answers.{Answer}
 use Rattle.bench.specs.Table.{Table, table_sound}
 use Rattle.bench.specs.declared.Outcome.{Outcome}
 use Rattle.node_record.specs.slot_table.Order.{numbers_from}
@@ -15,10 +15,9 @@ use Rattle.bench.specs.Outcomes.{ended_of, quiet_outcome, slot_given, slot_outco
 use Rattle.bench.specs.Runs.{list_of}
 use Rattle.plan_program.specs.bench_by_value.ByValue as by_value
 use Rattle.plan_program.specs.bench_by_value.ByValue.{Rows, table_of}
-use Rattle.plan_line.specs.declared.Line.{Line}
+use Rattle.plan_line.specs.Plan.{Said}
 use Rattle.plan_line.specs.declared.Line.TheVariants as lines
-use Rattle.plan_line.specs.declared.Opening.{Opening}
-use Rattle.plan_line.specs.declared.Opening.TheVariants as opening
+use Rattle.plan_line.specs.Plan.{Opening}
 use Rattle.plan_line.specs.Plan.{line_of, opening_of}
 use Rattle.plan_text.specs.Text.{next_line}
 use Rattle.plan_program.specs.plan_run.Run.{act_of, choices_of, no_rows, opened_by, ran_by}
@@ -43,33 +42,33 @@ module _ (f : Figures) where
   slot-tells q lost before called left = go called.answer
     where
       go : (a : Answer) → TellsOf f q (slot_outcome lost before called.table a)
-      go answer.Done = rw (sym left) refl
-      go (answer.Refused cause) = refl
+      go (Ok _) = rw (sym left) refl
+      go (Err cause) = refl
 
   quiet-tells : (q : Plan) (a : Answer) → TellsOf f q (quiet_outcome a)
-  quiet-tells q answer.Done = refl
-  quiet-tells q (answer.Refused cause) = refl
+  quiet-tells q (Ok _) = refl
+  quiet-tells q (Err cause) = refl
 
   module _ (L n : ℕ) (rows : Rows) (sound : table_sound (table_of n rows) ≡ true) where
     abbrev t : Table
     t = table_of n rows
 
-    abbrev left : Line → Plan
+    abbrev left : Said → Plan
     left l = plan_ran L n (ran_by n rows (act_of l))
 
-    later-tells : (l : Line) → TellsOf f (left l) (left l).outcome
+    later-tells : (l : Said) → TellsOf f (left l) (left l).outcome
     unfolding by_value.call_of ended_of
-    later-tells lines.Ok = slot-tells (left lines.Ok) false t (slot_given false 0 0 64 t) (line-left n rows sound lines.Ok)
-    later-tells lines.Lost = slot-tells (left lines.Lost) true t (slot_given true 0 0 64 t) (line-left n rows sound lines.Lost)
-    later-tells (lines.Miss missed) = slot-tells (left (lines.Miss missed)) false t (slot_given false missed 0 64 t) (line-left n rows sound (lines.Miss missed))
-    later-tells (lines.Off a) = quiet-tells (left (lines.Off a)) (off_of a t).answer
-    later-tells (lines.On a) = quiet-tells (left (lines.On a)) (restart_of a t).answer
-    later-tells (lines.Refused cause) = refl
+    later-tells (Ok lines.Ok) = slot-tells (left (Ok lines.Ok)) false t (slot_given false 0 0 64 t) (line-left n rows sound (Ok lines.Ok))
+    later-tells (Ok lines.Lost) = slot-tells (left (Ok lines.Lost)) true t (slot_given true 0 0 64 t) (line-left n rows sound (Ok lines.Lost))
+    later-tells (Ok (lines.Miss missed)) = slot-tells (left (Ok (lines.Miss missed))) false t (slot_given false missed 0 64 t) (line-left n rows sound (Ok (lines.Miss missed)))
+    later-tells (Ok (lines.Off a)) = quiet-tells (left (Ok (lines.Off a))) (off_of a t).answer
+    later-tells (Ok (lines.On a)) = quiet-tells (left (Ok (lines.On a))) (restart_of a t).answer
+    later-tells (Err cause) = refl
 
   opened-tells : (L : ℕ) (o : Opening) → TellsOf f (plan_opened L (opened_by o)) (opened_by o).outcome
   unfolding by_value.call_of
-  opened-tells L (opening.Ring n k) = quiet-tells (plan_opened L (opened_by (opening.Ring n k))) (set_up_given (choices_of n k) (numbers_from n 1) (table_of n no_rows)).answer
-  opened-tells L (opening.Refused cause) = refl
+  opened-tells L (Ok (n, k)) = quiet-tells (plan_opened L (opened_by (Ok (n, k)))) (set_up_given (choices_of n k) (numbers_from n 1) (table_of n no_rows)).answer
+  opened-tells L (Err cause) = refl
 
   pub tells : (p : Plan) (line : List ℕ) → plan_sound p ≡ true → figures_by f (after_line p line) (after_line p line).outcome ≡ figures_after f (after_line p line)
   unfolding plan_sound

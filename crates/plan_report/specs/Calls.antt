@@ -1,10 +1,9 @@
 -- What `feed` and `finish` answer, what they leave in the lent bytes, and the law that ties them to the whole text.
-use Rattle.std.specs.Prelude.{ℕ, ◌+◌, ◌*◌, ◌≡◌, cond, List, [], ◌∷◌, ◌++◌, eqb, ltb, leb, length, set}
+use Rattle.std.specs.Prelude.{ℕ, ◌+◌, ◌*◌, ◌≡◌, cond, List, [], ◌∷◌, ◌++◌, eqb, ltb, leb, length, set, Err, Ok}
 use Rattle.refusal.specs.Causes.{cause}
 use Rattle.plan_text.specs.Bytewise.{after_bytes, bytes_text, RoomFor}
 use Rattle.plan_text.specs.Text.{input_of, pasted, written_in, Piece}
-use Rattle.plan_text.specs.declared.Written.{Written}
-use Rattle.plan_text.specs.declared.Written.TheVariants.{Bytes, Refused}
+use Rattle.plan_text.specs.Text.{Written}
 use Rattle.plan_program.specs.declared.Part.{Part}
 use Rattle.plan_program.specs.Calls.{bytes_in, part_of, plan_sound}
 use Rattle.plan_report.specs.declared.Report.{Report}
@@ -56,9 +55,9 @@ unfoldable pub fed_of : Report → List ℕ → List ℕ → Fed
 fed_of r input out =
     cond (plan_sound r.tally.plan)
     (cond (leb (110 * length input) (length out))
-    (record { report = after r input; written = Bytes (length (text_of r input)); out = pasted out 0 (text_of r input) })
-    (record { report = r; written = Refused (cause 9); out = out }))
-    (record { report = r; written = Refused (cause 4); out = out })
+    (record { report = after r input; written = Ok (length (text_of r input)); out = pasted out 0 (text_of r input) })
+    (record { report = r; written = Err (cause 9); out = out }))
+    (record { report = r; written = Err (cause 4); out = out })
 
 -- What the code answers, and leaves.
 abbrev pub fed_as : code.Fed → List ℕ → Fed
@@ -67,7 +66,7 @@ fed_as f out = record { report = f.report; written = f.written; out = out }
 -- ---- finish: 9. The last plan's line and the totals take 200 bytes at the most.
 
 unfoldable pub finished_of : Report → List ℕ → Written × List ℕ
-finished_of r out = cond (leb 200 (length out)) (Bytes (length (final_text r)), pasted out 0 (final_text r)) (Refused (cause 9), out)
+finished_of r out = cond (leb 200 (length out)) (Ok (length (final_text r)), pasted out 0 (final_text r)) (Err (cause 9), out)
 
 -- ---- the law: a text may come in any pieces
 

@@ -1,11 +1,10 @@
 -- Document 02, request m: the four figures of a run, "the number of slots, the sum over slots of nodes in the member state after the slot, the sum of listed nodes after it (by the lowest-numbered member, 0 if there is none), and
 -- the slots with a distance above 0", and adding them to totals.
-use Rattle.std.specs.Prelude.{ℕ, ◌+◌, Bool, cond, ◌&&◌, [], ◌∷◌, leb, ltb}
+use Rattle.std.specs.Prelude.{ℕ, ◌+◌, Bool, cond, ◌&&◌, [], ◌∷◌, leb, ltb, Err, Ok}
 use Rattle.refusal.specs.Causes.{cause}
 use Rattle.nodeset.specs.Sums.{num}
 use Rattle.nodeset.specs.Sets.{size}
 use Rattle.node_record.specs.States.{is_member}
-use Rattle.node.specs.declared.Answer.TheVariants.{Done, Refused}
 use Rattle.bench.specs.Table.{Table, node_count}
 use Rattle.bench.specs.Calls.{greatest}
 use Rattle.bench.specs.Runs.{list_of}
@@ -46,5 +45,5 @@ all_fit t f =
 unfoldable pub add_of : Figures → Figures → Added
 add_of totals figures =
     cond (all_fit totals figures)
-    (record { totals = plus totals figures; answer = Done })
-    (record { totals = totals; answer = Refused (cause 19) })
+    (record { totals = plus totals figures; answer = Ok tt })
+    (record { totals = totals; answer = Err (cause 19) })

@@ -2,7 +2,7 @@
 use Rattle.std.specs.Prelude.{ℕ, ◌≡◌, List, ltb}
 use Rattle.nodeset.specs.Sums.{num}
 use Rattle.nodeset.specs.Sets.{size}
-use Rattle.bench.specs.declared.Listed.{Listed}
+use Rattle.bench.specs.Answers.{Listed}
 use Rattle.bench.specs.declared.Outcome.{Outcome}
 use Rattle.bench.specs.declared.Outcome.TheVariants as outcome
 use Rattle.bench.specs.Table.{node_count}

@@ -1,5 +1,5 @@
 -- Document 02, request m: what the program prints of a whole text of plans. A text is the list of its bytes.
-use Rattle.std.specs.Prelude.{ℕ, Bool, true, false, cond, ◌||◌, not, List, [], ◌∷◌, ◌++◌, eqb, length}
+use Rattle.std.specs.Prelude.{ℕ, Bool, true, false, cond, ◌||◌, not, List, [], ◌∷◌, ◌++◌, eqb, length, Result, Ok, Err}
 use Rattle.refusal.specs.Causes.{number_of}
 use Rattle.node.specs.Calls.{is_done}
 use Rattle.bench.specs.declared.Outcome.{Outcome}
@@ -12,8 +12,7 @@ use Rattle.plan_program.specs.declared.Plan.{Plan}
 use Rattle.plan_program.specs.Program.{after_line, lines_in, no_plan}
 use Rattle.plan_program.specs.Tables.{after_lines}
 use Rattle.plan_report.specs.declared.Figures.{Figures}
-use Rattle.plan_report.specs.declared.Verdict.{Verdict}
-use Rattle.plan_report.specs.declared.Verdict.TheVariants as verdict
+use Rattle.plan_report.specs.declared.Stopped.{Stopped}
 use Rattle.plan_report.specs.Figures.{slot_figures, no_figures, plus, add_of}
 
 -- ---- the plans of a text
@@ -76,13 +75,20 @@ unfoldable pub fault_of : Plan → List (List ℕ) → ℕ
 fault_of p [] = 0
 fault_of p (line ∷ more) = let q = after_line p line in cond q.over (fault_in q.outcome) (fault_of q more)
 
+-- Its figures count, or it is refused at a line by this number.
+abbrev pub Verdict : Type 0
+Verdict = Result Unit Stopped
+
+abbrev pub refused_at : ℕ → ℕ → Verdict
+refused_at line number = Err (record { line = line; number = number })
+
 -- Of a plan after its lines, where this was its fault. "A refused plan prints `plan P line L refusal N`, L counted from the plan's first line .., and reading goes on at the next `next`"; "A plan without lines .. is refused with 12 in line 1", and a line
 -- that does not end is unreadable; "(A sum passing 64 bits ..: 19 .. In the program that plan is refused so, at its last line.)"
 unfoldable pub verdict_with : Plan → ℕ → Bool → Figures → Figures → Verdict
 verdict_with q fault begun totals figures =
-    cond q.over (verdict.Refused q.lines fault)
-    (cond (eqb q.lines 0 || begun) (verdict.Refused (next_line q.lines) 12)
-    (cond (is_done (add_of totals figures).answer) verdict.Counted (verdict.Refused q.lines 19)))
+    cond q.over (refused_at q.lines fault)
+    (cond (eqb q.lines 0 || begun) (refused_at (next_line q.lines) 12)
+    (cond (is_done (add_of totals figures).answer) (Ok tt) (refused_at q.lines 19)))
 
 -- Bytes have come of a line that does not end.
 abbrev pub is_begun : List ℕ → Bool
@@ -93,8 +99,8 @@ verdict_on totals p = verdict_with (after_lines no_plan p.lines) (fault_of no_pl
 
 -- A refused plan "is left out of the total".
 abbrev pub totals_with : Verdict → Figures → Figures → Figures
-totals_with verdict.Counted totals figures = (add_of totals figures).totals
-totals_with (verdict.Refused line number) totals figures = totals
+totals_with (Ok _) totals figures = (add_of totals figures).totals
+totals_with (Err stopped) totals figures = totals
 
 -- ---- what is printed
 
@@ -103,8 +109,8 @@ abbrev pub figures_text : Figures → List ℕ
 figures_text f = number_then 32 f.slots ++ number_then 32 f.members ++ number_then 32 f.listed ++ number_then 10 f.apart
 
 abbrev pub verdict_text : Verdict → Figures → List ℕ
-verdict_text verdict.Counted f = figures_text f
-verdict_text (verdict.Refused line number) f = refusal_text line number
+verdict_text (Ok _) f = figures_text f
+verdict_text (Err stopped) f = refusal_text stopped.line stopped.number
 
 -- "Each plan gives one line: `plan`, its number from 1, and the four figures".
 unfoldable pub plan_text : ℕ → Verdict → Figures → List ℕ

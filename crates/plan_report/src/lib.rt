@@ -3,25 +3,22 @@
 // `finish` ends the text; `add` adds the figures of a plan to the totals.
 #![tactic(auto)]
 
-ghost use Rattle.std.specs.Prelude.{◌≡◌, true, ◌+◌, ◌*◌, ◌≤◌, ◌++◌, leb, length};
+ghost use Rattle.std.specs.Prelude.{◌≡◌, true, ◌+◌, ◌*◌, ◌≤◌, ◌++◌, length};
 ghost use Rattle.plan_program.specs.bench_by_value.ByValue.{table_of};
-ghost use Rattle.nodeset.specs.Sums.{num};
 ghost use Rattle.plan_text.specs.Text.{PutAt, PutFew};
 ghost use Rattle.plan_program.specs.Calls.{bytes_in, plan_sound};
 ghost use Rattle.bench.specs.Table.{node_count};
 ghost use Rattle.bench.specs.Runs.{set_in};
 ghost use Rattle.nodeset.specs.Sets.{size};
-ghost use Rattle.plan_report.specs.Figures.{add_of, all_fit, last64, members_in};
+ghost use Rattle.plan_report.specs.Figures.{add_of, all_fit, members_in};
 ghost use Rattle.plan_report.specs.Report.{fault_in, figures_text, is_next, total_text, verdict_text};
-ghost use Rattle.plan_report.specs.Tallies.{after_line_in, end_text, line_done, line_text, plan_ended, raised, raised_by, tally_with, totals_by, verdict_of};
+ghost use Rattle.plan_report.specs.Tallies.{after_line_in, end_text, line_done, line_text, plan_ended, raised_by, tally_with, totals_by, verdict_of};
 ghost use Rattle.plan_report.specs.Calls.{after, fed_as, fed_of, finished_of, line_ended, start_of, text_of, with_byte};
 ghost use Rattle.plan_report.specs.Inner.{figures_by, told_figures, Took};
 
-use bench::{Listed, Outcome};
-use node::Answer;
+use bench::Outcome;
 use node_record::Held;
 use plan_program::{Part, Plan};
-use plan_text::Written;
 use refusal::Refusal;
 
 // The figures of a plan, or of all plans: the slots; over these, the nodes in the member state after the
@@ -34,15 +31,16 @@ pub struct Figures {
     pub apart: u64,
 }
 
-// The totals after a plan's figures were added to them, or as they were.
+// The totals after a plan's figures were added to them, or as they were. No `Result` of totals: the clause
+// `AddsBy` of the theorem `demand1` speaks of the totals that come back with a refusal.
 #[derive(Clone, Copy)]
 pub struct Added {
     pub totals: Figures,
-    pub answer: Answer,
+    pub answer: Result<(), Refusal>,
 }
 
 // A report as far as its lines have been run: how many plans have ended, the plan that runs, its figures,
-// by which number it was refused (0: by none), and the totals.
+// by which number it was refused (0 for none, as in `fault_in`), and the totals.
 #[derive(Clone, Copy)]
 pub struct Tally {
     pub plans: u64,
@@ -63,14 +61,14 @@ pub struct Report {
 #[derive(Clone, Copy)]
 pub struct Fed {
     pub report: Report,
-    pub written: Written,
+    pub written: Result<usize, Refusal>,
 }
 
-// What came of a plan that ended: its figures count, or it is refused at a line.
+// Where a plan was refused: the line, and by which number.
 #[derive(Clone, Copy)]
-enum Verdict {
-    Counted,
-    Refused(u64, u32),
+struct Stopped {
+    line: u64,
+    number: u32,
 }
 
 // What came of a byte: the report, and the place after what was printed.
@@ -89,29 +87,25 @@ const NO_FIGURES: Figures = Figures {
 
 // ---- figures
 
-// Whether the sum of two numbers has 64 bits.
-fn fits(a: u64, b: u64) -> bool
-    ensures { result ≡ leb (a + b) last64 }
-{
-    b <= u64::MAX - a
-}
-
 // Whether no sum passes 64 bits.
 fn all_fit(t: Figures, f: Figures) -> bool
     ensures { result ≡ all_fit t f }
 {
-    fits(t.slots, f.slots)
-        & (fits(t.members, f.members) & (fits(t.listed, f.listed) & fits(t.apart, f.apart)))
+    t.slots.checked_add(f.slots).is_some()
+        && t.members.checked_add(f.members).is_some()
+        && t.listed.checked_add(f.listed).is_some()
+        && t.apart.checked_add(f.apart).is_some()
 }
 
 // Adds figures to totals. It refuses by 19, and then the totals keep what they had.
+#[tactic(auto, unfolding(crate::specs::Figures::add_of))]
 pub fn add(totals: Figures, figures: Figures) -> Added
     ensures { result ≡ add_of totals figures }
 {
     if !all_fit(totals, figures) {
         return Added {
             totals,
-            answer: Answer::Refused(Refusal::SumPasses),
+            answer: Err(Refusal::SumPasses),
         };
     }
     let sums = Figures {
@@ -122,28 +116,19 @@ pub fn add(totals: Figures, figures: Figures) -> Added
     };
     Added {
         totals: sums,
-        answer: Answer::Done,
+        answer: Ok(()),
     }
 }
 
-// A number raised, up to the last one of 64 bits.
-fn raised(x: u64, by: u64) -> u64
-    ensures { result ≡ raised x by }
-{
-    if fits(x, by) {
-        return x + by;
-    }
-    u64::MAX
-}
-
+// Figures raised, each up to the last number of 64 bits.
 fn raised_by(f: Figures, g: Figures) -> Figures
     ensures { result ≡ raised_by f g }
 {
     Figures {
-        slots: raised(f.slots, g.slots),
-        members: raised(f.members, g.members),
-        listed: raised(f.listed, g.listed),
-        apart: raised(f.apart, g.apart),
+        slots: f.slots.saturating_add(g.slots),
+        members: f.members.saturating_add(g.members),
+        listed: f.listed.saturating_add(g.listed),
+        apart: f.apart.saturating_add(g.apart),
     }
 }
 
@@ -151,51 +136,31 @@ fn raised_by(f: Figures, g: Figures) -> Figures
 fn rows_of(rows: [Held; 32], n: u32) -> u32
     ensures { result ≡ node_count (table_of n rows) }
 {
-    let all = rows.len() as u32;
-    if n < all {
-        return n;
-    }
-    all
+    n.min(rows.len() as u32)
 }
 
 // How many of the first n records are in the member state.
 fn members_in(rows: [Held; 32], n: u32) -> u64
     ensures { result ≡ members_in (table_of n rows) }
 {
-    let end = rows_of(rows, n) as usize;
-    let mut count: u64 = 0;
-    let mut i: usize = 0;
-    while i < end {
-        let v = rows[i];
-        let state = v.state;
-        count = with_one(count, node_record::is_member(state));
-        i += 1;
-    }
-    count
-}
-
-// One more, if so.
-fn with_one(count: u64, yes: bool) -> u64
-    ensures { result ≡ raised count (num yes) }
-{
-    if yes {
-        return raised(count, 1);
-    }
-    count
+    rows.iter()
+        .take(n as usize)
+        .filter(|v| node_record::is_member(v.state))
+        .count() as u64
 }
 
 // How many of n nodes are listed.
-fn listed_in(n: u32, list: Listed) -> u64
+fn listed_in(n: u32, list: Option<u32>) -> u64
     ensures { result ≡ size n (set_in list) }
 {
     match list {
-        Listed::Set(set) => nodeset::size(n, set) as u64,
-        Listed::Nobody => 0,
+        Some(set) => nodeset::size(n, set) as u64,
+        None => 0,
     }
 }
 
 // The figures of a slot by what is printed of it, and the table after it.
-fn told_figures(plan: Plan, list: Listed, distance: u32) -> Figures
+fn told_figures(plan: Plan, list: Option<u32>, distance: u32) -> Figures
     ensures { result ≡ told_figures plan list distance }
 {
     let rows = plan.rows;
@@ -203,7 +168,7 @@ fn told_figures(plan: Plan, list: Listed, distance: u32) -> Figures
         slots: 1,
         members: members_in(rows, plan.n),
         listed: listed_in(rows_of(rows, plan.n), list),
-        apart: with_one(0, 0 < distance),
+        apart: u64::from(0 < distance),
     }
 }
 
@@ -219,7 +184,8 @@ fn figures_by(f: Figures, plan: Plan) -> Figures
     }
 }
 
-// By which number a line was refused; 0 for none.
+// By which number a line was refused; 0 for none, by the definition `fault_in`: no refusal has that
+// number.
 fn fault_in(outcome: Outcome) -> u32
     ensures { result ≡ fault_in outcome }
 {
@@ -271,33 +237,42 @@ fn line_done(t: Tally, part: Part) -> Tally
     }
 }
 
-// What comes of a plan that ends, within a line or not.
-fn verdict_of(t: Tally, begun: bool) -> Verdict
+// What comes of a plan that ends, within a line or not: its figures count, or it is refused at a line.
+fn verdict_of(t: Tally, begun: bool) -> Result<(), Stopped>
     ensures { result ≡ verdict_of t begun }
 {
     let plan = t.plan;
     let added = add(t.totals, t.figures);
     let answer = added.answer;
     if plan.over {
-        return Verdict::Refused(plan.lines, t.fault);
+        return Err(Stopped {
+            line: plan.lines,
+            number: t.fault,
+        });
     }
     if (plan.lines == 0) | begun {
-        return Verdict::Refused(plan_text::next_line(plan.lines), 12);
+        return Err(Stopped {
+            line: plan_text::next_line(plan.lines),
+            number: 12,
+        });
     }
     match answer {
-        Answer::Done => Verdict::Counted,
-        Answer::Refused(_) => Verdict::Refused(plan.lines, 19),
+        Ok(()) => Ok(()),
+        Err(_) => Err(Stopped {
+            line: plan.lines,
+            number: 19,
+        }),
     }
 }
 
 // The totals after a plan.
-fn totals_by(verdict: Verdict, t: Tally) -> Figures
+fn totals_by(verdict: Result<(), Stopped>, t: Tally) -> Figures
     ensures { result ≡ totals_by verdict t }
 {
     let added = add(t.totals, t.figures);
     match verdict {
-        Verdict::Counted => added.totals,
-        Verdict::Refused(_, _) => t.totals,
+        Ok(()) => added.totals,
+        Err(_) => t.totals,
     }
 }
 
@@ -323,13 +298,13 @@ fn put_figures(out: &mut [u8], at: usize, f: Figures) -> usize
 }
 
 // Puts what comes of a plan.
-fn put_verdict(out: &mut [u8], at: usize, verdict: Verdict, f: Figures) -> usize
+fn put_verdict(out: &mut [u8], at: usize, verdict: Result<(), Stopped>, f: Figures) -> usize
     requires { at + 84 ≤ length out.old }
     ensures { PutFew 84 result at (verdict_text verdict f) out.old out.new }
 {
     match verdict {
-        Verdict::Counted => put_figures(out, at, f),
-        Verdict::Refused(line, number) => plan_text::put_refusal(out, at, line, number),
+        Ok(()) => put_figures(out, at, f),
+        Err(stopped) => plan_text::put_refusal(out, at, stopped.line, stopped.number),
     }
 }
 
@@ -382,9 +357,7 @@ fn with_byte(part: Part, byte: u8) -> Part
 fn is_next(part: Part) -> bool
     ensures { result ≡ is_next (bytes_in part) }
 {
-    let text = part.text;
-    let length = if part.length < 121 { part.length } else { 121 };
-    plan_line::same(b"next", &text[..length])
+    plan_line::same(b"next", &part.text[..part.length.min(121)])
 }
 
 // After the end of a line. Requires a plan that can go on.
@@ -446,11 +419,9 @@ fn take_bytes(r: Report, input: &[u8], out: &mut [u8]) -> Taken
     ensures { (result.report ≡ after r input.now) × (PutAt result.at 0 (text_of r input.now) out.old out.new) }
 {
     let mut taken = Taken { report: r, at: 0 };
-    let mut i = 0;
-    while i < input.len() {
+    for &byte in input {
         let report = taken.report;
-        taken = take_byte(report, input[i], out, taken.at);
-        i += 1;
+        taken = take_byte(report, byte, out, taken.at);
     }
     taken
 }
@@ -459,24 +430,23 @@ fn take_bytes(r: Report, input: &[u8], out: &mut [u8]) -> Taken
 pub fn feed(report: Report, input: &[u8], out: &mut [u8]) -> Fed
     ensures { fed_as result out.new ≡ fed_of report input.now out.old }
 {
-    let plan = report.tally.plan;
-    if !plan_program::is_sound(plan) {
+    if !plan_program::is_sound(report.tally.plan) {
         return Fed {
             report,
-            written: Written::Refused(Refusal::Unsound),
+            written: Err(Refusal::Unsound),
         };
     }
     if out.len() / 110 < input.len() {
         return Fed {
             report,
-            written: Written::Refused(Refusal::OutputShort),
+            written: Err(Refusal::OutputShort),
         };
     }
     let taken = take_bytes(report, input, out);
     let next = taken.report;
     Fed {
         report: next,
-        written: Written::Bytes(taken.at),
+        written: Ok(taken.at),
     }
 }
 
@@ -491,11 +461,11 @@ fn put_last(out: &mut [u8], t: Tally, begun: bool) -> usize
 }
 
 // Ends the input. It refuses by 9, and then does nothing.
-pub fn finish(report: Report, out: &mut [u8]) -> Written
+pub fn finish(report: Report, out: &mut [u8]) -> Result<usize, Refusal>
     ensures { (result, out.new) ≡ finished_of report out.old }
 {
     if out.len() < 200 {
-        return Written::Refused(Refusal::OutputShort);
+        return Err(Refusal::OutputShort);
     }
-    Written::Bytes(put_last(out, report.tally, report.part.length != 0))
+    Ok(put_last(out, report.tally, report.part.length != 0))
 }

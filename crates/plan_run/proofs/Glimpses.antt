@@ -1,5 +1,6 @@
 -- A line on a table that is taken as it is: on a sound table a glimpse gives the order that a look over the whole table gives, and an order that is carried out is the bench's call. So the line does what specs/Run
 -- says. Assumes nothing.
+use Rattle.std.specs.Prelude.{Err, Ok}
 use Prim.Native.Nat.{ℕ, ◌+◌, ◌-◌, ◌≤◌}
 use mathlib.Core.Path.{◌≡◌, refl, sym, ap, ap₂, subst, ◌∙◌}
 use mathlib.Core.Bool.{Bool, true, false}
@@ -47,8 +48,7 @@ use Rattle.bench_work.specs.Work.{choices_in}
 use Rattle.bench_calls.proofs.Works.{called_fit, called-fitting, sent_on, refused-table}
 use Rattle.bench_calls.proofs.Outcomes.{HeldEnd, done-by, ended-by, is-ended}
 use Rattle.bench_by_value.specs.ByValue.{Rows, call_of, ended}
-use Rattle.plan_run.specs.declared.Act.{Act}
-use Rattle.plan_run.specs.declared.Act.TheVariants as act
+use Rattle.plan_run.specs.Run.{Act}
 use Rattle.plan_run.specs.Run.{slots_for, ran_by}
 use Rattle.plan_run.specs.Inner.{asked_by, beside_by, beside_of, errand_on, outcome_on}
 
@@ -194,21 +194,21 @@ module _ (n : ℕ) (rows : Rows) where
   abbrev t : HeldTable
   t = take n rows
 
-  called : (c : Command) → done-by (errand_on (act.Call c) t) t ≡ done-by (errand_of (order_of c (survey_of t) (length t) 64 (beside_by c)) (survey_of t) (beside_by c)) t → Does n rows (act.Call c)
+  called : (c : Command) → done-by (errand_on (Ok c) t) t ≡ done-by (errand_of (order_of c (survey_of t) (length t) 64 (beside_by c)) (survey_of t) (beside_by c)) t → Does n rows (Ok c)
   unfolding call_of
   called c is =
       let e = is ∙ carried-call c t in
       (ap (λ (x : HeldEnd). (ended n rows x.table x.reply).rows) e, ap (λ (x : HeldEnd). (ended n rows x.table x.reply).outcome) e)
 
-  pub refused : (cause : Refusal) → Does n rows (act.Refuse cause)
+  pub refused : (cause : Refusal) → Does n rows (Err cause)
   unfolding errand_on
-  refused cause = (ap (λ (l : Rows). l ++ drop n rows) (refused-table cause (glimpse_of t 0) (beside_of (act.Refuse cause)) t) ∙ take-append-drop n rows, refl)
+  refused cause = (ap (λ (l : Rows). l ++ drop n rows) (refused-table cause (glimpse_of t 0) (beside_of (Err cause)) t) ∙ take-append-drop n rows, refl)
 
-  pub opened : (choices : Choices) → Does n rows (act.Call (command.SetUp choices))
+  pub opened : (choices : Choices) → Does n rows (Ok (command.SetUp choices))
   unfolding errand_on
   opened choices = called (command.SetUp choices) (start-rowless choices (survey_of t) (length t) (glimpse_of t 0) (survey_of t) t)
 
   pub later : table_sound (setted_all t) ≡ true → (a : Act) → Does n rows a
   unfolding errand_on
-  later sound (act.Call c) = called c (ap (λ (x : Errand). done-by x t) (same-errand t sound c))
-  later sound (act.Refuse cause) = refused cause
+  later sound (Ok c) = called c (ap (λ (x : Errand). done-by x t) (same-errand t sound c))
+  later sound (Err cause) = refused cause

@@ -1,5 +1,5 @@
 -- Inner: what a line has a lent table do, where the table is taken as it is. The laws in proofs/Glimpses tie it to specs/Run.
-use Rattle.std.specs.Prelude.{ℕ, length}
+use Rattle.std.specs.Prelude.{ℕ, length, Err, Ok}
 use Rattle.cable.specs.Cable.{plain_cable, cable_of}
 use Rattle.bench.specs.Held.{HeldTable}
 use Rattle.bench.specs.declared.Command.{Command}
@@ -14,16 +14,14 @@ use Rattle.bench_orders.specs.Survey.{glimpse_of}
 use Rattle.bench_orders.specs.Orders.{all_fit, errand_of, order_of, reply_by}
 use Rattle.bench_work.specs.declared.Work.{Work}
 use Rattle.bench_work.specs.Work.{work_of}
-use Rattle.plan_line.specs.declared.Opening.{Opening}
-use Rattle.plan_line.specs.declared.Opening.TheVariants as opening
-use Rattle.plan_run.specs.declared.Act.{Act}
-use Rattle.plan_run.specs.declared.Act.TheVariants as act
+use Rattle.plan_line.specs.Plan.{Opening}
+use Rattle.plan_run.specs.Run.{Act}
 use Rattle.plan_run.specs.Run.{choices_of}
 
 -- What line one has the bench do.
 abbrev pub opening_act : Opening → Act
-opening_act (opening.Ring n k) = act.Call (command.SetUp (choices_of n k))
-opening_act (opening.Refused cause) = act.Refuse cause
+opening_act (Ok (n, k)) = Ok (command.SetUp (choices_of n k))
+opening_act (Err cause) = Err cause
 
 -- The node that a command asks about: the one to be restarted.
 abbrev pub asked_by : Command → ℕ
@@ -34,8 +32,8 @@ asked_by (command.Slot lost missed jobs) = 0
 asked_by (command.Look lost) = 0
 
 abbrev pub asked : Act → ℕ
-asked (act.Call c) = asked_by c
-asked (act.Refuse cause) = 0
+asked (Ok c) = asked_by c
+asked (Err cause) = 0
 
 -- What is lent beside the table: set-up is asked for with the plain table. Neither ledger nor counts are kept.
 abbrev pub beside_by : Command → Beside
@@ -46,13 +44,13 @@ beside_by (command.Slot lost missed jobs) = all_fit (cable_of 0 0) 0
 beside_by (command.Look lost) = all_fit (cable_of 0 0) 0
 
 abbrev pub beside_of : Act → Beside
-beside_of (act.Call c) = beside_by c
-beside_of (act.Refuse cause) = all_fit (cable_of 0 0) 0
+beside_of (Ok c) = beside_by c
+beside_of (Err cause) = all_fit (cable_of 0 0) 0
 
 -- What each record is to do, with room for all pairs.
 abbrev pub order_by : Act → Survey → ℕ → Beside → Order
-order_by (act.Call c) s size beside = order_of c s size 64 beside
-order_by (act.Refuse cause) s size beside = order.Refuse cause
+order_by (Ok c) s size beside = order_of c s size 64 beside
+order_by (Err cause) s size beside = order.Refuse cause
 
 abbrev pub errand_by : Act → Survey → ℕ → Errand
 errand_by a s size = errand_of (order_by a s size (beside_of a)) s (beside_of a)

@@ -14,15 +14,11 @@ use bench_orders::{Beside, Errand, Order, Survey};
 use bench_work::Work;
 use cable::{Cable, Choices};
 use node_record::Held;
-use plan_line::{Line, Opening};
+use plan_line::Line;
 use refusal::Refusal;
 
-// What a line has the bench do.
-#[derive(Clone, Copy)]
-pub enum Act {
-    Call(Command),
-    Refuse(Refusal),
-}
+// What a line has the bench do: a call, or nothing where the line is refused.
+pub type Act = Result<Command, Refusal>;
 
 // The bench that line one sets up, the number of its nodes, and what there is to print: what
 // specs/Run says of line one.
@@ -55,17 +51,16 @@ pub fn no_rows() -> [Held; 32]
 }
 
 // What a line after line one has the bench do.
-fn act_of(line: Line) -> Act
+fn act_of(line: Result<Line, Refusal>) -> Act
     ensures { result ≡ act_of line }
 {
-    match line {
-        Line::Ok => Act::Call(Command::Slot(false, 0, 0)),
-        Line::Lost => Act::Call(Command::Slot(true, 0, 0)),
-        Line::Miss(missed) => Act::Call(Command::Slot(false, missed, 0)),
-        Line::Off(a) => Act::Call(Command::Off(a)),
-        Line::On(a) => Act::Call(Command::Restart(a)),
-        Line::Refused(cause) => Act::Refuse(cause),
-    }
+    Ok(match line? {
+        Line::Ok => Command::Slot(false, 0, 0),
+        Line::Lost => Command::Slot(true, 0, 0),
+        Line::Miss(missed) => Command::Slot(false, missed, 0),
+        Line::Off(a) => Command::Off(a),
+        Line::On(a) => Command::Restart(a),
+    })
 }
 
 // What a line after line one, given without its line feed, has a bench of n nodes do.
@@ -79,25 +74,23 @@ pub fn later_act(n: u32, line: &[u8]) -> Act
 pub fn first_act(line: &[u8]) -> Act
     ensures { result ≡ opening_act (opening_of line.now) }
 {
-    let opening = plan_line::opening_of(line);
-    match opening {
-        Opening::Ring(n, k) => Act::Call(Command::SetUp(Choices { n, k, m: 0, lag: 0 })),
-        Opening::Refused(cause) => Act::Refuse(cause),
-    }
+    let (n, k) = plan_line::opening_of(line)?;
+    Ok(Command::SetUp(Choices { n, k, m: 0, lag: 0 }))
 }
 
-// The number of nodes that line one says; 0 where it is refused.
+// The number of nodes that line one says; 0 where it is refused, by the definition `opened_by`.
 pub fn first_size(line: &[u8]) -> u32
     ensures { result ≡ (opened_of line.now).n }
 {
     let opening = plan_line::opening_of(line);
     match opening {
-        Opening::Ring(n, _) => n,
-        Opening::Refused(_) => 0,
+        Ok((n, _)) => n,
+        Err(_) => 0,
     }
 }
 
-// The node that a command asks about: the one to be restarted; 0 where there is none.
+// The node that a command asks about: the one to be restarted; 0 where there is none, by the definition
+// `asked_by`: no node has that number.
 fn asked_by(command: Command) -> u32
     ensures { result ≡ asked_by command }
 {
@@ -113,10 +106,10 @@ fn asked_by(command: Command) -> u32
 fn asked(act: Act) -> u32
     ensures { result ≡ asked act }
 {
-    match act {
-        Act::Call(command) => asked_by(command),
-        Act::Refuse(_) => 0,
-    }
+    let Ok(command) = act else {
+        return 0;
+    };
+    asked_by(command)
 }
 
 // What is lent beside the table: set-up is asked for with the plain table. Neither ledger nor counts are
@@ -145,8 +138,8 @@ fn beside_of(act: Act) -> Beside
     ensures { result ≡ beside_of act }
 {
     match act {
-        Act::Call(command) => beside_by(command),
-        Act::Refuse(_) => ALL_FIT,
+        Ok(command) => beside_by(command),
+        Err(_) => ALL_FIT,
     }
 }
 
@@ -155,8 +148,8 @@ fn order_by(act: Act, s: Survey, size: usize, beside: Beside) -> Order
     ensures { result ≡ order_by act s size beside }
 {
     match act {
-        Act::Call(command) => bench_orders::order_of(command, s, size, 64, beside),
-        Act::Refuse(cause) => Order::Refuse(cause),
+        Ok(command) => bench_orders::order_of(command, s, size, 64, beside),
+        Err(cause) => Order::Refuse(cause),
     }
 }
 

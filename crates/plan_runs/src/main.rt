@@ -15,204 +15,109 @@
 // Any other letter ends the run.
 #![tactic(auto)]
 
+use plan_bytes::Target;
 use plan_program::{Part, Plan};
-use plan_text::Written;
+use refusal::Refusal;
 use run_io::block::Block;
-use run_io::input::{Head, Source, Unread};
+use run_io::commands;
+use run_io::commands::Program;
 use run_io::output::Sink;
-use run_io::{block, input, output};
-use std::io;
-use std::io::{Read, Write};
+use std::io::Write;
 
-// What there is from one command to the next; `held` is the number of bytes that wait in the output.
+// What there is from one command to the next.
 #[derive(Clone, Copy)]
 struct State {
     plan: Plan,
     part: Part,
-    held: usize,
 }
 
-fn is_command(letter: u8) -> bool {
-    match letter {
-        b'N' | b'P' | b'L' | b'T' | b'F' | b'E' | b'A' => true,
-        _ => false,
-    }
-}
-
-// How many bytes follow the letter and the byte after it.
-fn body(letter: u8, byte: u8) -> u8 {
-    match letter {
-        b'F' | b'A' => text_bytes::piece_end(byte),
-        b'E' => 4,
-        _ => plan_bytes::body(letter),
-    }
-}
-
-// A whole command; its further bytes go into the start of `block`.
-fn read<R: Read>(input: &mut Source<R>, left: Unread, block: &mut Block) -> Head {
-    let head = input::read_head(input, left);
-    input::fill_after(input, head, block, body(head.letter, head.byte))
-}
-
-fn is_call(letter: u8) -> bool {
-    match letter {
-        b'F' | b'E' | b'A' => true,
-        _ => false,
-    }
-}
-
-// The plan and the part that are loaded by a command without an answer.
-fn load(state: State, head: Head, block: &Block) -> State {
-    if head.letter == b'N' {
-        return State {
-            plan: plan_program::no_plan(),
-            part: plan_program::no_part(),
-            held: state.held,
-        };
-    }
-    let plan = state.plan;
-    let part = state.part;
-    State {
-        plan: plan_bytes::plan_loaded(plan, head, block),
-        part: plan_bytes::part_loaded(part, head, block),
-        held: state.held,
-    }
-}
-
-// A call's answer, and the plan and the part after it.
 #[derive(Clone, Copy)]
-struct Ran {
-    plan: Plan,
-    part: Part,
-    written: Written,
+enum Call {
+    Feed,
+    Finish,
+    Print,
 }
 
-fn feed(plan: Plan, part: Part, piece: &[u8], out: &mut [u8]) -> Ran {
-    let fed = plan_program::feed(plan, part, piece, out);
-    let plan = fed.plan;
-    let part = fed.part;
-    let written = fed.written;
-    Ran {
-        plan: plan,
-        part: part,
-        written: written,
-    }
+#[derive(Clone, Copy)]
+enum Command {
+    Start,
+    Load(Target),
+    Call(Call),
 }
 
-fn finish(plan: Plan, part: Part, out: &mut [u8]) -> Ran {
-    let written = plan_program::finish(plan, part, out);
-    Ran {
-        plan: plan,
-        part: part,
-        written: written,
-    }
-}
-
-fn print(plan: Plan, part: Part, text: &[u8], out: &mut [u8]) -> Ran {
-    let written = plan_program::print_plan(text, out);
-    Ran {
-        plan: plan,
-        part: part,
-        written: written,
-    }
-}
-
-fn run_lent(letter: u8, plan: Plan, part: Part, text: &[u8], out: &mut [u8]) -> Ran {
-    match letter {
-        b'F' => feed(plan, part, text, out),
-        b'E' => finish(plan, part, out),
-        _ => print(plan, part, text, out),
-    }
-}
-
-// The bytes after the room.
-fn run_text(letter: u8, length: usize, plan: Plan, part: Part, text: &[u8], out: &mut [u8]) -> Ran {
-    if length <= 250 {
-        let end = length + 4;
-        if end <= text.len() {
-            return run_lent(letter, plan, part, &text[4..end], out);
-        }
-    }
-    run_lent(letter, plan, part, text, out)
-}
-
-// Lends the first `room` bytes.
-fn run_room(
-    letter: u8,
-    length: usize,
-    plan: Plan,
-    part: Part,
-    text: &[u8],
-    out: &mut [u8],
-    room: usize,
-) -> Ran {
-    if room <= out.len() {
-        run_text(letter, length, plan, part, text, &mut out[0..room])
-    } else {
-        run_text(letter, length, plan, part, text, out)
-    }
-}
-
-// Carries a call out and answers.
-fn call<W: Write>(output: &mut Sink<W>, state: State, head: Head, block: &Block) -> State {
-    let mut out = [0xA5u8; 20480];
-    let room = block::word(block, 0) as usize;
-    let plan = state.plan;
-    let part = state.part;
-    let ran = run_room(
-        head.letter,
-        head.byte as usize,
-        plan,
-        part,
-        block,
-        &mut out,
-        room,
-    );
-    let written = ran.written;
-    let plan = ran.plan;
-    let part = ran.part;
-    let held = text_bytes::put_written(output, state.held, written);
-    let held = output::put_bytes(output, held, &out, room);
-    let held = plan_bytes::put_plan(output, held, plan);
-    let held = plan_bytes::put_part(output, held, part);
+fn start() -> State {
     State {
-        plan: plan,
-        part: part,
-        held: held,
-    }
-}
-
-fn run<W: Write>(output: &mut Sink<W>, state: State, head: Head, block: &Block) -> State {
-    if is_call(head.letter) {
-        return call(output, state, head, block);
-    }
-    load(state, head, block)
-}
-
-// A proved loop has to end, so it counts its turns, up to a number that no run reaches.
-fn run_all<R: Read, W: Write>(input: &mut Source<R>, output: &mut Sink<W>) -> usize {
-    let mut left = Unread { at: 0, end: 0 };
-    let mut state = State {
         plan: plan_program::no_plan(),
         part: plan_program::no_part(),
-        held: 0,
-    };
-    for _ in 0..u64::MAX {
-        let mut block = [0u8; 255];
-        let head = read(input, left, &mut block);
-        if !is_command(head.letter) {
-            return state.held;
-        }
-        state = run(output, state, head, &block);
-        let rest = head.left;
-        left = rest;
     }
-    state.held
+}
+
+// The bytes after the room. More than 250 have no room in a block: the whole block stands for them.
+fn text_of(block: &Block, length: u8) -> &[u8] {
+    if length <= 250 {
+        text_bytes::piece(block, length)
+    } else {
+        block
+    }
+}
+
+impl State {
+    fn feed(&mut self, piece: &[u8], out: &mut [u8]) -> Result<usize, Refusal> {
+        let fed = plan_program::feed(self.plan, self.part, piece, out);
+        self.plan = fed.plan;
+        self.part = fed.part;
+        fed.written
+    }
+
+    // Carries a call out and answers.
+    fn call<W: Write>(&mut self, output: &mut Sink<W>, call: Call, length: u8, block: &Block) {
+        let mut out = [0xA5u8; 20480];
+        let lent = text_bytes::lent(&mut out, block);
+        let text = text_of(block, length);
+        let written = match call {
+            Call::Feed => self.feed(text, lent),
+            Call::Finish => plan_program::finish(self.plan, self.part, lent),
+            Call::Print => plan_program::print_plan(text, lent),
+        };
+        text_bytes::put_written(output, written, lent);
+        plan_bytes::put_plan(output, &self.plan);
+        plan_bytes::put_part(output, &self.part);
+    }
+}
+
+impl Program for State {
+    type Command = Command;
+
+    fn command_of(letter: u8) -> Option<Command> {
+        match letter {
+            b'N' => Some(Command::Start),
+            b'F' => Some(Command::Call(Call::Feed)),
+            b'E' => Some(Command::Call(Call::Finish)),
+            b'A' => Some(Command::Call(Call::Print)),
+            _ => plan_bytes::target_of(letter).map(Command::Load),
+        }
+    }
+
+    fn body(command: Command, byte: u8) -> u8 {
+        match command {
+            Command::Start => 0,
+            Command::Load(target) => plan_bytes::body(target),
+            Command::Call(Call::Finish) => 4,
+            Command::Call(Call::Feed | Call::Print) => text_bytes::piece_end(byte),
+        }
+    }
+
+    fn run<W: Write>(&mut self, output: &mut Sink<W>, command: Command, byte: u8, block: &Block) {
+        match command {
+            Command::Start => *self = start(),
+            Command::Load(target) => {
+                plan_bytes::load(&mut self.plan, &mut self.part, target, byte, block)
+            }
+            Command::Call(call) => self.call(output, call, byte, block),
+        }
+    }
 }
 
 fn main(rt: HostRuntime) {
-    let mut input = input::buffered(rt.reader());
-    let mut output = output::buffered(io::writer(&rt));
-    let held = run_all(&mut input, &mut output);
-    output::flush(&mut output, held);
+    commands::run_all(&rt, &mut start());
 }

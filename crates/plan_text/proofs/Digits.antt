@@ -1,18 +1,19 @@
 -- How many digits a number takes, how long the parts of a line are, and that line numbers are exact for 2 ^ 64 lines.
 -- Assumes nothing.
-use Prim.Native.Nat.{ℕ, zero, suc, ◌+◌, ◌/◌, ◌%◌, ◌≤◌, ◌<◌}
+use Rattle.std.specs.Prelude.{None, Some}
+use Prim.Native.Nat.{ℕ, zero, suc, ◌+◌, ◌/◌, ◌%◌, ◌≤◌, ◌<◌, ◌*◌, ◌^◌}
 use mathlib.Core.Path.{◌≡◌, refl, ap, ◌∙◌}
 use mathlib.Core.Bool.{Bool, true, false, cond}
 use mathlib.Core.List.{[], ◌∷◌}
 use native.Mathlib.Omega.{arith}
+use native.Mathlib.Nat.{pow-suc}
 use lib.ListN.{length, length-append}
 use lib.Dec.{ltb}
 use borrow.Author.Tests.{lt-ltb, le-ltb}
 use Rattle.plan_text.specs.Text.{decimal, digits, fate_text, glyph, next_line, number_then, places, refusal_text, shown_text}
 use Rattle.bench.specs.declared.Fate.{Fate}
 use Rattle.bench.specs.declared.Fate.TheVariants.{Silent, Lost, Knock, Sent}
-use Rattle.bench.specs.declared.Listed.{Listed}
-use Rattle.bench.specs.declared.Listed.TheVariants.{Set, Nobody}
+use Rattle.bench.specs.Answers.{Listed}
 
 pub places-stop : (m x : ℕ) → x < 10 → places m x ≡ 1
 unfolding places
@@ -23,9 +24,20 @@ pub places-next : (m k x : ℕ) → m ≡ suc k → 10 ≤ x → places m x ≡ 
 unfolding places
 places-next m k x e h = ap (λ (j : ℕ). places j x) e ∙ simp (le-ltb x 10 h)
 
-pub places-last : (m x : ℕ) → m ≡ 0 → places m x ≡ 1
+power-some : (k : ℕ) → 1 ≤ 10 ^ k
+power-some zero = omega arith
+power-some (suc k) = rw pow-suc (omega (arith, power-some k))
+
+-- a number has one place more than its logarithm
+pub places-log : (m k x : ℕ) → k ≤ m → 10 ^ k ≤ x → x < 10 * 10 ^ k → places m x ≡ suc k
 unfolding places
-places-last m x e = ap (λ (j : ℕ). places j x) e
+places-log zero zero x few low high = refl
+places-log zero (suc k) x few low high = absurd (omega arith)
+places-log (suc m) zero x few low high = places-stop (suc m) x (omega arith)
+places-log (suc m) (suc k) x few low high =
+    let more : 10 ^ k * 10 ≤ x = rw pow-suc at low in
+    let less : x < 10 * (10 ^ k * 10) = rw pow-suc at high in
+    places-next (suc m) m x refl (omega (arith, power-some k)) ∙ ap suc (places-log m k (x / 10) (omega arith) (omega arith) (omega arith))
 
 pub places-most : (m x : ℕ) → places m x ≤ suc m
 unfolding places
@@ -68,8 +80,8 @@ fate-short Knock = omega arith
 fate-short Sent = omega arith
 
 pub shown-short : (shown : Listed) → length (shown_text shown) ≤ 9
-shown-short (Set set) = omega (arith, length-append (digits 16 8 set) (32 ∷ []), length_digits 16 8 set)
-shown-short Nobody = omega arith
+shown-short (Some set) = omega (arith, length-append (digits 16 8 set) (32 ∷ []), length_digits 16 8 set)
+shown-short None = omega arith
 
 pub refusal-short : (line cause : ℕ) → length (refusal_text line cause) ≤ 80
 unfolding refusal_text

@@ -3,3 +3,4 @@ pub mod Paste
 pub mod Digits
 pub mod ReadBack
 pub mod Bytewise
+pub mod Pieces

@@ -1,5 +1,6 @@
 -- Texts put one after the other are put as one text; what a turn of a loop that puts bytes leaves; what is kept of a line.
 -- Assumes nothing.
+use Rattle.std.specs.Prelude.{Err, Ok}
 use Prim.Native.Nat.{ℕ, suc, ◌+◌, ◌-◌, ◌/◌, ◌%◌, ◌≤◌, ◌<◌}
 use mathlib.Core.Path.{◌≡◌, refl, sym, ap, ◌∙◌}
 use mathlib.Core.List.{List, [], ◌∷◌, ◌++◌, append_assoc}
@@ -7,12 +8,11 @@ use native.Mathlib.Omega.{arith}
 use native.Mathlib.Numerals.{add-one}
 use native.Mathlib.Nat.{add-zero, add-suc}
 use lib.Dec.{eqb}
-use lib.ListN.{length, take, drop, get_or, set, length-append, take-append-drop}
-use lib.Seq.{length-take-le, lt-length-set, take_at, drop_at, drop-cons, drop-drop, drop-set-lt, take-set-le, get_or-set_same, set_split, paste, paste-suc}
+use lib.ListN.{length, take, drop, set, length-append, take-append-drop}
+use lib.Seq.{length-take-le, lt-length-set, take_at, drop_at, drop-cons, drop-drop, drop-set-lt, take-set-le, get_or-set_same, set_split}
 use Rattle.plan_text.proofs.Digits.{length_digits}
 use Rattle.plan_text.specs.Text.{PutAt, PutFew, digits, glyph, pasted, written_of}
-use Rattle.plan_text.specs.declared.Written.{Written}
-use Rattle.plan_text.specs.declared.Written.TheVariants.{Bytes, Refused}
+use Rattle.plan_text.specs.Text.{Written}
 use Rattle.refusal.specs.declared.Refusal.{Refusal}
 use borrow.Author.Tests.{le-leb, ne_eqb}
 
@@ -91,7 +91,7 @@ more b h one two kept few =
 
 -- the answer where there is room
 pub written : (text : List ℕ) (at : ℕ) (out : List ℕ) (next : ℕ) (last : List ℕ) → at + 80 ≤ length out → PutAt next at text out last
-    → (Bytes (next - at), last) ≡ written_of text at out
+    → (Ok (next - at), last) ≡ written_of text at out
 unfolding written_of
 written text at out next last room put =
     let size : next - at ≡ length text = omega (arith, put.end) in
@@ -100,14 +100,14 @@ written text at out next last room put =
 -- ---- a line that is written
 
 module _ {w : Written} {last : List ℕ} (text out : List ℕ) (at : ℕ) (room : at + 80 ≤ length out) (wrote : ◌≡◌ {A = Written × List ℕ} (w, last) (written_of text at out)) where
-  is-written : ◌≡◌ {A = Written × List ℕ} (w, last) (Bytes (length text), pasted out at text)
+  is-written : ◌≡◌ {A = Written × List ℕ} (w, last) (Ok (length text), pasted out at text)
   unfolding written_of
   is-written = simp (le-leb (at + 80) (length out) room) at wrote
 
-  pub count-is : {count : ℕ} → w ≡ Bytes count → count ≡ length text
-  count-is e = let first : w ≡ Bytes (length text) = ap (λ (p : Written × List ℕ). p.0) is-written in cc
+  pub count-is : {count : ℕ} → w ≡ Ok count → count ≡ length text
+  count-is e = let first : w ≡ Ok (length text) = ap (λ (p : Written × List ℕ). p.0) is-written in cc
 
-  pub put-few : {count : ℕ} → length text ≤ 80 → w ≡ Bytes count → PutFew 80 (at + count) at text out last
+  pub put-few : {count : ℕ} → length text ≤ 80 → w ≡ Ok count → PutFew 80 (at + count) at text out last
   put-few {count} short e =
       let size : count ≡ length text = count-is e in
       record {
@@ -115,28 +115,13 @@ module _ {w : Written} {last : List ℕ} (text out : List ℕ) (at : ℕ) (room 
         few = omega arith;
       }
 
-  pub not-refused : {cause : Refusal} → w ≡ Refused cause → ⊥
+  pub not-refused : {cause : Refusal} → w ≡ Err cause → ⊥
   not-refused e =
-      let first : w ≡ Bytes (length text) = ap (λ (p : Written × List ℕ). p.0) is-written in
+      let first : w ≡ Ok (length text) = ap (λ (p : Written × List ℕ). p.0) is-written in
       let z : ◌≡◌ {A = ℕ} 0 1 = cc in
       omega arith
 
 -- ---- a turn of a loop
-
--- one byte of a word
-pub word-turn : (d : List ℕ) (at : ℕ) (w : List ℕ) (i : ℕ) → at + length w ≤ length d → i < length w
-    → set (pasted d at (take i w)) (at + i) (get_or w i 0) ≡ pasted d at (take (i + 1) w)
-unfolding pasted
-word-turn d at w i room h =
-    ap (λ (l : List ℕ). set l (at + i) (get_or w i 0)) (is-paste i (omega arith))
-    ∙ paste-suc d at w i 0 (omega arith) h
-    ∙ sym (is-paste (suc i) (omega arith))
-    ∙ ap (λ (n : ℕ). pasted d at (take n w)) (sym (add-one i))
-  where
-    is-paste : (n : ℕ) → n ≤ length w → pasted d at (take n w) ≡ paste d at w n
-    is-paste n le =
-        sym (append_assoc (take at d) (take n w) (drop (at + length (take n w)) d))
-        ∙ ap (λ (k : ℕ). (take at d ++ take n w) ++ drop (at + k) d) (length-take-le n w le)
 
 -- A number's digits are put from the last one on: with `i` of them left to put, the whole will be this.
 unfoldable pub filling : ℕ → List ℕ → ℕ → ℕ → ℕ → List ℕ

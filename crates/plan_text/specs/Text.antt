@@ -1,13 +1,11 @@
 -- Document 01, "The bench program": the text of what the program prints, as the list of its bytes, and what writing it into lent bytes leaves.
-use Rattle.std.specs.Prelude.{ℕ, zero, suc, ◌+◌, ◌/◌, ◌%◌, ◌≤◌, ◌≡◌, cond, List, [], ◌∷◌, ◌++◌, ltb, leb, length, take, drop}
+use Rattle.std.specs.Prelude.{ℕ, zero, suc, ◌+◌, ◌/◌, ◌%◌, ◌≤◌, ◌≡◌, cond, List, [], ◌∷◌, ◌++◌, ltb, leb, length, take, drop, Err, None, Ok, Some, Result}
+use Rattle.refusal.specs.declared.Refusal.{Refusal}
 use Rattle.refusal.specs.Causes.{cause}
 use Rattle.plan_line.specs.Words.{bytes}
 use Rattle.bench.specs.declared.Fate.{Fate}
 use Rattle.bench.specs.declared.Fate.TheVariants.{Silent, Lost, Knock, Sent}
-use Rattle.bench.specs.declared.Listed.{Listed}
-use Rattle.bench.specs.declared.Listed.TheVariants.{Set, Nobody}
-use Rattle.plan_text.specs.declared.Written.{Written}
-use Rattle.plan_text.specs.declared.Written.TheVariants.{Bytes, Refused}
+use Rattle.bench.specs.Answers.{Listed}
 
 -- ---- numbers
 
@@ -44,8 +42,8 @@ fate_text Sent = bytes "sent "
 
 -- "The set of the lowest-numbered member as eight hexadecimal digits (node 1 is the lowest bit; `--------` if none)"
 abbrev pub shown_text : Listed → List ℕ
-shown_text (Set set) = digits 16 8 set ++ (32 ∷ [])
-shown_text Nobody = bytes "-------- "
+shown_text (Some set) = digits 16 8 set ++ (32 ∷ [])
+shown_text None = bytes "-------- "
 
 -- "Each slot prints: slot, sender, fate .., the set .., the greatest distance"; 10 is the line feed.
 unfoldable pub slot_text : ℕ → ℕ → Fate → Listed → ℕ → List ℕ
@@ -85,10 +83,14 @@ pub record PutFew (most next at : ℕ) (text before after : List ℕ) : Type 0 w
   pub put : PutAt next at text before after
   pub few : next ≤ at + most
 
+-- The number of bytes, or why none was written.
+abbrev pub Written : Type 0
+Written = Result ℕ Refusal
+
 -- What comes of writing a line: the number of its bytes, and all of the lent bytes afterwards. "Lent output too short" is 9: 80 bytes from the place on
 -- hold every line. It leaves "every byte" as it was.
 unfoldable pub written_of : List ℕ → ℕ → List ℕ → Written × List ℕ
-written_of text at out = cond (leb (at + 80) (length out)) (Bytes (length text), pasted out at text) (Refused (cause 9), out)
+written_of text at out = cond (leb (at + 80) (length out)) (Ok (length text), pasted out at text) (Err (cause 9), out)
 
 -- ---- a text that comes in pieces
 
@@ -104,5 +106,5 @@ input_of (c ∷ more) = c.input ++ input_of more
 
 -- The bytes that a call wrote.
 abbrev pub written_in : Written → List ℕ → List ℕ
-written_in (Bytes count) out = take count out
-written_in (Refused cause) out = []
+written_in (Ok count) out = take count out
+written_in (Err cause) out = []

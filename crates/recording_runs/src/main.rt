@@ -16,42 +16,27 @@
 // Any other letter ends the run. Before the first command the recording is that of `N 0`.
 #![tactic(auto)]
 
-use converter_text::{Direction, Fed, Recording};
+use converter_text::{Direction, Recording};
+use refusal::Refusal;
 use run_io::block::Block;
-use run_io::input::{Head, Source, Unread};
+use run_io::commands::Program;
 use run_io::output::Sink;
-use run_io::{block, input, output};
-use std::io;
-use std::io::{Read, Write};
+use run_io::{block, commands};
+use std::io::Write;
+use text_bytes::Call;
+use text_bytes::pieces::Pieces;
 
-// What there is from one command to the next; `held` is the number of bytes that wait in the output.
+// What there is from one command to the next.
 #[derive(Clone, Copy)]
-struct Held {
+struct State {
     recording: Recording,
-    held: usize,
 }
 
-fn is_command(letter: u8) -> bool {
-    match letter {
-        b'N' | b'L' | b'F' | b'E' => true,
-        _ => false,
-    }
-}
-
-// How many bytes follow the letter and the byte after it.
-fn body(letter: u8, byte: u8) -> u8 {
-    match letter {
-        b'L' => 137,
-        b'F' => text_bytes::piece_end(byte),
-        b'E' => 4,
-        _ => 0,
-    }
-}
-
-// A whole command; its further bytes go into the start of `block`.
-fn read<R: Read>(input: &mut Source<R>, left: Unread, block: &mut Block) -> Head {
-    let head = input::read_head(input, left);
-    input::fill_after(input, head, block, body(head.letter, head.byte))
+#[derive(Clone, Copy)]
+enum Command {
+    Start,
+    Load,
+    Call(Call),
 }
 
 fn direction_of(byte: u8) -> Direction {
@@ -77,106 +62,59 @@ fn recording_of(byte: u8, block: &Block) -> Recording {
     }
 }
 
-fn put_recording<W: Write>(output: &mut Sink<W>, held: usize, recording: Recording) -> usize {
-    let mut answer = [0u8; 255];
-    let direction = recording.direction;
-    answer[0] = direction_byte(direction);
-    block::set_long_word(&mut answer, 1, recording.lines);
-    let held = output::put_block(output, held, &answer, 9);
-    let text = recording.text;
-    text_bytes::put_text(output, held, recording.length, text)
+fn put_recording<W: Write>(output: &mut Sink<W>, recording: &Recording) {
+    output.put(direction_byte(recording.direction));
+    output.put_long_words(&[recording.lines]);
+    text_bytes::put_text(output, recording.length, &recording.text);
 }
 
-// Feeds the bytes after the room. A block is long enough to hold them.
-fn feed(recording: Recording, length: u8, block: &[u8], out: &mut [u8]) -> Fed {
-    let end = text_bytes::piece_end(length) as usize;
-    if end <= block.len() {
-        converter_text::feed(recording, &block[4..end], out)
-    } else {
-        converter_text::feed(recording, block, out)
+impl Pieces for State {
+    fn feed(&mut self, piece: &[u8], output: &mut [u8]) -> Result<usize, Refusal> {
+        let fed = converter_text::feed(self.recording, piece, output);
+        self.recording = fed.recording;
+        fed.written
+    }
+
+    fn finish(&mut self, output: &mut [u8]) -> Result<usize, Refusal> {
+        converter_text::finish(self.recording, output)
     }
 }
 
-fn finish(recording: Recording, out: &mut [u8]) -> Fed {
-    let written = converter_text::finish(recording, out);
-    Fed {
-        recording: recording,
-        written: written,
-    }
-}
+impl Program for State {
+    type Command = Command;
 
-fn run_lent(recording: Recording, head: Head, block: &Block, out: &mut [u8]) -> Fed {
-    let letter = head.letter;
-    match letter {
-        b'F' => feed(recording, head.byte, block, out),
-        _ => finish(recording, out),
-    }
-}
-
-// Lends the first `room` bytes.
-fn run_room(recording: Recording, head: Head, block: &Block, out: &mut [u8], room: usize) -> Fed {
-    if room <= out.len() {
-        run_lent(recording, head, block, &mut out[0..room])
-    } else {
-        run_lent(recording, head, block, out)
-    }
-}
-
-// Carries a call out and answers.
-fn call<W: Write>(output: &mut Sink<W>, state: Held, head: Head, block: &Block) -> Held {
-    let mut out = [0xA5u8; 20480];
-    let room = block::word(block, 0) as usize;
-    let recording = state.recording;
-    let fed = run_room(recording, head, block, &mut out, room);
-    let written = fed.written;
-    let next = fed.recording;
-    let held = text_bytes::put_written(output, state.held, written);
-    let held = output::put_bytes(output, held, &out, room);
-    let held = put_recording(output, held, next);
-    Held {
-        recording: next,
-        held: held,
-    }
-}
-
-fn run<W: Write>(output: &mut Sink<W>, state: Held, head: Head, block: &Block) -> Held {
-    let letter = head.letter;
-    match letter {
-        b'N' => Held {
-            recording: converter_text::start(direction_of(head.byte)),
-            held: state.held,
-        },
-        b'L' => Held {
-            recording: recording_of(head.byte, block),
-            held: state.held,
-        },
-        _ => call(output, state, head, block),
-    }
-}
-
-// A proved loop has to end, so it counts its turns, up to a number that no run reaches.
-fn run_all<R: Read, W: Write>(input: &mut Source<R>, output: &mut Sink<W>) -> usize {
-    let mut left = Unread { at: 0, end: 0 };
-    let mut state = Held {
-        recording: converter_text::start(Direction::Three),
-        held: 0,
-    };
-    for _ in 0..u64::MAX {
-        let mut block = [0u8; 255];
-        let head = read(input, left, &mut block);
-        if !is_command(head.letter) {
-            return state.held;
+    fn command_of(letter: u8) -> Option<Command> {
+        match letter {
+            b'N' => Some(Command::Start),
+            b'L' => Some(Command::Load),
+            _ => text_bytes::call_of(letter).map(Command::Call),
         }
-        state = run(output, state, head, &block);
-        let rest = head.left;
-        left = rest;
     }
-    state.held
+
+    fn body(command: Command, byte: u8) -> u8 {
+        match command {
+            Command::Start => 0,
+            Command::Load => 137,
+            Command::Call(call) => text_bytes::body(call, byte),
+        }
+    }
+
+    fn run<W: Write>(&mut self, output: &mut Sink<W>, command: Command, byte: u8, block: &Block) {
+        match command {
+            Command::Start => self.recording = converter_text::start(direction_of(byte)),
+            Command::Load => self.recording = recording_of(byte, block),
+            Command::Call(call) => {
+                let mut buffer = [0xA5; 20480];
+                text_bytes::run_call(output, self, call, byte, block, &mut buffer);
+                put_recording(output, &self.recording);
+            }
+        }
+    }
 }
 
 fn main(rt: HostRuntime) {
-    let mut input = input::buffered(rt.reader());
-    let mut output = output::buffered(io::writer(&rt));
-    let held = run_all(&mut input, &mut output);
-    output::flush(&mut output, held);
+    let mut state = State {
+        recording: converter_text::start(Direction::Three),
+    };
+    commands::run_all(&rt, &mut state);
 }

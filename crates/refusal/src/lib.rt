@@ -29,7 +29,8 @@ pub enum Refusal {
     LampBases,
 }
 
-// The number of the cause.
+// The number of the cause: the table of document 01, row by row, so that no number follows from the order
+// of the cases.
 pub fn number(cause: Refusal) -> u32
     ensures { result ≡ number_of cause }
 {

@@ -1,6 +1,6 @@
 -- What is kept beside the table, the ledger and the counts of failure reports, is renamed as the records are: the same calls are made in both runs (`made-ledger`, `made-counts`), and each figure is its tally over
 -- these (`ledger-tallies`, `reports-tally`), to which a call adds the same in both. Assumes of the cable that its choices are in range.
-use Prim.Native.Nat.{ℕ, ◌+◌, ◌-◌, ◌≤◌}
+use Prim.Native.Nat.{ℕ, ◌+◌, ◌≤◌}
 use mathlib.Core.Path.{◌≡◌, refl, sym, ap, ap₂, ◌∙◌, subst}
 use mathlib.Core.Logic.{◌≢◌}
 use mathlib.Core.Bool.{Bool, true, false, cond, not, ◌&&◌, true≢false}
@@ -17,7 +17,7 @@ use Rattle.ledger.specs.slot_table.Order.{place}
 use Rattle.ledger.specs.cable.declared.Cable.{Cable}
 use Rattle.ledger.specs.cable.Cable.{node_number, cable_fits}
 use Rattle.ledger.proofs.cable.Ranges.{fitting, ring-size, node-number}
-use Rattle.ledger.specs.message.declared.Reading.{Reading}
+use Rattle.ledger.specs.message.Answers.{Reading}
 use Rattle.ledger.specs.message.Message.{jobs_within}
 use Rattle.ledger.specs.node_reports.Reports.{Counts, all_within}
 use Rattle.ledger.specs.node_record.declared.Node.{Node}
@@ -25,7 +25,7 @@ use Rattle.ledger.specs.node_record.declared.State.{State}
 use Rattle.ledger.specs.node_record.Soundness.{limit}
 use Rattle.ledger.specs.node_steps.Steps.{is_heard}
 use Rattle.ledger.specs.node_sending.Sending.{jobs_sent}
-use Rattle.ledger.specs.node.declared.Answer.{Answer}
+use Rattle.ledger.specs.node.Answers.{Answer}
 use Rattle.ledger.specs.node.Calls.{is_done, hears_report}
 use Rattle.ledger.specs.bench.declared.Outcome.TheVariants.{Refused}
 use Rattle.ledger.specs.bench.Table.{Table, record_of, table_sound, node_count, slots_of, speaker}

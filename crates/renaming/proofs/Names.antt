@@ -1,5 +1,6 @@
 -- Names and sets. The two names of a node belong to each other (`name-placed`, `placed-name`); a renamed set, `R`, holds the renamed nodes (`has-name`, `R-with` and the laws beside them); the walk
 -- back along the ring finds the renamed node, as places do not move (`before-name`, `sponsored-name`, `decided-name`), and so is the sender renamed (`sender-name`). Assumes that the cable's choices are in range.
+use Rattle.std.specs.Prelude.{None, Option, Some}
 use Prim.Native.Nat.{ℕ, zero, suc, ◌+◌, ◌-◌, ◌^◌, ◌≤◌, ◌<◌}
 use mathlib.Core.Path.{◌≡◌, refl, sym, ap, ◌∙◌}
 use mathlib.Core.Logic.{◌≢◌}
@@ -20,13 +21,13 @@ use Rattle.ledger.proofs.slot_table.Places.{node-range, node-place, place_of, ov
 use Rattle.ledger.proofs.slot_table.Numbers.{plain_at, plain-kept, plain-place}
 use Rattle.ledger.specs.cable.declared.Cable.{Cable}
 use Rattle.ledger.specs.ring.declared.Found.{Found}
-use Rattle.ledger.specs.ring.declared.Found.TheVariants.{Member, Nobody}
 use Rattle.ledger.specs.cable.Cable.{node_number, cable_fits}
 use Rattle.ledger.specs.ring.Ring.{turn, sender, ks, previous, walk, member_before, sponsors, sponsored, decided, member_in, is_found}
 use Rattle.ledger.proofs.cable.Ranges.{fitting, fits_by, node-number}
 use Rattle.ledger.proofs.ring_laws.Senders.{turn-range, previous-range, Turns, turns-of, sender-range}
 use Rattle.ledger.proofs.bench.Choices.{choose}
 use Rattle.renaming.specs.Renamed.{plain_of, name_of, placed, renamed_set, missed_at}
+use Rattle.ledger.specs.ring.Ring.{found}
 
 -- ---- choices
 
@@ -276,31 +277,31 @@ module _ (cable : Cable) (fits : cable_fits cable ≡ true) where
   -- ---- the walk
 
   -- what is found, renamed
-  abbrev pub named : Found → Found
-  named (Member m back) = Member (name_of cable m) back
-  named Nobody = Nobody
+  abbrev pub named : Option Found → Option Found
+  named (Some f) = found (name_of cable f.member) f.back
+  named None = None
 
   -- the one is the other renamed, which is a node
-  abbrev pub Named : Found → Found → Type 0
+  abbrev pub Named : Option Found → Option Found → Type 0
   Named found' found = (found' ≡ named found) × (member_in found ≤ n)
 
-  pub named_in : (found : Found) → member_in (named found) ≡ name_of cable (member_in found)
-  named_in (Member m back) = refl
-  named_in Nobody = sym name-none
+  pub named_in : (found : Option Found) → member_in (named found) ≡ name_of cable (member_in found)
+  named_in (Some f) = refl
+  named_in None = sym name-none
 
-  pub named-is : (x : ℕ) (found : Found) → is_found (name_of cable x) (named found) ≡ is_found x found
-  named-is x (Member m back) = eqb-name m x
-  named-is x Nobody = refl
+  pub named-is : (x : ℕ) (found : Option Found) → is_found (name_of cable x) (named found) ≡ is_found x found
+  named-is x (Some f) = eqb-name f.member x
+  named-is x None = refl
 
   -- one slot of the walk, by what it finds further back
-  one-back : (s j back x y : ℕ) → x ≡ name_of cable y → y ≤ n → (further' further : ℕ → Found) → ((more : ℕ) → Named (further' more) (further more))
-      → Named (cond (has (R s) x && eqb j 1) (Member x back) (further' (j - num (has (R s) x)))) (cond (has s y && eqb j 1) (Member y back) (further (j - num (has s y))))
+  one-back : (s j back x y : ℕ) → x ≡ name_of cable y → y ≤ n → (further' further : ℕ → Option Found) → ((more : ℕ) → Named (further' more) (further more))
+      → Named (cond (has (R s) x && eqb j 1) (found x back) (further' (j - num (has (R s) x)))) (cond (has s y && eqb j 1) (found y back) (further (j - num (has s y))))
   one-back s j back x y e l further' further r =
       let t : has (R s) x ≡ has s y = ap (has (R s)) e ∙ has-name s y l in
       let more = j - num (has s y) in (
-        ap (λ (b : Bool). cond (b && eqb j 1) (Member x back) (further' (j - num b))) t
-            ∙ cond-by named (has s y && eqb j 1) (Member y back) (further more) refl (ap (λ (z : ℕ). Member z back) e) (r more).0,
-        choose (λ (found : Found). member_in found ≤ n) (has s y && eqb j 1) (Member y back) (further more) (λ _. l) (λ _. (r more).1),
+        ap (λ (b : Bool). cond (b && eqb j 1) (found x back) (further' (j - num b))) t
+            ∙ cond-by named (has s y && eqb j 1) (found y back) (further more) refl (ap (λ (z : ℕ). found z back) e) (r more).0,
+        choose (λ (found : Option Found). member_in found ≤ n) (has s y && eqb j 1) (found y back) (further more) (λ _. l) (λ _. (r more).1),
       )
 
   walk-name : (left s p j : ℕ) → p ≤ n → Named (walk left cable (R s) p j) (walk left (plain_of cable) s p j)
@@ -330,8 +331,8 @@ module _ (cable : Cable) (fits : cable_fits cable ≡ true) where
       let found = member_before (plain_of cable) s x (j + cable.lag) in
       let r = before-name s x (j + cable.lag) h l in
       let test = leb 1 j && leb j (sponsors (plain_of cable) s) in (
-        cond-by named test found Nobody (ap (λ (c : ℕ). leb 1 j && leb j c) (sponsors-name s)) r.0 refl,
-        choose (λ (f : Found). member_in f ≤ n) test found Nobody (λ _. r.1) (λ _. omega arith),
+        cond-by named test found None (ap (λ (c : ℕ). leb 1 j && leb j c) (sponsors-name s)) r.0 refl,
+        choose (λ (f : Option Found). member_in f ≤ n) test found None (λ _. r.1) (λ _. omega arith),
       )
 
   pub decided-name : (s x : ℕ) → 1 ≤ x → x ≤ n → Named (decided cable (R s) (name_of cable x)) (decided (plain_of cable) s x)

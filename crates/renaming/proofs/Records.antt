@@ -1,6 +1,7 @@
 -- The rules know a node by its place alone: a rule on a renamed record makes the renamed one of what it makes of the record (`step-renamed`, `off-renamed`, `restart-renamed`, with equal answers;
 -- `starting-renamed`), what is sent is equal (`sends-renamed`, `bits-renamed`, `return-renamed`), and a renamed record is sound (`sound-renamed`). Assumes that the cable's choices are in range and that the
 -- record is a sound one with the plain table; within a slot it is only asked that the record's numbers are in range (`Good`).
+use Rattle.std.specs.Prelude.{Err, Option, Ok}
 use Prim.Native.Nat.{ℕ, zero, suc, ◌+◌, ◌^◌, ◌≤◌, ◌<◌}
 use mathlib.Core.Path.{◌≡◌, refl, sym, ap, ap₂, ◌∙◌, subst⁻¹}
 use mathlib.Core.Bool.{Bool, true, false, cond, not, ◌&&◌, ◌||◌}
@@ -15,8 +16,7 @@ use Rattle.ledger.specs.ring.declared.Found.{Found}
 use Rattle.ledger.specs.cable.Cable.{cable_fits}
 use Rattle.ledger.specs.ring.Ring.{sender, ks, member_before, sponsors, sponsored, decided, member_in, is_found}
 use Rattle.ledger.proofs.cable.Ranges.{fitting, node-number}
-use Rattle.ledger.specs.message.declared.Reading.{Reading}
-use Rattle.ledger.specs.message.declared.Reading.TheVariants as reading
+use Rattle.ledger.specs.message.Answers.{Reading}
 use Rattle.ledger.specs.node_record.declared.Node.{Node}
 use Rattle.ledger.specs.node_record.declared.Window.{Window}
 use Rattle.ledger.specs.node_record.declared.Cause.{Cause}
@@ -96,7 +96,7 @@ module _ (cable : Cable) (fits : cable_fits cable ≡ true) where
     sponsors-ren = sponsors-name cable fits v.set ∙ sym (ap (λ (c : Cable). sponsors c v.set) e)
 
     -- what is found with the plain table is found with the record's
-    found-ren : {found' : Found} (look : Cable → Found) → Named cable fits found' (look (plain_of cable)) → Named cable fits found' (look v.cable)
+    found-ren : {found' : Option Found} (look : Cable → Option Found) → Named cable fits found' (look (plain_of cable)) → Named cable fits found' (look v.cable)
     found-ren {found'} look r = subst⁻¹ (λ (c : Cable). Named cable fits found' (look c)) e r
 
     module _ (s : ℕ) (pos : 1 ≤ s) (le : s ≤ n) where
@@ -151,7 +151,7 @@ module _ (cable : Cable) (fits : cable_fits cable ≡ true) where
       let r = sponsored-ren v G.on-plain v.own G.own-pos G.own-le (suc j) in
       let found = sponsored_in v.own (suc j) v in
       ap₂ (λ (bits : ℕ) (b : Bool). with_if b bits (suc j)) (mark-bits j v G)
-      (ap (λ (x : Found). has (S v.present) (member_in x)) r.0 ∙ ap (has (S v.present)) (named_in cable fits found) ∙ has-name cable fits v.present (member_in found) r.1)
+      (ap (λ (x : Option Found). has (S v.present) (member_in x)) r.0 ∙ ap (has (S v.present)) (named_in cable fits found) ∙ has-name cable fits v.present (member_in found) r.1)
 
   bits-ren : (v : Node) → Good v → bits_sent (ren v) ≡ bits_sent v
   unfolding renamed bits_sent
@@ -175,7 +175,7 @@ module _ (cable : Cable) (fits : cable_fits cable ≡ true) where
         let r = sponsored-ren v G.on-plain s pos le (suc j) in
         let m = member_in (sponsored_in s (suc j) v) in
         let marks = confirmed j s bits v in
-        ap₂ (λ (found : Found) (old : ℕ). cond (has bits (suc j)) (with old (member_in found)) old) r.0 (confirmed-ren j bits v G)
+        ap₂ (λ (found : Option Found) (old : ℕ). cond (has bits (suc j)) (with old (member_in found)) old) r.0 (confirmed-ren j bits v G)
         ∙ cond-by S (has bits (suc j)) (with marks m) marks refl (ap (with (S marks)) (named_in cable fits (sponsored_in s (suc j) v)) ∙ sym (R-with cable fits marks m r.1)) refl
 
     says-ren : (answer : Bool) (j bits : ℕ) (v : Node) → Good v → says answer j (f s) bits (ren v) ≡ says answer j s bits v
@@ -203,8 +203,8 @@ module _ (cable : Cable) (fits : cable_fits cable ≡ true) where
 
     read-marks : (heard : Reading) (v : Node) → Good v → read_marks (f s) heard (ren v) ≡ S (read_marks s heard v)
     unfolding renamed
-    read-marks (reading.Heard bits return_bit) v G = heard-marks bits v G
-    read-marks (reading.Refused r) v G = sym (R-without cable fits v.present s le)
+    read-marks (Ok h) v G = heard-marks h.acknowledgements v G
+    read-marks (Err r) v G = sym (R-without cable fits v.present s le)
 
     marks-after : (heard : Reading) (v : Node) → Good v → marks_after (f s) heard (ren v) ≡ S (marks_after s heard v)
     unfolding renamed
@@ -213,8 +213,8 @@ module _ (cable : Cable) (fits : cable_fits cable ≡ true) where
 
     read-yes : (heard : Reading) (v : Node) → Good v → read_yes (f s) heard (ren v) ≡ read_yes s heard v
     unfolding renamed
-    read-yes (reading.Heard bits return_bit) v G = ap (λ (b : Bool). v.yes_heard || b) (says_all true bits v G)
-    read-yes (reading.Refused r) v G = refl
+    read-yes (Ok h) v G = ap (λ (b : Bool). v.yes_heard || b) (says_all true h.acknowledgements v G)
+    read-yes (Err r) v G = refl
 
     yes-after : (heard : Reading) (v : Node) → Good v → yes_after (f s) heard (ren v) ≡ yes_after s heard v
     yes-after heard v G = ap₂ (λ (own yes : Bool). not own && yes) (own-ren v) (read-yes heard v G)
@@ -306,10 +306,10 @@ module _ (cable : Cable) (fits : cable_fits cable ≡ true) where
         ap (λ (b : Bool). not (eqb v.returning 0) && b)
         (ap (is_found (f s)) (before-ren v G.on-plain v.returning (omega arith) G.returning-le 1).0 ∙ named-is cable fits s found))
       where
-        found : Found
+        found : Option Found
         found = member_before v.cable v.set v.returning 1
 
-        found' : Found
+        found' : Option Found
         found' = member_before cable (S v.set) (f v.returning) 1
 
     joined-ren : (v : Node) → Good v → joined (ren v) ≡ ren (joined v)
@@ -368,8 +368,8 @@ module _ (cable : Cable) (fits : cable_fits cable ≡ true) where
     -- ---- listening
 
     overheard-ren : (heard : Reading) (w : Window) → overheard (f s) heard (ren_window w) ≡ ren_window (overheard s heard w)
-    overheard-ren (reading.Heard bits return_bit) w = rw (R-with cable fits w.heard s le) refl
-    overheard-ren (reading.Refused r) w = refl
+    overheard-ren (Ok h) w = rw (R-with cable fits w.heard s le) refl
+    overheard-ren (Err r) w = refl
 
     window-after : (heard : Reading) (v : Node) → window_after (f s) heard (ren v) ≡ ren_window (window_after s heard v)
     unfolding renamed
@@ -384,8 +384,8 @@ module _ (cable : Cable) (fits : cable_fits cable ≡ true) where
     window-in heard v G = choose InRange (is_own s v) (slot_unheard v.listening) (overheard s heard v.listening) (λ _. (G.heard-lt, G.last-lt)) (λ _. go heard)
       where
         go : (heard : Reading) → InRange (overheard s heard v.listening)
-        go (reading.Heard bits return_bit) = (with-lt n v.listening.heard s le G.heard-lt, G.last-lt)
-        go (reading.Refused r) = (G.heard-lt, G.last-lt)
+        go (Ok h) = (with-lt n v.listening.heard s le G.heard-lt, G.last-lt)
+        go (Err r) = (G.heard-lt, G.last-lt)
 
     clean-ren : (w : Window) → clean cable (ren_window w) ≡ clean (plain_of cable) w
     unfolding clean

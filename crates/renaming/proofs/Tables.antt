@@ -12,8 +12,7 @@ use Rattle.ledger.specs.cable.declared.Cable.{Cable}
 use Rattle.ledger.specs.cable.Cable.{node_number, cable_fits}
 use Rattle.ledger.specs.ring.Ring.{sender}
 use Rattle.ledger.proofs.cable.Ranges.{fitting, ring-size, node-number}
-use Rattle.ledger.specs.message.declared.Reading.{Reading}
-use Rattle.ledger.specs.message.declared.Reading.TheVariants as reading
+use Rattle.ledger.specs.message.Answers.{Reading}
 use Rattle.ledger.specs.node_record.declared.Node.{Node}
 use Rattle.ledger.specs.node_record.States.{is_out}
 use Rattle.ledger.specs.node_record.Soundness.{sound, limit}
@@ -28,6 +27,7 @@ use Rattle.ledger.proofs.bench.Runs.{after-slot-record, start-record, start-plac
 use Rattle.renaming.specs.Renamed.{plain_of, name_of, placed, renamed, missed_at, call_at, calls_at, ran, ran_plain}
 use Rattle.renaming.proofs.Names.{cond-by, plain_fits, name-range, placed-range, name-placed, placed-number, eqb-name, has-missed, within-missed, sender-name, plain-sender}
 use Rattle.renaming.proofs.Records.{renamed_plain, renamed_stepped, starting-renamed, sends-renamed, return-renamed, bits-renamed, step-renamed, off-renamed, restart-renamed}
+use Rattle.ledger.specs.message.Answers.{heard_with}
 
 speaker-is : (cable : Cable) (t : Table) → 1 ≤ cable.n → Placed cable (slots_of t) t → speaker t ≡ sender cable (slots_of t + 1)
 unfolding speaker
@@ -100,9 +100,9 @@ module _ (cable : Cable) (fits : cable_fits cable ≡ true) where
     spoken-same =
         let w : Node = record_of u (speaker u) in
         let P = plain-record (speaker u) speaker-range.0 speaker-range.1 in
-        ap (λ (v : Node). cond (sends v) (reading.Heard (bits_sent v) (return_sent v)) unheard) speaks
-        ∙ ap (λ (b : Bool). cond b (reading.Heard (bits_sent (renamed_plain cable w)) (return_sent (renamed_plain cable w))) unheard) (sends-renamed cable fits w)
-        ∙ ap₂ (λ (bits : ℕ) (b : Bool). cond (sends w) (reading.Heard bits b) unheard) (bits-renamed cable fits w P.cable-is P.is-sound) (return-renamed cable fits w)
+        ap (λ (v : Node). cond (sends v) (heard_with (bits_sent v) (return_sent v)) unheard) speaks
+        ∙ ap (λ (b : Bool). cond b (heard_with (bits_sent (renamed_plain cable w)) (return_sent (renamed_plain cable w))) unheard) (sends-renamed cable fits w)
+        ∙ ap₂ (λ (bits : ℕ) (b : Bool). cond (sends w) (heard_with bits b) unheard) (bits-renamed cable fits w P.cable-is P.is-sound) (return-renamed cable fits w)
 
     pub heard-same : (lost : Bool) (missed p : ℕ) → within n missed ≡ true → 1 ≤ p → p ≤ n → heard_by lost missed t (name_of cable p) ≡ heard_by lost (missed_at cable missed) u p
     unfolding heard_by

@@ -20,47 +20,33 @@
 
 ghost use Rattle.std.specs.Prelude.{◌≤◌};
 
-use node::Answer;
-use plan_report::{Fed, Figures, Report, Tally};
+use plan_bytes::Target;
+use plan_report::{Figures, Report, Tally};
+use refusal::Refusal;
 use run_io::block::Block;
-use run_io::input::{Head, Source, Unread};
+use run_io::commands::Program;
 use run_io::output::Sink;
-use run_io::{block, input, output};
-use std::io;
-use std::io::{Read, Write};
+use run_io::{block, commands};
+use std::io::Write;
+use text_bytes::Call;
+use text_bytes::pieces::Pieces;
 
-// What there is from one command to the next; `held` is the number of bytes that wait in the output.
+// What there is from one command to the next.
 #[derive(Clone, Copy)]
 struct State {
     report: Report,
-    held: usize,
 }
 
-fn is_command(letter: u8) -> bool {
-    match letter {
-        b'N' | b'M' | b'P' | b'L' | b'T' | b'F' | b'E' | b'A' => true,
-        _ => false,
-    }
+#[derive(Clone, Copy)]
+enum Command {
+    Start,
+    LoadNumbers,
+    Load(Target),
+    Call(Call),
+    Add,
 }
 
-// How many bytes follow the letter and the byte after it.
-fn body(letter: u8, byte: u8) -> u8 {
-    match letter {
-        b'M' => 76,
-        b'F' => text_bytes::piece_end(byte),
-        b'E' => 4,
-        b'A' => 64,
-        _ => plan_bytes::body(letter),
-    }
-}
-
-// A whole command; its further bytes go into the start of `block`.
-fn read<R: Read>(input: &mut Source<R>, left: Unread, block: &mut Block) -> Head {
-    let head = input::read_head(input, left);
-    input::fill_after(input, head, block, body(head.letter, head.byte))
-}
-
-// Four figures at a place of a command, and of an answer.
+// Four figures at a place of a command.
 fn figures_at(block: &Block, at: usize) -> Figures
     requires { at ≤ 100 }
 {
@@ -72,192 +58,108 @@ fn figures_at(block: &Block, at: usize) -> Figures
     }
 }
 
-fn set_figures(answer: &mut Block, at: usize, figures: Figures)
-    requires { at ≤ 100 }
-{
-    block::set_long_word(answer, at, figures.slots);
-    block::set_long_word(answer, at + 8, figures.members);
-    block::set_long_word(answer, at + 16, figures.listed);
-    block::set_long_word(answer, at + 24, figures.apart);
+fn put_figures<W: Write>(output: &mut Sink<W>, figures: Figures) {
+    output.put_long_words(&[
+        figures.slots,
+        figures.members,
+        figures.listed,
+        figures.apart,
+    ]);
 }
 
 // ---- the report
 
-fn with_numbers(tally: Tally, block: &Block) -> Tally {
-    let plan = tally.plan;
-    Tally {
-        plans: block::long_word(block, 0),
-        plan: plan,
-        figures: figures_at(block, 12),
-        fault: block::word(block, 8),
-        totals: figures_at(block, 44),
-    }
+fn load_numbers(tally: &mut Tally, block: &Block) {
+    tally.plans = block::long_word(block, 0);
+    tally.fault = block::word(block, 8);
+    tally.figures = figures_at(block, 12);
+    tally.totals = figures_at(block, 44);
 }
 
-fn with_plan(tally: Tally, head: Head, block: &Block) -> Tally {
-    let plan = tally.plan;
-    let plan = plan_bytes::plan_loaded(plan, head, block);
-    let figures = tally.figures;
-    let totals = tally.totals;
-    Tally {
-        plans: tally.plans,
-        plan: plan,
-        figures: figures,
-        fault: tally.fault,
-        totals: totals,
-    }
+fn load(report: &mut Report, target: Target, byte: u8, block: &Block) {
+    let (plan, part) = (&mut report.tally.plan, &mut report.part);
+    plan_bytes::load(plan, part, target, byte, block);
 }
 
-fn tally_loaded(tally: Tally, head: Head, block: &Block) -> Tally {
-    let letter = head.letter;
-    match letter {
-        b'M' => with_numbers(tally, block),
-        _ => with_plan(tally, head, block),
-    }
-}
-
-// The report that is loaded by a command without an answer.
-fn loaded(report: Report, head: Head, block: &Block) -> Report {
-    if head.letter == b'N' {
-        return plan_report::start();
-    }
-    let tally = report.tally;
-    let part = report.part;
-    let tally = tally_loaded(tally, head, block);
-    let part = plan_bytes::part_loaded(part, head, block);
-    Report {
-        tally: tally,
-        part: part,
-    }
-}
-
-fn put_report<W: Write>(output: &mut Sink<W>, held: usize, report: Report) -> usize {
-    let tally = report.tally;
-    let part = report.part;
-    let plan = tally.plan;
-    let figures = tally.figures;
-    let totals = tally.totals;
-    let mut answer = [0u8; 255];
-    block::set_long_word(&mut answer, 0, tally.plans);
-    block::set_word(&mut answer, 8, tally.fault);
-    set_figures(&mut answer, 12, figures);
-    set_figures(&mut answer, 44, totals);
-    let held = output::put_block(output, held, &answer, 76);
-    let held = plan_bytes::put_plan(output, held, plan);
-    plan_bytes::put_part(output, held, part)
+fn put_report<W: Write>(output: &mut Sink<W>, report: &Report) {
+    let tally = &report.tally;
+    output.put_long_words(&[tally.plans]);
+    output.put_all(&tally.fault.to_le_bytes());
+    put_figures(output, tally.figures);
+    put_figures(output, tally.totals);
+    plan_bytes::put_plan(output, &tally.plan);
+    plan_bytes::put_part(output, &report.part);
 }
 
 // ---- calls
 
-// Feeds the bytes after the room. A block is long enough to hold them.
-fn feed(report: Report, length: u8, block: &[u8], out: &mut [u8]) -> Fed {
-    let end = text_bytes::piece_end(length) as usize;
-    if end <= block.len() {
-        plan_report::feed(report, &block[4..end], out)
-    } else {
-        plan_report::feed(report, block, out)
-    }
-}
-
-fn finish(report: Report, out: &mut [u8]) -> Fed {
-    let written = plan_report::finish(report, out);
-    Fed {
-        report: report,
-        written: written,
-    }
-}
-
-fn run_lent(report: Report, head: Head, block: &Block, out: &mut [u8]) -> Fed {
-    let letter = head.letter;
-    match letter {
-        b'F' => feed(report, head.byte, block, out),
-        _ => finish(report, out),
-    }
-}
-
-// Lends the first `room` bytes.
-fn run_room(report: Report, head: Head, block: &Block, out: &mut [u8], room: usize) -> Fed {
-    if room <= out.len() {
-        run_lent(report, head, block, &mut out[0..room])
-    } else {
-        run_lent(report, head, block, out)
-    }
-}
-
-// Carries a call on the report out and answers.
-fn call<W: Write>(output: &mut Sink<W>, state: State, head: Head, block: &Block) -> State {
-    let mut out = [0xA5u8; 27648];
-    let room = block::word(block, 0) as usize;
-    let report = state.report;
-    let fed = run_room(report, head, block, &mut out, room);
-    let written = fed.written;
-    let next = fed.report;
-    let held = text_bytes::put_written(output, state.held, written);
-    let held = output::put_bytes(output, held, &out, room);
-    let held = put_report(output, held, next);
-    State {
-        report: next,
-        held: held,
-    }
-}
-
-fn answer_byte(answer: Answer) -> u8 {
+fn answer_byte(answer: Result<(), Refusal>) -> u8 {
     match answer {
-        Answer::Done => 0,
-        Answer::Refused(cause) => (refusal::number(cause) % 256) as u8,
+        Ok(()) => 0,
+        Err(cause) => (refusal::number(cause) % 256) as u8,
     }
 }
 
 // Adds and answers.
-fn add<W: Write>(output: &mut Sink<W>, held: usize, block: &Block) -> usize {
+fn add<W: Write>(output: &mut Sink<W>, block: &Block) {
     let added = plan_report::add(figures_at(block, 0), figures_at(block, 32));
-    let told = added.answer;
-    let totals = added.totals;
-    let mut answer = [0u8; 255];
-    answer[0] = answer_byte(told);
-    set_figures(&mut answer, 1, totals);
-    output::put_block(output, held, &answer, 33)
+    output.put(answer_byte(added.answer));
+    put_figures(output, added.totals);
 }
 
-fn run<W: Write>(output: &mut Sink<W>, state: State, head: Head, block: &Block) -> State {
-    let report = state.report;
-    let letter = head.letter;
-    match letter {
-        b'F' | b'E' => call(output, state, head, block),
-        b'A' => State {
-            report: report,
-            held: add(output, state.held, block),
-        },
-        _ => State {
-            report: loaded(report, head, block),
-            held: state.held,
-        },
+impl Pieces for State {
+    fn feed(&mut self, piece: &[u8], output: &mut [u8]) -> Result<usize, Refusal> {
+        let fed = plan_report::feed(self.report, piece, output);
+        self.report = fed.report;
+        fed.written
+    }
+
+    fn finish(&mut self, output: &mut [u8]) -> Result<usize, Refusal> {
+        plan_report::finish(self.report, output)
     }
 }
 
-// A proved loop has to end, so it counts its turns, up to a number that no run reaches.
-fn run_all<R: Read, W: Write>(input: &mut Source<R>, output: &mut Sink<W>) -> usize {
-    let mut left = Unread { at: 0, end: 0 };
-    let mut state = State {
-        report: plan_report::start(),
-        held: 0,
-    };
-    for _ in 0..u64::MAX {
-        let mut block = [0u8; 255];
-        let head = read(input, left, &mut block);
-        if !is_command(head.letter) {
-            return state.held;
+impl Program for State {
+    type Command = Command;
+
+    fn command_of(letter: u8) -> Option<Command> {
+        match letter {
+            b'N' => Some(Command::Start),
+            b'M' => Some(Command::LoadNumbers),
+            b'A' => Some(Command::Add),
+            b'F' | b'E' => text_bytes::call_of(letter).map(Command::Call),
+            _ => plan_bytes::target_of(letter).map(Command::Load),
         }
-        state = run(output, state, head, &block);
-        let rest = head.left;
-        left = rest;
     }
-    state.held
+
+    fn body(command: Command, byte: u8) -> u8 {
+        match command {
+            Command::Start => 0,
+            Command::LoadNumbers => 76,
+            Command::Load(target) => plan_bytes::body(target),
+            Command::Call(call) => text_bytes::body(call, byte),
+            Command::Add => 64,
+        }
+    }
+
+    fn run<W: Write>(&mut self, output: &mut Sink<W>, command: Command, byte: u8, block: &Block) {
+        match command {
+            Command::Start => self.report = plan_report::start(),
+            Command::LoadNumbers => load_numbers(&mut self.report.tally, block),
+            Command::Load(target) => load(&mut self.report, target, byte, block),
+            Command::Call(call) => {
+                let mut buffer = [0xA5; 27648];
+                text_bytes::run_call(output, self, call, byte, block, &mut buffer);
+                put_report(output, &self.report);
+            }
+            Command::Add => add(output, block),
+        }
+    }
 }
 
 fn main(rt: HostRuntime) {
-    let mut input = input::buffered(rt.reader());
-    let mut output = output::buffered(io::writer(&rt));
-    let held = run_all(&mut input, &mut output);
-    output::flush(&mut output, held);
+    let mut state = State {
+        report: plan_report::start(),
+    };
+    commands::run_all(&rt, &mut state);
 }

@@ -10,12 +10,12 @@ use Rattle.nodeset.specs.Sets.{has}
 use Rattle.nodeset.proofs.Tests.{by_cases, both}
 use Rattle.slot_table.specs.Order.{node_at}
 use Rattle.cable.specs.declared.Cable.{Cable}
-use Rattle.ring.specs.declared.Found.TheVariants.{Member}
 use Rattle.ring.specs.Ring.{previous, walk}
 use Rattle.ring.specs.Places.{reach, found_at}
+use Rattle.ring.specs.Ring.{found}
 
 -- node 0 is in no set
-some-node : (n set x q left : ℕ) → has set x ≡ true → found_at n (record { node = x; place = q; left = left }) ≡ Member x (n - 1 - left)
+some-node : (n set x q left : ℕ) → has set x ≡ true → found_at n (record { node = x; place = q; left = left }) ≡ found x (n - 1 - left)
 unfolding has
 some-node n set zero q left e = absurd (true≢false (sym e))
 some-node n set (suc x) q left e = rw (ne_eqb (suc x) 0 (λ z. omega arith)) refl
@@ -29,5 +29,5 @@ reach-finds (suc left) cable set p j =
     let x = node_at cable.order q in
     let back : n - 1 - left ≡ n - suc left = omega arith in
     by_cases (has set x && eqb j 1)
-    (λ t. rw t (some-node n set x q left (both (has set x) (eqb j 1) t).0 ∙ ap (Member x) back))
+    (λ t. rw t (some-node n set x q left (both (has set x) (eqb j 1) t).0 ∙ ap (found x) back))
     (λ t. rw t (reach-finds left cable set q (j - num (has set x))))

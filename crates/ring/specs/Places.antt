@@ -1,26 +1,28 @@
 -- Inner: the walk of specs/Ring as the code takes it: the place that it reaches. The law is in proofs/Places.
-use Rattle.std.specs.Prelude.{ℕ, zero, suc, ◌-◌, cond, ◌&&◌, eqb}
+use Rattle.std.specs.Prelude.{ℕ, zero, suc, ◌-◌, cond, ◌&&◌, eqb, Err, None, Ok, Option, Result}
 use Rattle.nodeset.specs.Sums.{num}
 use Rattle.nodeset.specs.Sets.{has}
 use Rattle.slot_table.specs.Order.{node_at, place}
+use Rattle.refusal.specs.declared.Refusal.{Refusal}
 use Rattle.refusal.specs.declared.Refusal.TheVariants.{RingSize, Lag, SponsorCount, NodeNumber}
 use Rattle.cable.specs.declared.Cable.{Cable}
-use Rattle.ring.specs.declared.Tests.{Tests}
-use Rattle.ring.specs.declared.Tests.TheVariants.{Passed, Refused}
 use Rattle.ring.specs.declared.Found.{Found}
-use Rattle.ring.specs.declared.Found.TheVariants.{Member, Nobody}
 use Rattle.ring.specs.declared.Place.{Place}
 use Rattle.cable.specs.Cable.{ring_size, lag_fits, sponsor_count, node_number}
 use Rattle.ring.specs.Ring.{previous}
+use Rattle.ring.specs.Ring.{found}
 
 -- The tests before a walk, 1, 16, 2 and 3: it is not begun where one fails.
+abbrev pub Tests : Type 0
+Tests = Result Unit Refusal
+
 abbrev pub tests_of : Cable → ℕ → Tests
 tests_of cable x =
     cond (ring_size cable.n)
     (cond (lag_fits cable.lag)
-    (cond (sponsor_count cable) (cond (node_number cable.n x) Passed (Refused NodeNumber)) (Refused SponsorCount))
-    (Refused Lag))
-    (Refused RingSize)
+    (cond (sponsor_count cable) (cond (node_number cable.n x) (Ok tt) (Err NodeNumber)) (Err SponsorCount))
+    (Err Lag))
+    (Err RingSize)
 
 -- Where the walk begins: at the place of node x, with a round's other slots to go.
 abbrev pub start_at : Cable → ℕ → Place
@@ -40,5 +42,5 @@ reach (suc left) cable set p j =
     cond (has set x && eqb j 1) (record { node = x; place = q; left = left }) (reach left cable set q more)
 
 -- The member at a place, and how many slots back from the start of the walk it speaks; nobody where the node is 0.
-abbrev pub found_at : ℕ → Place → Found
-found_at n from = cond (eqb from.node 0) Nobody (Member from.node (n - 1 - from.left))
+abbrev pub found_at : ℕ → Place → Option Found
+found_at n from = cond (eqb from.node 0) None (found from.node (n - 1 - from.left))

@@ -3,8 +3,7 @@
 // instead (crate row), which finds the same.
 #![tactic(auto)]
 
-ghost use Rattle.std.specs.Prelude.{◌≡◌, ◌+◌, ◌-◌};
-ghost use Rattle.nodeset.specs.Sums.{num};
+ghost use Rattle.std.specs.Prelude.{◌≡◌, ◌+◌};
 ghost use Rattle.ring.specs.Ring.{ks, previous, member_before, sponsors, sponsored, decided};
 ghost use Rattle.ring.specs.Answers.{sender_of, before_of, sponsored_of, decided_of};
 ghost use Rattle.ring.specs.Places.{tests_of, start_at, reach, found_at};
@@ -12,43 +11,19 @@ ghost use Rattle.ring.specs.Places.{tests_of, start_at, reach, found_at};
 use cable::Cable;
 use refusal::Refusal;
 
-// Whose slot it is.
-#[derive(Clone, Copy)]
-pub enum Speaker {
-    Node(u32),
-    Refused(Refusal),
-}
-
 // What a walk back along the ring finds: a member, and how many slots back it speaks.
 #[derive(Clone, Copy)]
-pub enum Found {
-    Member(u32, u32),
-    Nobody,
-}
-
-// What a call that looks for a member answers.
-#[derive(Clone, Copy)]
-pub enum Lookup {
-    Found(Found),
-    Refused(Refusal),
-}
-
-// What comes of tests before a walk.
-#[derive(Clone, Copy)]
-enum Tests {
-    Passed,
-    Refused(Refusal),
+pub struct Found {
+    pub member: u32,
+    pub back: u32,
 }
 
 // How many of c members one of them sponsors.
 pub fn ks(cable: Cable, c: u32) -> u32
     ensures { result ≡ ks cable c }
 {
-    let others = cable::less(cable::less(c, 1), cable.lag);
-    if cable.k < others {
-        return cable.k;
-    }
-    others
+    let others = c.saturating_sub(1).saturating_sub(cable.lag);
+    cable.k.min(others)
 }
 
 // ---- Inner: the walk back, which takes every number as it is.
@@ -69,21 +44,9 @@ fn previous(n: u32, p: u32) -> u32
     if p <= 1 { n } else { p - 1 }
 }
 
-// How many members are still to be met, of j, after a slot whose node is one or not.
-fn still(j: u32, met: bool) -> u32
-    ensures { result ≡ j - num met }
-{
-    if !met {
-        return j;
-    }
-    if j == 0 {
-        return 0;
-    }
-    j - 1
-}
-
 // The place of the j-th member met on the walk back from place p, in at most `left` slots. The loop is
-// left by break with the member and the slots left there, which tell its distance.
+// left by break with the member and the slots left there, which tell its distance: a form that the project
+// asks for, so no `for`.
 fn walk(left: u32, cable: Cable, set: u32, p: u32, j: u32) -> Place
     ensures { result ≡ reach left cable set p j }
 {
@@ -106,7 +69,7 @@ fn walk(left: u32, cable: Cable, set: u32, p: u32, j: u32) -> Place
         if met & (more == 1) {
             break Place { node, place, left };
         }
-        more = still(more, met);
+        more = more.saturating_sub(u32::from(met));
     }
 }
 
@@ -118,24 +81,27 @@ fn start_at(cable: Cable, x: u32) -> Place
     Place {
         node: x,
         place: slot_table::place(order, x),
-        left: cable::less(cable.n, 1),
+        left: cable.n.saturating_sub(1),
     }
 }
 
 // The member at a place, and how many slots back from the start of the walk it speaks; nobody where the
 // node is 0.
-fn found_at(n: u32, place: Place) -> Found
+fn found_at(n: u32, place: Place) -> Option<Found>
     ensures { result ≡ found_at n place }
 {
-    let back = cable::less(cable::less(n, 1), place.left);
+    let back = n.saturating_sub(1).saturating_sub(place.left);
     if place.node == 0 {
-        return Found::Nobody;
+        return None;
     }
-    Found::Member(place.node, back)
+    Some(Found {
+        member: place.node,
+        back,
+    })
 }
 
 // The j-th member before node x.
-fn member_before(cable: Cable, set: u32, x: u32, j: u32) -> Found
+fn member_before(cable: Cable, set: u32, x: u32, j: u32) -> Option<Found>
     ensures { result ≡ member_before cable set x j }
 {
     let start = start_at(cable, x);
@@ -151,20 +117,20 @@ fn sponsors(cable: Cable, set: u32) -> u32
 }
 
 // The j-th member that node x sponsors, the nearest first.
-fn sponsored_member(cable: Cable, set: u32, x: u32, j: u32) -> Found
+fn sponsored_member(cable: Cable, set: u32, x: u32, j: u32) -> Option<Found>
     ensures { result ≡ sponsored cable set x j }
 {
     if j == 0 {
-        return Found::Nobody;
+        return None;
     }
     if sponsors(cable, set) < j {
-        return Found::Nobody;
+        return None;
     }
     member_before(cable, set, x, j + cable.lag)
 }
 
 // The member that node x decides: the last that it sponsors.
-fn decided_member(cable: Cable, set: u32, x: u32) -> Found
+fn decided_member(cable: Cable, set: u32, x: u32) -> Option<Found>
     ensures { result ≡ decided cable set x }
 {
     sponsored_member(cable, set, x, sponsors(cable, set))
@@ -173,75 +139,62 @@ fn decided_member(cable: Cable, set: u32, x: u32) -> Found
 // ---- The calls
 
 // The sender of the slot that follows `done` slots. Refuses by 1.
-pub fn sender(cable: Cable, done: u64) -> Speaker
+pub fn sender(cable: Cable, done: u64) -> Result<u32, Refusal>
     ensures { result ≡ sender_of cable (done + 1) }
 {
-    if !cable::is_ring_size(cable.n) {
-        return Speaker::Refused(Refusal::RingSize);
+    if cable::is_ring_size(cable.n) {
+        let order = cable.order;
+        let place = done % (cable.n as u64);
+        Ok(slot_table::node_at(order, place as u32 + 1))
+    } else {
+        Err(Refusal::RingSize)
     }
-    let order = cable.order;
-    let place = done % (cable.n as u64);
-    let x = slot_table::node_at(order, place as u32 + 1);
-    Speaker::Node(x)
 }
 
 // The j-th member before node x. Refuses by 1 and 3.
-pub fn before(cable: Cable, set: u32, x: u32, j: u32) -> Lookup
+pub fn before(cable: Cable, set: u32, x: u32, j: u32) -> Result<Option<Found>, Refusal>
     ensures { result ≡ before_of cable set x j }
 {
     if !cable::is_ring_size(cable.n) {
-        return Lookup::Refused(Refusal::RingSize);
+        return Err(Refusal::RingSize);
     }
     if !cable::is_node_number(cable.n, x) {
-        return Lookup::Refused(Refusal::NodeNumber);
+        return Err(Refusal::NodeNumber);
     }
-    let found = member_before(cable, set, x, j);
-    Lookup::Found(found)
+    Ok(member_before(cable, set, x, j))
 }
 
 // Whether a cable and node x pass the tests: 1, 16, 2 and 3.
-fn tests_of(cable: Cable, x: u32) -> Tests
+fn tests_of(cable: Cable, x: u32) -> Result<(), Refusal>
     ensures { result ≡ tests_of cable x }
 {
     if !cable::is_ring_size(cable.n) {
-        return Tests::Refused(Refusal::RingSize);
+        return Err(Refusal::RingSize);
     }
     if !cable::is_lag(cable.lag) {
-        return Tests::Refused(Refusal::Lag);
+        return Err(Refusal::Lag);
     }
     if !cable::is_sponsor_count(cable) {
-        return Tests::Refused(Refusal::SponsorCount);
+        return Err(Refusal::SponsorCount);
     }
     if !cable::is_node_number(cable.n, x) {
-        return Tests::Refused(Refusal::NodeNumber);
+        return Err(Refusal::NodeNumber);
     }
-    Tests::Passed
+    Ok(())
 }
 
 // The j-th member that node x sponsors, the nearest first. Refuses by 1, 16, 2 and 3.
-pub fn sponsored(cable: Cable, set: u32, x: u32, j: u32) -> Lookup
+pub fn sponsored(cable: Cable, set: u32, x: u32, j: u32) -> Result<Option<Found>, Refusal>
     ensures { result ≡ sponsored_of cable set x j }
 {
-    let tests = tests_of(cable, x);
-    match tests {
-        Tests::Passed => {
-            let found = sponsored_member(cable, set, x, j);
-            Lookup::Found(found)
-        }
-        Tests::Refused(cause) => Lookup::Refused(cause),
-    }
+    tests_of(cable, x)?;
+    Ok(sponsored_member(cable, set, x, j))
 }
 
 // The member that node x decides. Refuses by 1, 16, 2 and 3.
-pub fn decided(cable: Cable, set: u32, x: u32) -> Lookup
+pub fn decided(cable: Cable, set: u32, x: u32) -> Result<Option<Found>, Refusal>
     ensures { result ≡ decided_of cable set x }
 {
-    let tests = tests_of(cable, x);
-    match tests {
-        Tests::Passed => {
-            let found = decided_member(cable, set, x);
-            Lookup::Found(found)
-        }
-        Tests::Refused(cause) => Lookup::Refused(cause),
-    }
+    tests_of(cable, x)?;
+    Ok(decided_member(cable, set, x))
 }

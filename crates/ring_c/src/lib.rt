@@ -13,7 +13,8 @@ ghost use Rattle.ring.specs.Answers.{sender_of, before_of, sponsored_of, decided
 ghost use Rattle.ring_c.specs.Numbers.{choices_of, speaker_number, found_number, back_number, lookup_number, lookup_back};
 
 use cable::{Cable, Choices};
-use ring::{Found, Lookup, Speaker};
+use refusal::Refusal;
+use ring::Found;
 
 // ---- Sets
 
@@ -131,51 +132,51 @@ pub extern "C" fn ring_sender(n: u32, slots: &[u8], done: u64) -> u64
 {
     let cable = cable(n, 0, 0, slots);
     match ring::sender(cable, done) {
-        Speaker::Node(x) => 0x2_0000_0000 + x as u64,
-        Speaker::Refused(cause) => refusal::number(cause) as u64,
+        Ok(x) => 0x2_0000_0000 + x as u64,
+        Err(cause) => refusal::number(cause) as u64,
     }
 }
 
 // Nobody: 2^33 and 2^32, which is no number of 32 bits.
 const NOBODY: u64 = 0x3_0000_0000;
 
-// 2^33 and the member, or nobody.
-fn found_number(found: Found) -> u64
+// 2^33 and the member, or nobody. This and `back_number` are two, as the clauses of the exports name two.
+fn found_number(found: Option<Found>) -> u64
     ensures { result ≡ found_number found }
 {
     match found {
-        Found::Member(x, _) => 0x2_0000_0000 + x as u64,
-        Found::Nobody => NOBODY,
+        Some(found) => 0x2_0000_0000 + found.member as u64,
+        None => NOBODY,
     }
 }
 
 // 2^33 and how many slots back the member speaks, or nobody.
-fn back_number(found: Found) -> u64
+fn back_number(found: Option<Found>) -> u64
     ensures { result ≡ back_number found }
 {
     match found {
-        Found::Member(_, back) => 0x2_0000_0000 + back as u64,
-        Found::Nobody => NOBODY,
+        Some(found) => 0x2_0000_0000 + found.back as u64,
+        None => NOBODY,
     }
 }
 
 // The refusal's number, or that of what is found.
-fn lookup_number(lookup: Lookup) -> u64
+fn lookup_number(lookup: Result<Option<Found>, Refusal>) -> u64
     ensures { result ≡ lookup_number lookup }
 {
     match lookup {
-        Lookup::Found(found) => found_number(found),
-        Lookup::Refused(cause) => refusal::number(cause) as u64,
+        Ok(found) => found_number(found),
+        Err(cause) => refusal::number(cause) as u64,
     }
 }
 
 // The refusal's number, or how many slots back the member speaks that is found.
-fn lookup_back(lookup: Lookup) -> u64
+fn lookup_back(lookup: Result<Option<Found>, Refusal>) -> u64
     ensures { result ≡ lookup_back lookup }
 {
     match lookup {
-        Lookup::Found(found) => back_number(found),
-        Lookup::Refused(cause) => refusal::number(cause) as u64,
+        Ok(found) => back_number(found),
+        Err(cause) => refusal::number(cause) as u64,
     }
 }
 

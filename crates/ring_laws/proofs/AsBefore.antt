@@ -1,4 +1,5 @@
 -- With the plain table the ring is that of document 01, by node numbers (specs/Before). Assumes nothing.
+use Rattle.std.specs.Prelude.{None, Option}
 use Prim.Native.Nat.{ℕ, zero, suc, ◌+◌, ◌-◌, ◌≤◌}
 use mathlib.Core.Path.{◌≡◌, refl, sym, ap, ◌∙◌}
 use mathlib.Core.Bool.{Bool, true, false, cond, ◌&&◌, and-true, true≢false}
@@ -14,12 +15,12 @@ use Rattle.ring.proofs.slot_table.Same.{order_same}
 use Rattle.ring.proofs.slot_table.Numbers.{numbers-kept, plain_at, plain-kept, plain-place}
 use Rattle.ring.specs.cable.declared.Cable.{Cable}
 use Rattle.ring.specs.declared.Found.{Found}
-use Rattle.ring.specs.declared.Found.TheVariants.{Member, Nobody}
 use Rattle.ring.specs.cable.Cable.{same_cable, ring_size, node_number, lag_fits, sponsor_count, job_count, cable_fits, fault_of}
 use Rattle.ring.specs.Ring.{turn, sender, previous, walk, member_before, sponsors, sponsored, decided}
 use Rattle.ring_laws.specs.Before.{fits_by_number, fault_by_number, same_by_number, sender_by_number, walk_by_number, before_by_number, sponsored_by_number, decided_by_number, AsBefore}
 use Rattle.ring.proofs.cable.Ranges.{ring-size, node-number}
 use Rattle.ring_laws.proofs.Senders.{turn-range, previous-range}
+use Rattle.ring.specs.Ring.{found}
 
 module _ (cable : Cable) (is : cable.order ≡ plain cable.n) where
   open cable use {n, order}
@@ -76,8 +77,8 @@ module _ (cable : Cable) (is : cable.order ≡ plain cable.n) (ring : ring_size 
   walk_is (suc left) set p j l =
       let q : ℕ = previous n p in
       let r = previous-range n (omega (arith, some)) p l in
-      ap (λ (x : ℕ). cond (has set x && eqb j 1) (Member x (n - suc left)) (walk left cable set q (j - num (has set x)))) (node-is q r.0 r.1)
-      ∙ ap (λ (f : Found). cond (has set q && eqb j 1) (Member q (n - suc left)) f) (walk_is left set q (j - num (has set q)) r.1)
+      ap (λ (x : ℕ). cond (has set x && eqb j 1) (found x (n - suc left)) (walk left cable set q (j - num (has set x)))) (node-is q r.0 r.1)
+      ∙ ap (λ (f : Option Found). cond (has set q && eqb j 1) (found q (n - suc left)) f) (walk_is left set q (j - num (has set q)) r.1)
 
   before-is : (set x j : ℕ) → node_number n x ≡ true → member_before cable set x j ≡ before_by_number n set x j
   unfolding member_before
@@ -85,7 +86,7 @@ module _ (cable : Cable) (is : cable.order ≡ plain cable.n) (ring : ring_size 
 
   sponsored-is : (set x j : ℕ) → node_number n x ≡ true → sponsored cable set x j ≡ sponsored_by_number cable set x j
   unfolding sponsored
-  sponsored-is set x j e = ap (λ (f : Found). cond (leb 1 j && leb j (sponsors cable set)) f Nobody) (before-is set x (j + cable.lag) e)
+  sponsored-is set x j e = ap (λ (f : Option Found). cond (leb 1 j && leb j (sponsors cable set)) f None) (before-is set x (j + cable.lag) e)
 
   decided-is : (set x : ℕ) → node_number n x ≡ true → decided cable set x ≡ decided_by_number cable set x
   unfolding decided

@@ -1,4 +1,5 @@
 -- How far back a member is that the walk finds, and that whoever stands so is found (specs/Back). Assumes nothing.
+use Rattle.std.specs.Prelude.{Option}
 use Prim.Native.Nat.{ℕ, zero, suc, ◌+◌, ◌-◌, ◌≤◌}
 use mathlib.Core.Path.{◌≡◌, sym, ap, ◌∙◌}
 use mathlib.Core.Bool.{true, ◌&&◌}
@@ -12,11 +13,11 @@ use Rattle.ring.proofs.nodeset.Tests.{by_cases, both, chosen, otherwise}
 use Rattle.ring.specs.slot_table.Order.{node_at, place}
 use Rattle.ring.specs.cable.declared.Cable.{Cable}
 use Rattle.ring.specs.declared.Found.{Found}
-use Rattle.ring.specs.declared.Found.TheVariants.{Member}
 use Rattle.ring.specs.Ring.{previous, walk, member_before}
 use Rattle.ring_laws.specs.Back.{place_back, members_back, StandsBack, FoundBack}
 use Rattle.ring_laws.proofs.Walks.{walk-past, walk_here, walk-on}
 use Rattle.ring.proofs.Members.{nobody-found, same-member, same_back}
+use Rattle.ring.specs.Ring.{found}
 
 -- what a walk of so many slots finds is i slots back from where it begins
 record Stood (left : ℕ) (cable : Cable) (set p j m back : ℕ) : Type 0 where
@@ -29,14 +30,14 @@ record Stood (left : ℕ) (cable : Cable) (set p j m back : ℕ) : Type 0 where
   listed : has set m ≡ true
   count : members_back cable set p i ≡ j
 
-stood : (left : ℕ) (cable : Cable) (set p j m back : ℕ) → suc left ≤ cable.n → walk left cable set p j ≡ Member m back → Stood left cable set p j m back
+stood : (left : ℕ) (cable : Cable) (set p j m back : ℕ) → suc left ≤ cable.n → walk left cable set p j ≡ found m back → Stood left cable set p j m back
 unfolding walk place_back members_back
 stood zero cable set p j m back h e = absurd (nobody-found m back e)
 stood (suc left) cable set p j m back h e =
     let q = previous cable.n p in
     let x = node_at cable.order q in
     let more = j - num (has set x) in
-    let here : Found = Member x (cable.n - suc left) in
+    let here : Option Found = found x (cable.n - suc left) in
     by_cases (has set x && eqb j 1)
     (λ t.
     let b = both (has set x) (eqb j 1) t in
@@ -65,7 +66,7 @@ stood (suc left) cable set p j m back h e =
       count = omega (arith, r.count, r.some);
     })
 
-stands-back : (cable : Cable) (set x j m back : ℕ) → member_before cable set x j ≡ Member m back → StandsBack cable set x j m back
+stands-back : (cable : Cable) (set x j m back : ℕ) → member_before cable set x j ≡ found m back → StandsBack cable set x j m back
 unfolding member_before walk
 stands-back cable set x j m back e = go (dec_le 1 cable.n)
   where
@@ -95,7 +96,7 @@ some-member cable set p (suc zero) h e = omega (arith, ap num e)
 some-member cable set p (suc (suc i)) h e = omega (arith, some-member cable set (previous cable.n p) (suc i) (omega arith) e)
 
 walks-to : (left : ℕ) (cable : Cable) (set p j i : ℕ) → suc left ≤ cable.n → 1 ≤ i → i ≤ left → has set (node_at cable.order (place_back cable.n p i)) ≡ true → members_back cable set p i ≡ j
-    → walk left cable set p j ≡ Member (node_at cable.order (place_back cable.n p i)) (cable.n - suc left + i)
+    → walk left cable set p j ≡ found (node_at cable.order (place_back cable.n p i)) (cable.n - suc left + i)
 unfolding place_back members_back
 walks-to zero cable set p j i s h l e c = absurd (let z : ⊥ = omega arith in z)
 walks-to (suc left) cable set p j zero s h l e c = absurd (elim h [ ])
@@ -103,7 +104,7 @@ walks-to (suc left) cable set p j (suc zero) s h l e c =
     let n = cable.n in
     let one : j ≡ 1 = omega (arith, ap num e) in
     let back : n - suc left ≡ n - suc (suc left) + 1 = omega arith in
-    ap (walk (suc left) cable set p) one ∙ walk_here left cable set p e ∙ ap (Member (node_at cable.order (previous n p))) back
+    ap (walk (suc left) cable set p) one ∙ walk_here left cable set p e ∙ ap (found (node_at cable.order (previous n p))) back
 walks-to (suc left) cable set p j (suc (suc i)) s h l e c =
     let n = cable.n in
     let q = previous n p in
@@ -113,21 +114,21 @@ walks-to (suc left) cable set p j (suc (suc i)) s h l e c =
     (λ t.
     walk-on left cable set p j (λ w. omega (arith, w, ap num t)) t
     ∙ walks-to left cable set q (j - 1) (suc i) (omega arith) (omega arith) (omega arith) e (omega (arith, ap num t))
-    ∙ ap (Member (node_at cable.order (place_back n q (suc i)))) back)
+    ∙ ap (found (node_at cable.order (place_back n q (suc i)))) back)
     (λ t.
     walk-past left cable set p j t
     ∙ walks-to left cable set q j (suc i) (omega arith) (omega arith) (omega arith) e (omega (arith, ap num t))
-    ∙ ap (Member (node_at cable.order (place_back n q (suc i)))) back)
+    ∙ ap (found (node_at cable.order (place_back n q (suc i)))) back)
 
-finds-back : (cable : Cable) (set x j m back : ℕ) → StandsBack cable set x j m back → member_before cable set x j ≡ Member m back
+finds-back : (cable : Cable) (set x j m back : ℕ) → StandsBack cable set x j m back → member_before cable set x j ≡ found m back
 unfolding member_before
 finds-back cable set x j m back r =
     let n = cable.n in
     let p = place cable.order x in
     let all : n - suc (n - 1) + back ≡ back = omega (arith, r.low, r.high) in
     walks-to (n - 1) cable set p j back (omega (arith, r.low, r.high)) r.low r.high (ap (has set) r.stands ∙ r.listed) r.count
-    ∙ ap (Member (node_at cable.order (place_back n p back))) all
-    ∙ ap (λ (y : ℕ). Member y back) r.stands
+    ∙ ap (found (node_at cable.order (place_back n p back))) all
+    ∙ ap (λ (y : ℕ). found y back) r.stands
 
 pub found_back : FoundBack
 found_back = record { found = stands-back; finds = finds-back }

@@ -1,5 +1,6 @@
 -- Laws of the walk back (ring's specs/Ring), in terms of slots: from the slot a + left back to slot a it meets the members in slot order,
 -- each of them, and never the node where it starts as long as it is shorter than a round. Assumes nothing.
+use Rattle.std.specs.Prelude.{None}
 use Prim.Native.Nat.{ℕ, zero, suc, ◌+◌, ◌-◌, ◌≤◌, ◌<◌}
 use mathlib.Core.Path.{◌≡◌, refl, sym, ap, ◌∙◌}
 use mathlib.Core.Logic.{◌≢◌}
@@ -12,15 +13,15 @@ use Rattle.ring.specs.nodeset.Sums.{sum, num}
 use Rattle.ring.specs.nodeset.Sets.{has, size}
 use Rattle.ring.proofs.nodeset.Tests.{by_cases}
 use Rattle.ring.proofs.nodeset.Sums.{sum-none, sum-next, sum-at, sum-split, one_place}
-use Rattle.ring.specs.declared.Found.TheVariants.{Member, Nobody}
 use Rattle.ring.specs.slot_table.Order.{node_at, place}
 use Rattle.ring.specs.cable.declared.Cable.{Cable}
 use Rattle.ring.specs.Ring.{turn, sender, previous, walk, member_before}
 use Rattle.ring_laws.proofs.Senders.{Turns, previous-turn, sender-once, size-round}
+use Rattle.ring.specs.Ring.{found}
 
 -- ---- one slot of the walk, by what stands there
 
-pub walk-nobody : (cable : Cable) (set p j : ℕ) → walk 0 cable set p j ≡ Nobody
+pub walk-nobody : (cable : Cable) (set p j : ℕ) → walk 0 cable set p j ≡ None
 unfolding walk
 walk-nobody cable set p j = refl
 
@@ -28,7 +29,7 @@ pub walk-past : (left : ℕ) (cable : Cable) (set p j : ℕ) → has set (node_a
 unfolding walk
 walk-past left cable set p j e = let z : j - 0 ≡ j = omega arith in rw (e, z) refl
 
-pub walk_here : (left : ℕ) (cable : Cable) (set p : ℕ) → has set (node_at cable.order (previous cable.n p)) ≡ true → walk (suc left) cable set p 1 ≡ Member (node_at cable.order (previous cable.n p)) (cable.n - suc left)
+pub walk_here : (left : ℕ) (cable : Cable) (set p : ℕ) → has set (node_at cable.order (previous cable.n p)) ≡ true → walk (suc left) cable set p 1 ≡ found (node_at cable.order (previous cable.n p)) (cable.n - suc left)
 unfolding walk
 walk_here left cable set p e = rw e refl
 
@@ -55,7 +56,7 @@ module _ (cable : Cable) (turns : Turns cable) (set : ℕ) where
     pub back : 1 ≤ e
     pub listed : has set (sender cable u) ≡ true
     pub count : sum member u e ≡ j
-    pub found : walk left cable set (turn n (a + left)) j ≡ Member (sender cable u) (n - suc (u - a))
+    pub found : walk left cable set (turn n (a + left)) j ≡ found (sender cable u) (n - suc (u - a))
 
   -- the walk from slot p, one slot back at q
   step_past : (l q j p : ℕ) → 1 ≤ q → p ≡ suc q → has set (sender cable q) ≡ false → walk (suc l) cable set (turn n p) j ≡ walk l cable set (turn n q) j
@@ -64,11 +65,11 @@ module _ (cable : Cable) (turns : Turns cable) (set : ℕ) where
       let b : previous n (turn n p) ≡ turn n q = ap (λ (y : ℕ). previous n (turn n y)) e ∙ previous-turn n some q h in
       walk-past l cable set (turn n p) j (ap (λ (y : ℕ). has set (node_at order y)) b ∙ f) ∙ ap (λ (y : ℕ). walk l cable set y j) b
 
-  step-here : (l q p : ℕ) → 1 ≤ q → p ≡ suc q → has set (sender cable q) ≡ true → walk (suc l) cable set (turn n p) 1 ≡ Member (sender cable q) (n - suc l)
+  step-here : (l q p : ℕ) → 1 ≤ q → p ≡ suc q → has set (sender cable q) ≡ true → walk (suc l) cable set (turn n p) 1 ≡ found (sender cable q) (n - suc l)
   unfolding sender
   step-here l q p h e f =
       let b : previous n (turn n p) ≡ turn n q = ap (λ (y : ℕ). previous n (turn n y)) e ∙ previous-turn n some q h in
-      walk_here l cable set (turn n p) (ap (λ (y : ℕ). has set (node_at order y)) b ∙ f) ∙ ap (λ (y : ℕ). Member (node_at order y) (n - suc l)) b
+      walk_here l cable set (turn n p) (ap (λ (y : ℕ). has set (node_at order y)) b ∙ f) ∙ ap (λ (y : ℕ). found (node_at order y) (n - suc l)) b
 
   step-on : (l q j p : ℕ) → 1 ≤ q → 2 ≤ j → p ≡ suc q → has set (sender cable q) ≡ true → walk (suc l) cable set (turn n p) j ≡ walk l cable set (turn n q) (j - 1)
   unfolding sender
@@ -88,7 +89,7 @@ module _ (cable : Cable) (turns : Turns cable) (set : ℕ) where
     count = omega (arith, sum-next member (a + l) 0, sum-none member (a + l), ap num e, ap member (add-zero (a + l)));
     found =
         let z : l ≡ a + l - a = omega arith in
-        step-here l (a + l) (a + suc l) (omega arith) (omega arith) e ∙ ap (λ (y : ℕ). Member (sender cable (a + l)) (n - suc y)) z;
+        step-here l (a + l) (a + suc l) (omega arith) (omega arith) e ∙ ap (λ (y : ℕ). found (sender cable (a + l)) (n - suc y)) z;
   }
 
   -- the j-th member of the rest of the walk, after i members in the slot just before
@@ -127,7 +128,7 @@ module _ (cable : Cable) (turns : Turns cable) (set : ℕ) where
       (walk_meets l a (suc (suc j)) h i (omega (arith, sum-next member a l, ap num e))))
 
   -- Where there are fewer, nobody is.
-  pub walk_none : (left a j : ℕ) → 1 ≤ a → sum member a left < j → walk left cable set (turn n (a + left)) j ≡ Nobody
+  pub walk_none : (left a j : ℕ) → 1 ≤ a → sum member a left < j → walk left cable set (turn n (a + left)) j ≡ None
   walk_none zero a j h i = walk-nobody cable set (turn n (a + zero)) j
   walk_none (suc l) a j h i =
       by_cases (has set (sender cable (a + l)))
@@ -158,7 +159,7 @@ module _ (cable : Cable) (turns : Turns cable) (set : ℕ) where
 
   -- Each member on the way is met, as the one whose number is the count of members from its slot on.
   pub walk_at : (left a u e : ℕ) → 1 ≤ a → a ≤ u → u + e ≡ a + left → 1 ≤ e → has set (sender cable u) ≡ true
-      → walk left cable set (turn n (a + left)) (sum member u e) ≡ Member (sender cable u) (n - suc (u - a))
+      → walk left cable set (turn n (a + left)) (sum member u e) ≡ found (sender cable u) (n - suc (u - a))
   walk_at left a u e h f p b t =
       let some : 1 ≤ sum member u e = omega (arith, sum-at member u e u (omega arith) (omega arith), ap num t) in
       let d : ℕ = u - a in
@@ -167,10 +168,10 @@ module _ (cable : Cable) (turns : Turns cable) (set : ℕ) where
       let enough : sum member u e ≤ sum member a left = omega (arith, sum-split member a d e, ap (sum member a) x, ap (λ (q : ℕ). sum member q e) y) in
       go (walk_meets left a (sum member u e) h some enough)
     where
-      go : Met left a (sum member u e) → walk left cable set (turn n (a + left)) (sum member u e) ≡ Member (sender cable u) (n - suc (u - a))
+      go : Met left a (sum member u e) → walk left cable set (turn n (a + left)) (sum member u e) ≡ found (sender cable u) (n - suc (u - a))
       go m =
           let same : m.u ≡ u = one_place member (sum member u e) m.u m.e u e (m.upto ∙ sym p) m.count refl (omega (arith, ap num m.listed)) (omega (arith, ap num t)) in
-          m.found ∙ ap (λ (q : ℕ). Member (sender cable q) (n - suc (q - a))) same
+          m.found ∙ ap (λ (q : ℕ). found (sender cable q) (n - suc (q - a))) same
 
   -- ---- the walk of n - 1 slots: all but the node where it starts
 

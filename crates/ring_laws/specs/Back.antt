@@ -4,8 +4,8 @@ use Rattle.ring.specs.nodeset.Sums.{num}
 use Rattle.ring.specs.nodeset.Sets.{has}
 use Rattle.ring.specs.slot_table.Order.{node_at, place}
 use Rattle.ring.specs.cable.declared.Cable.{Cable}
-use Rattle.ring.specs.declared.Found.TheVariants.{Member}
 use Rattle.ring.specs.Ring.{previous, member_before}
+use Rattle.ring.specs.Ring.{found as met}
 
 -- The place whose slot comes so many slots before that of place p.
 unfoldable pub place_back : ℕ → ℕ → ℕ → ℕ
@@ -29,5 +29,5 @@ pub record StandsBack (cable : Cable) (set x j m back : ℕ) : Type 0 where
 
 -- So it is of each member found, and whoever stands so is found: "Where there is no such member it gives none."
 pub record FoundBack : Type 0 where
-  pub found : (cable : Cable) (set x j m back : ℕ) → member_before cable set x j ≡ Member m back → StandsBack cable set x j m back
-  pub finds : (cable : Cable) (set x j m back : ℕ) → StandsBack cable set x j m back → member_before cable set x j ≡ Member m back
+  pub found : (cable : Cable) (set x j m back : ℕ) → member_before cable set x j ≡ met m back → StandsBack cable set x j m back
+  pub finds : (cable : Cable) (set x j m back : ℕ) → StandsBack cable set x j m back → member_before cable set x j ≡ met m back

@@ -1,14 +1,14 @@
 -- Document 02, request k: "With the plain table 1 to n everything is as now." The ring of document 01 as it was before the slot table, by node numbers, and that with the plain table all
 -- that the rules ask of the ring is the same.
-use Rattle.std.specs.Prelude.{ℕ, zero, suc, ◌+◌, ◌-◌, ◌%◌, ◌≡◌, Bool, true, false, cond, ◌&&◌, eqb, leb}
+use Rattle.std.specs.Prelude.{ℕ, zero, suc, ◌+◌, ◌-◌, ◌%◌, ◌≡◌, Bool, true, false, cond, ◌&&◌, eqb, leb, None, Option}
 use Rattle.ring.specs.nodeset.Sums.{num}
 use Rattle.ring.specs.nodeset.Sets.{has}
 use Rattle.ring.specs.slot_table.Order.{kept, numbers_from, plain}
 use Rattle.ring.specs.cable.declared.Cable.{Cable}
 use Rattle.ring.specs.declared.Found.{Found}
-use Rattle.ring.specs.declared.Found.TheVariants.{Member, Nobody}
 use Rattle.ring.specs.cable.Cable.{same_cable, ring_size, node_number, lag_fits, sponsor_count, job_count, cable_fits, fault_of}
 use Rattle.ring.specs.Ring.{sender, previous, member_before, sponsors, sponsored, decided}
+use Rattle.ring.specs.Ring.{found}
 
 -- ---- the ring by node numbers
 
@@ -27,20 +27,20 @@ abbrev pub sender_by_number : ℕ → ℕ → ℕ
 sender_by_number n s = (s - 1) % n + 1
 
 -- The walk back from node x, in which the node before x is `previous n x`.
-unfoldable pub walk_by_number : ℕ → ℕ → ℕ → ℕ → ℕ → Found
-walk_by_number zero n set x j = Nobody
+unfoldable pub walk_by_number : ℕ → ℕ → ℕ → ℕ → ℕ → Option Found
+walk_by_number zero n set x j = None
 walk_by_number (suc left) n set x j =
     let p = previous n x in
     let more = j - num (has set p) in
-    cond (has set p && eqb j 1) (Member p (n - suc left)) (walk_by_number left n set p more)
+    cond (has set p && eqb j 1) (found p (n - suc left)) (walk_by_number left n set p more)
 
-abbrev pub before_by_number : ℕ → ℕ → ℕ → ℕ → Found
+abbrev pub before_by_number : ℕ → ℕ → ℕ → ℕ → Option Found
 before_by_number n set x j = walk_by_number (n - 1) n set x j
 
-abbrev pub sponsored_by_number : Cable → ℕ → ℕ → ℕ → Found
-sponsored_by_number cable set x j = cond (leb 1 j && leb j (sponsors cable set)) (before_by_number cable.n set x (j + cable.lag)) Nobody
+abbrev pub sponsored_by_number : Cable → ℕ → ℕ → ℕ → Option Found
+sponsored_by_number cable set x j = cond (leb 1 j && leb j (sponsors cable set)) (before_by_number cable.n set x (j + cable.lag)) None
 
-abbrev pub decided_by_number : Cable → ℕ → ℕ → Found
+abbrev pub decided_by_number : Cable → ℕ → ℕ → Option Found
 decided_by_number cable set x = sponsored_by_number cable set x (sponsors cable set)
 
 -- ---- with the plain table

@@ -8,12 +8,18 @@ use native.Mathlib.Numerals.{add-one}
 use lib.Dec.{eqb}
 use lib.ListN.{length, take, get_or, replicate, length-take}
 use lib.Seq.{take-suc}
+use Rattle.std.specs.List.{list_any}
 use borrow.Author.Tests.{eq-eqb, ne_eqb, eqb-true, not-true}
 use Rattle.ring.proofs.nodeset.Tests.{by_cases, both, all, or_left, or_right, chosen, otherwise}
 use Rattle.row.specs.Rows.{keep, is_part, blank}
 use Rattle.row.specs.Inner.{elem, one}
 
 -- ---- elem
+
+-- as `contains` finds it
+pub any_elem : (x : ℕ) (l : List ℕ) → list_any (λ y. eqb y x) l ≡ elem x l
+any_elem x [] = refl
+any_elem x (y ∷ l) = ap (λ (b : Bool). eqb y x || b) (any_elem x l)
 
 elem-append : (x : ℕ) (a b : List ℕ) → elem x (a ++ b) ≡ (elem x a || elem x b)
 elem-append x [] b = refl

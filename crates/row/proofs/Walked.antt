@@ -9,7 +9,7 @@ use native.Mathlib.Numerals.{add-one}
 use native.Mathlib.Decide.{dec_lt}
 use lib.Dec.{eqb, ltb}
 use lib.ListN.{length, take, drop, get_or, set, replicate, length-append, length-take, drop_of_length-le}
-use lib.Seq.{take-suc, take_at, take-suc-set, drop-set-lt, take_all, drop-cons, drop-append-le, append_snoc, set-append_seam, get_or-take, length-take-le}
+use lib.Seq.{take-suc, take_at, take_all, drop-cons, drop-append-le, append_snoc, set-append_seam, get_or-take, length-take-le}
 use borrow.Author.Tests.{eq-eqb, ne_eqb, lt-ltb, le-ltb, ltb-true}
 use Rattle.ring.specs.nodeset.Sums.{num}
 use Rattle.ring.specs.nodeset.Sets.{with}
@@ -71,14 +71,6 @@ passed-next i order nodes p h e =
     ∙ ap (λ (k : ℕ). passed k order nodes) (sym (add-one i))
 
 -- ---- a place put in
-
--- one place more moves down
-pub moved-next : (i : ℕ) (l : List ℕ) (m : ℕ) → i < length l → take (i + 1) (set l i m) ++ get_or l i 0 ∷ drop (i + 1) (set l i m) ≡ take i l ++ m ∷ drop i l
-moved-next i l m h =
-    ap (λ (k : ℕ). take k (set l i m) ++ get_or l i 0 ∷ drop k (set l i m)) (add-one i)
-    ∙ ap₂ (λ (a b : List ℕ). a ++ get_or l i 0 ∷ b) (take-suc-set l i m h) (drop-set-lt (suc i) l i m (omega arith))
-    ∙ append_snoc (take i l) m (get_or l i 0 ∷ drop (suc i) l)
-    ∙ ap (λ (r : List ℕ). take i l ++ m ∷ r) (sym (drop-cons l i 0 h))
 
 pub moved-last : (i : ℕ) (l : List ℕ) (m : ℕ) (all : List ℕ) → length l ≡ 32 → 32 ≤ i → take i l ++ m ∷ drop i l ≡ all → l ≡ take 32 all
 moved-last i l m all n h e =

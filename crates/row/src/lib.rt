@@ -7,19 +7,23 @@
 ghost use Rattle.std.specs.Prelude.{◌≡◌, []};
 ghost use Rattle.ring.specs.slot_table.Order.{same_order};
 ghost use Rattle.row.specs.Rows.{row_for};
-ghost use Rattle.row.specs.Inner.{elem, has_row, without_row, with_row, rank_in, put_in, same_row, row_at, added, past};
+ghost use Rattle.row.specs.Inner.{has_row, without_row, with_row, rank_in, put_in, same_row, row_at, added, past};
 
+use std::mem;
+
+// Length and places, not a `Vec`: there is no heap. The slot table that a row goes by stands beside it, as
+// part of a record's cable.
 #[derive(Clone, Copy)]
 pub struct Row {
     pub length: u32,
     pub nodes: [u8; 32],
 }
 
-// A place's number.
+// A place's number. `u32::from` by another name, which its clause holds.
 pub fn wide(x: u8) -> u32
     ensures { result ≡ x }
 {
-    x as u32
+    u32::from(x)
 }
 
 // The empty row.
@@ -53,45 +57,21 @@ pub fn past(p: usize, yes: bool) -> usize
     p
 }
 
-// Whether a place holds x. All places are looked at, with no branch.
-fn holds(nodes: [u8; 32], x: u8) -> bool
-    ensures { result ≡ elem x nodes }
-{
-    let mut found = false;
-    let mut i: usize = 0;
-    while i < 32 {
-        found = found | (nodes[i] == x);
-        i += 1;
-    }
-    found
-}
-
 // Whether node x is in the row.
 pub fn has(row: Row, x: u32) -> bool
     ensures { result ≡ has_row row x }
 {
-    if x < 1 {
-        return false;
-    }
-    if 32 < x {
-        return false;
-    }
-    let nodes = row.nodes;
-    holds(nodes, x as u8)
+    1 <= x && x <= 32 && row.nodes.contains(&(x as u8))
 }
 
 // The row without node x: the members after it move up.
 pub fn without(row: Row, x: u32) -> Row
     ensures { result ≡ without_row row x }
 {
-    let nodes = row.nodes;
     let mut rest = [0u8; 32];
-    let mut at: usize = 0;
-    let mut i: usize = 0;
-    while i < 32 {
-        let m = nodes[i];
-        at = put(&mut rest, at, m, (m != 0) & (wide(m) != x));
-        i += 1;
+    let mut at = 0;
+    for m in row.nodes {
+        at = put(&mut rest, at, m, (m != 0) & (u32::from(m) != x));
     }
     Row {
         length: at as u32,
@@ -99,42 +79,24 @@ pub fn without(row: Row, x: u32) -> Row
     }
 }
 
-// Whether the same stands in all places. All are looked at, with no branch.
-fn same_places(a: [u8; 32], b: [u8; 32]) -> bool
-    ensures { result ≡ same_order a b }
-{
-    let mut alike = true;
-    let mut i: usize = 0;
-    while i < 32 {
-        alike = alike & (a[i] == b[i]);
-        i += 1;
-    }
-    alike
-}
-
-// Whether two rows are equal.
+// Whether two rows are equal: length and places.
 pub fn same(a: Row, b: Row) -> bool
     ensures { result ≡ same_row a b }
 {
-    let p = a.nodes;
-    let q = b.nodes;
-    (a.length == b.length) & same_places(p, q)
+    (a.length == b.length) & (a.nodes == b.nodes)
 }
 
-// How many of the row speak before node x, from place 1 of the slot table on; 0 where x has no place.
+// How many of the row speak before node x, from place 1 of the slot table on; 0 where x has no place, by
+// the definition `rank_in`: no place is passed then.
 pub fn rank(order: [u8; 32], row: Row, x: u32) -> usize
     ensures { result ≡ rank_in order row x }
 {
-    let nodes = row.nodes;
-    let mut p: usize = 0;
-    let mut i: usize = 0;
-    while i < 32 {
-        let m = order[i];
-        if wide(m) == x {
+    let mut p = 0;
+    for m in order {
+        if u32::from(m) == x {
             return p;
         }
-        p = past(p, (m != 0) & (nodes[p] == m));
-        i += 1;
+        p = past(p, (m != 0) & (row.nodes[p] == m));
     }
     0
 }
@@ -145,12 +107,8 @@ fn put_in(nodes: [u8; 32], p: usize, m: u8) -> [u8; 32]
 {
     let mut out = nodes;
     let mut moved = m;
-    let mut i = p;
-    while i < 32 {
-        let next = out[i];
-        out[i] = moved;
-        moved = next;
-        i += 1;
+    for i in p..32 {
+        mem::swap(&mut out[i], &mut moved);
     }
     out
 }

@@ -1,5 +1,6 @@
 -- The j-th member before a node is j places back in the row, round its end: the walk of ring's specs/Ring and `back_in` of row's specs/Inner. By slots: node x of place q speaks in slot n + q, and the
 -- walk goes back from there to slot q + 1. Assumes nothing.
+use Rattle.std.specs.Prelude.{None}
 use Prim.Native.Nat.{ℕ, zero, suc, ◌+◌, ◌-◌, ◌≤◌, ◌<◌}
 use mathlib.Core.Path.{◌≡◌, refl, sym, ap, ◌∙◌}
 use mathlib.Core.Bool.{Bool, true, false, ◌&&◌, ◌||◌}
@@ -15,7 +16,6 @@ use Rattle.ring_laws.proofs.nodeset.Tests.{by_cases, chosen, otherwise}
 use Rattle.ring_laws.proofs.nodeset.Sums.{sum-none, sum-next, sum-split, sum_same, sum-at}
 use Rattle.ring_laws.specs.slot_table.Order.{node_at, place}
 use Rattle.ring_laws.specs.cable.declared.Cable.{Cable}
-use Rattle.ring_laws.specs.ring.declared.Found.TheVariants.{Nobody}
 use Rattle.ring_laws.specs.ring.Ring.{turn, sender, previous, walk, member_in}
 use Rattle.ring_laws.proofs.Senders.{Turns, turn-period, sender-period, size-round}
 use Rattle.ring_laws.proofs.Walks.{member, Met, walk_meets, walk_none, others}
@@ -61,7 +61,7 @@ unfolding back_in
 back-zero row p here = refl
 
 -- there is no 0th member
-walk-zero : (left : ℕ) (cable : Cable) (set p : ℕ) → walk left cable set p 0 ≡ Nobody
+walk-zero : (left : ℕ) (cable : Cable) (set p : ℕ) → walk left cable set p 0 ≡ None
 unfolding walk
 walk-zero zero cable set p = refl
 walk-zero (suc left) cable set p =

@@ -1,4 +1,5 @@
 -- What the rules ask of the ring by the row of a set (row's specs/Sponsoring) is what they ask by the set. Assumes nothing.
+use Rattle.std.specs.Prelude.{None}
 use Prim.Native.Nat.{ℕ, ◌+◌, ◌≤◌}
 use mathlib.Core.Path.{◌≡◌, refl, sym, ap, ◌∙◌}
 use mathlib.Core.Bool.{true, false, cond}
@@ -8,7 +9,6 @@ use borrow.Author.Tests.{eqb-true, eqb-false, le-leb}
 use Rattle.ring_laws.proofs.nodeset.Tests.{by_cases, all, chosen, otherwise}
 use Rattle.ring_laws.specs.slot_table.Order.{is_kept}
 use Rattle.ring_laws.specs.cable.declared.Cable.{Cable}
-use Rattle.ring_laws.specs.ring.declared.Found.TheVariants.{Nobody}
 use Rattle.ring_laws.specs.ring.Ring.{ks, member_in, member_before, sponsors, sponsored, decided}
 use Rattle.row.specs.Rows.{as_row}
 use Rattle.row.specs.Sponsoring.{sponsors_row, sponsored_row, decided_row}
@@ -24,10 +24,10 @@ module _ (cable : Cable) (kept : is_kept cable.n cable.order ≡ true) where
   unfolding sponsored
   sponsored-row s x j low high one most =
       before-row cable kept s x (j + cable.lag) low high
-      ∙ sym (ap member_in (chosen (member_before cable s x (j + cable.lag)) Nobody (all (le-leb 1 j one) (le-leb j (sponsors cable s) most))))
+      ∙ sym (ap member_in (chosen (member_before cable s x (j + cable.lag)) None (all (le-leb 1 j one) (le-leb j (sponsors cable s) most))))
 
   -- there is no 0th
-  nobody : (s x : ℕ) → sponsored cable s x 0 ≡ Nobody
+  nobody : (s x : ℕ) → sponsored cable s x 0 ≡ None
   unfolding sponsored
   nobody s x = refl
 

@@ -2,7 +2,7 @@
 // table. An inner layer: every row, set and table is taken as it is, and none is refused.
 #![tactic(auto)]
 
-ghost use Rattle.std.specs.Prelude.{◌≡◌, min, drop};
+ghost use Rattle.std.specs.Prelude.{◌≡◌, drop};
 ghost use Rattle.row.specs.Rows.{as_row, blank, sound_row, nodes_in};
 
 use row::Row;
@@ -11,12 +11,9 @@ use row::Row;
 pub fn nodes_in(row: Row) -> u32
     ensures { result ≡ nodes_in row }
 {
-    let nodes = row.nodes;
-    let mut s: u32 = 0;
-    let mut i: usize = 0;
-    while i < 32 {
-        s = nodeset::with(s, row::wide(nodes[i]));
-        i += 1;
+    let mut s = 0;
+    for x in row.nodes {
+        s = nodeset::with(s, u32::from(x));
     }
     s
 }
@@ -26,12 +23,9 @@ pub fn as_row(order: [u8; 32], s: u32) -> Row
     ensures { result ≡ as_row order s }
 {
     let mut out = [0u8; 32];
-    let mut at: usize = 0;
-    let mut i: usize = 0;
-    while i < 32 {
-        let m = order[i];
-        at = row::put(&mut out, at, m, nodeset::has(s, row::wide(m)));
-        i += 1;
+    let mut at = 0;
+    for m in order {
+        at = row::put(&mut out, at, m, nodeset::has(s, u32::from(m)));
     }
     Row {
         length: at as u32,
@@ -43,35 +37,19 @@ pub fn as_row(order: [u8; 32], s: u32) -> Row
 fn is_blank(places: &[u8], from: usize) -> bool
     ensures { result ≡ blank (drop from places.now) }
 {
-    let mut clear = true;
-    let mut i: usize = 0;
-    while i < places.len() {
-        clear = clear & ((i < from) | (places[i] == 0));
-        i += 1;
-    }
-    clear
-}
-
-// How many places of a table of n nodes are used: 32 at the most.
-fn at_most_32(n: u32) -> usize
-    ensures { result ≡ min n 32 }
-{
-    if n < 32 { n as usize } else { 32 }
+    places.iter().skip(from).all(|&x| x == 0)
 }
 
 // Whether the row is sound in a ring of n with this slot table.
 pub fn is_sound(n: u32, order: [u8; 32], row: Row) -> bool
     ensures { result ≡ sound_row n order row }
 {
-    let nodes = row.nodes;
     let count = row.length as usize;
-    let most = at_most_32(n);
-    let clear = is_blank(&nodes, count);
-    let mut p: usize = 0;
-    let mut i: usize = 0;
-    while i < most {
-        p = row::past(p, (p < count) & (nodes[p] == order[i]));
-        i += 1;
+    let most = n.min(32) as usize;
+    let clear = is_blank(&row.nodes, count);
+    let mut p = 0;
+    for &m in &order[..most] {
+        p = row::past(p, (p < count) & (row.nodes[p] == m));
     }
     (count <= most) & ((p == count) & clear)
 }

@@ -10,25 +10,24 @@ use cable::Cable;
 use row::Row;
 
 // The j-th member before a node with p members before it, itself in the row or not: j places back in
-// the row, round its end. 0 for nobody.
+// the row, round its end. 0 for nobody, by the definition `back_in`: 0 is in no set.
 pub fn back(row: Row, p: usize, here: bool, j: u32) -> u32
     ensures { result ≡ back_in row p here j }
 {
-    let nodes = row.nodes;
     let count = row.length;
     if (j == 0) | ((32 < count) | (32 < p)) {
         return 0;
     }
     if j as usize <= p {
-        return row::wide(nodes[p - j as usize]);
+        return u32::from(row.nodes[p - j as usize]);
     }
     if (count < j) | ((count == j) & here) {
         return 0;
     }
-    row::wide(nodes[count as usize + p - j as usize])
+    u32::from(row.nodes[count as usize + p - j as usize])
 }
 
-// The j-th member before node x; 0 for nobody.
+// The j-th member before node x; 0 for nobody, as the law `before-row` has it by `member_in`.
 pub fn before(order: [u8; 32], row: Row, x: u32, j: u32) -> u32
     ensures { result ≡ before_row order row x j }
 {
@@ -43,7 +42,8 @@ pub fn sponsors(cable: Cable, row: Row) -> u32
     ring::ks(cable, row.length)
 }
 
-// The member that node x decides: the last that it sponsors; 0 for nobody.
+// The member that node x decides: the last that it sponsors; 0 for nobody, by the definition
+// `decided_row`.
 pub fn decided(cable: Cable, row: Row, x: u32) -> u32
     ensures { result ≡ decided_row cable row x }
 {

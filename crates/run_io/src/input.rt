@@ -1,118 +1,57 @@
 // Input, byte by byte, through a buffer. Past the end of the input bytes are read as 0.
-use crate::block::Block;
+ghost use Rattle.std.specs.Prelude.{◌≤◌};
+
 use std::io::Read;
 
-// Where the bytes come from, and the buffer that they come through.
+// Where the bytes come from, and the buffer that they come through; those from `at` up to `end` are unread.
 #[derive(Drop)]
 pub struct Source<R> {
-    pub from: R,
-    pub buffer: [u8; 4096],
+    from: R,
+    buffer: [u8; 4096],
+    at: usize,
+    end: usize,
+    ghost within: { end ≤ 4096 },
 }
 
-// A source of which nothing is read yet.
-pub fn buffered<R>(from: R) -> Source<R> {
-    Source {
-        from,
-        buffer: [0; 4096],
-    }
-}
-
-// The unread bytes of the buffer are those from `at` up to `end`.
-#[derive(Clone, Copy)]
-pub struct Unread {
-    pub at: usize,
-    pub end: usize,
-}
-
-// The next byte, and what is then unread.
-#[derive(Clone, Copy)]
-pub struct Taken {
-    pub byte: u8,
-    pub left: Unread,
-}
-
-// Refills the buffer. After a failed read nothing is unread, as at the end of the input.
-fn refilled<R: Read>(input: &mut Source<R>) -> Unread {
-    let got = input.from.read(&mut input.buffer);
-    Unread {
-        at: 0,
-        end: got.unwrap_or(0),
-    }
-}
-
-fn first_of(buffer: &[u8; 4096], left: Unread) -> Taken {
-    let at = left.at;
-    let end = left.end;
-    if at < end && at < 4096 {
-        Taken {
-            byte: buffer[at],
-            left: Unread {
-                at: at + 1,
-                end: end,
-            },
-        }
-    } else {
-        Taken {
-            byte: 0,
-            left: Unread { at: 0, end: 0 },
+impl<R: Read> Source<R> {
+    // A source of which nothing is read yet.
+    pub fn new(from: R) -> Source<R> {
+        Source {
+            from,
+            buffer: [0; 4096],
+            at: 0,
+            end: 0,
         }
     }
-}
 
-pub fn next<R: Read>(input: &mut Source<R>, left: Unread) -> Taken {
-    let at = left.at;
-    let end = left.end;
-    if at < end {
-        return first_of(&input.buffer, left);
+    // Refills the buffer. After a failed read nothing is unread, as at the end of the input.
+    fn refill(&mut self) {
+        self.at = 0;
+        self.end = self.from.read(&mut self.buffer).unwrap_or(0);
     }
-    let more = refilled(input);
-    first_of(&input.buffer, more)
-}
 
-// The next `length` bytes go into the start of `block`.
-pub fn fill<R: Read>(input: &mut Source<R>, left: Unread, block: &mut Block, length: u8) -> Unread {
-    let mut left = left;
-    for i in 0..length {
-        let taken = next(input, left);
-        block[i as usize] = taken.byte;
-        left = taken.left;
+    // The next byte of the buffer, if one is unread.
+    fn unread(&mut self) -> Option<u8> {
+        if self.at < self.end {
+            let byte = self.buffer[self.at];
+            self.at += 1;
+            Some(byte)
+        } else {
+            None
+        }
     }
-    left
-}
 
-// The letter that a command begins with, the byte after it, and what is then unread.
-#[derive(Clone, Copy)]
-pub struct Head {
-    pub letter: u8,
-    pub byte: u8,
-    pub left: Unread,
-}
-
-// At the end of the input the letter is read as 0.
-pub fn read_head<R: Read>(input: &mut Source<R>, left: Unread) -> Head {
-    let first = next(input, left);
-    let left = first.left;
-    let second = next(input, left);
-    let left = second.left;
-    Head {
-        letter: first.byte,
-        byte: second.byte,
-        left: left,
+    pub fn next(&mut self) -> u8 {
+        if let Some(byte) = self.unread() {
+            return byte;
+        }
+        self.refill();
+        self.unread().unwrap_or(0)
     }
-}
 
-// The `length` bytes after a command's head go into the start of `block`.
-pub fn fill_after<R: Read>(
-    input: &mut Source<R>,
-    head: Head,
-    block: &mut Block,
-    length: u8,
-) -> Head {
-    let left = head.left;
-    let left = fill(input, left, block, length);
-    Head {
-        letter: head.letter,
-        byte: head.byte,
-        left: left,
+    pub fn fill(&mut self, bytes: &mut [u8]) {
+        for byte in bytes {
+            *byte = self.next();
+        }
     }
 }

@@ -8,6 +8,9 @@ use native.Mathlib.Decide.{ℕ_discrete}
 use lib.Dec.{eqb}
 use lib.ListN.{get_or, length}
 use borrow.Author.Tests.{eqb-true, eq-eqb}
+use Rattle.std.specs.Cmp.Lexicographic.{pointwise}
+use Rattle.std.proofs.lemmas.Bool.Decides.{same_from_decides, Decides-eqb}
+use Rattle.std.proofs.lemmas.Slice.Eq.{slice_eq-Decides}
 use Rattle.nodeset.proofs.Tests.{both, all}
 use Rattle.slot_table.specs.Order.{node_at, same_to, same_order}
 
@@ -42,3 +45,7 @@ order_same a b e = all (eq-eqb (length a) (length b) (ap (λ (t : List ℕ). len
     go : (m : ℕ) → same_to m a b ≡ true
     go zero = refl
     go (suc m) = all (go m) (eq-eqb (node_at a (suc m)) (node_at b (suc m)) (ap (λ (t : List ℕ). node_at t (suc m)) e))
+
+-- the same, place by place, as `==` compares
+pub places-same : (a b : List ℕ) → length a ≡ 32 → pointwise eqb a b ≡ same_order a b
+places-same a b l = same_from_decides (pointwise eqb a b) (same_order a b) (slice_eq-Decides Decides-eqb a b _ refl) (same-order a b l, order_same a b)

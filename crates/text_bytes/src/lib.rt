@@ -1,20 +1,53 @@
-// Texts that come in pieces, as bytes of commands and answers, for the programs that run calls on them for
-// a test. The functions are safe and end; no contract of a result says more.
+// Texts that come in pieces: the loop of the programs that print of them, and, for the programs that run
+// calls on them for a test, their bytes in commands and answers. The functions are safe and end; no
+// contract of a result says more.
 #![tactic(auto)]
 
 ghost use Rattle.std.specs.Prelude.{◌≤◌};
 
-use plan_text::Written;
+pub mod pieces;
+
+use crate::pieces::Pieces;
+use refusal::Refusal;
+use run_io::block;
 use run_io::block::Block;
 use run_io::output::Sink;
-use run_io::{block, output};
 use std::io::Write;
+
+// A call on a text: the next piece is fed, or the text ends.
+#[derive(Clone, Copy)]
+pub enum Call {
+    Feed,
+    Finish,
+}
+
+// The call that a command's letter stands for, if any.
+pub fn call_of(letter: u8) -> Option<Call> {
+    match letter {
+        b'F' => Some(Call::Feed),
+        b'E' => Some(Call::Finish),
+        _ => None,
+    }
+}
+
+// How many bytes follow the letter and the length: a room of four, and the piece.
+pub fn body(call: Call, length: u8) -> u8 {
+    match call {
+        Call::Feed => piece_end(length),
+        Call::Finish => 4,
+    }
+}
 
 // The end of a piece of so many bytes that stands after the room; no block holds more than 250.
 pub fn piece_end(length: u8) -> u8
     ensures { (4 ≤ result) × (result ≤ 254) }
 {
-    if length < 250 { length + 4 } else { 254 }
+    length.min(250) + 4
+}
+
+// That piece.
+pub fn piece(block: &Block, length: u8) -> &[u8] {
+    &block[4..usize::from(piece_end(length))]
 }
 
 // The bytes kept of a line, at a place of a command.
@@ -22,39 +55,53 @@ pub fn text_at(block: &Block, at: usize) -> [u8; 121]
     requires { at ≤ 134 }
 {
     let mut text = [0u8; 121];
-    for i in 0..121 {
-        text[i] = block[at + i];
-    }
+    text.copy_from_slice(&block[at..at + 121]);
     text
 }
 
-fn set_written(answer: &mut Block, written: Written) {
+// The first bytes of the buffer, as many as the command's room, or all if there are fewer.
+pub fn lent<'a>(buffer: &'a mut [u8], block: &Block) -> &'a mut [u8] {
+    block::first(buffer, block::word(block, 0) as usize)
+}
+
+fn set_written(answer: &mut Block, written: Result<usize, Refusal>) {
     match written {
-        Written::Bytes(count) => {
+        Ok(count) => {
             block::set_long_word(answer, 1, count as u64);
         }
-        Written::Refused(cause) => {
+        Err(cause) => {
             answer[0] = (refusal::number(cause) % 256) as u8;
         }
     }
 }
 
-// A byte, 0 or the refusal's number, and the count of bytes (four).
-pub fn put_written<W: Write>(output: &mut Sink<W>, held: usize, written: Written) -> usize {
+// A byte, 0 or the refusal's number, the count of bytes (four), and the lent buffer.
+pub fn put_written<W: Write>(output: &mut Sink<W>, written: Result<usize, Refusal>, lent: &[u8]) {
     let mut answer = [0u8; 255];
     set_written(&mut answer, written);
-    output::put_block(output, held, &answer, 5)
+    output.put_all(&answer[..5]);
+    output.put_all(lent);
+}
+
+// Carries a call out in the first bytes of the buffer, and answers by what it wrote and these bytes.
+pub fn run_call<W: Write, T: Pieces>(
+    output: &mut Sink<W>,
+    text: &mut T,
+    call: Call,
+    length: u8,
+    block: &Block,
+    buffer: &mut [u8],
+) {
+    let lent = lent(buffer, block);
+    let written = match call {
+        Call::Feed => text.feed(piece(block, length), lent),
+        Call::Finish => text.finish(lent),
+    };
+    put_written(output, written, lent);
 }
 
 // How many bytes of a line have come (eight bytes), and the 121 that hold them.
-pub fn put_text<W: Write>(
-    output: &mut Sink<W>,
-    held: usize,
-    length: usize,
-    text: [u8; 121],
-) -> usize {
-    let mut answer = [0u8; 255];
-    block::set_long_word(&mut answer, 0, length as u64);
-    let held = output::put_block(output, held, &answer, 8);
-    output::put_bytes(output, held, &text, 121)
+pub fn put_text<W: Write>(output: &mut Sink<W>, length: usize, text: &[u8; 121]) {
+    output.put_long_words(&[length as u64]);
+    output.put_all(text);
 }

@@ -1,4 +1,5 @@
 -- A call that no new check refuses leaves and answers, but for m and the counts, what it does where there are no jobs (specs/Without). Assumes nothing.
+use Rattle.std.specs.Prelude.{Err, Ok, Some}
 use Prim.Native.Nat.{ℕ, suc, ◌+◌, max}
 use mathlib.Core.Path.{◌≡◌, refl, sym, ap, ap₂, ◌∙◌}
 use mathlib.Core.Bool.{Bool, true, cond}
@@ -18,13 +19,11 @@ use Rattle.ledger.specs.node_record.declared.State.{State}
 use Rattle.ledger.specs.node_record.States.{is_member}
 use Rattle.ledger.specs.node_record.Soundness.{limit}
 use Rattle.ledger.specs.node_changes.Changes.{starting}
-use Rattle.ledger.specs.node.declared.Answer.{Answer}
-use Rattle.ledger.specs.node.declared.Answer.TheVariants.{Done, Refused}
+use Rattle.ledger.specs.node.Answers.{Answer}
 use Rattle.ledger.specs.bench.declared.Command.{Command}
 use Rattle.ledger.specs.bench.declared.Command.TheVariants as command
 use Rattle.ledger.specs.bench.declared.Fate.TheVariants as fate
-use Rattle.ledger.specs.bench.declared.Listed.{Listed}
-use Rattle.ledger.specs.bench.declared.Listed.TheVariants as listed
+use Rattle.ledger.specs.bench.Answers.{Listed}
 use Rattle.ledger.specs.bench.Table.{Table, record_of, node_count, slots_of}
 use Rattle.ledger.specs.bench.Calls.{Called, done, if_passed, start_table, set_up_of, set_up_given, slot_of, off_of, look_of, list_in, farthest, greatest, fate_of}
 use Rattle.ledger.specs.bench.Reports.{reports_fit, jobs_on}
@@ -51,7 +50,7 @@ fate-same lost t =
 list_same : (t : Table) → list_in (forget_all t) ≡ list_in t
 unfolding forget list_in
 list_same [] = refl
-list_same (v ∷ t) = ap (λ (l : Listed). cond (is_member v.state) (listed.Set v.set) l) (list_same t)
+list_same (v ∷ t) = ap (λ (l : Listed). cond (is_member v.state) (Some v.set) l) (list_same t)
 
 farthest-same : (n set : ℕ) (t : Table) → farthest n set (forget_all t) ≡ farthest n set t
 unfolding forget farthest
@@ -64,8 +63,8 @@ greatest-same n [] = refl
 greatest-same n (v ∷ t) = ap₂ (λ (a b : ℕ). max (cond (is_member v.state) a 0) b) (farthest-same n v.set t) (greatest-same n t)
 
 outcome-same : (lost : Bool) (t u : Table) (a : Answer) → slot_outcome lost (forget_all t) (forget_all u) a ≡ slot_outcome lost t u a
-outcome-same lost t u Done = rw (slots_same u, speaker-same t, fate-same lost t, list_same u, length-map u forget, greatest-same (length u) u)
-outcome-same lost t u (Refused cause) = refl
+outcome-same lost t u (Ok _) = rw (slots_same u, speaker-same t, fate-same lost t, list_same u, length-map u forget, greatest-same (length u) u)
+outcome-same lost t u (Err cause) = refl
 
 -- ---- the pairs
 
@@ -80,13 +79,13 @@ unfolding pairs_in
 pairs-same t u = ap₂ (λ (a b : List Pair). a ++ b) (group-same _ 1 t u) (group-same _ 1 t u)
 
 told_same : (t u : Table) (a : Answer) → pairs_told (forget_all t) (record { table = forget_all u; answer = a }) ≡ pairs_told t (record { table = u; answer = a })
-told_same t u Done = ap length (pairs-same t u)
-told_same t u (Refused cause) = refl
+told_same t u (Ok _) = ap length (pairs-same t u)
+told_same t u (Err cause) = refl
 
 -- the lent bytes
 bytes_same : (t u : Table) (out : List ℕ) (a : Answer) → slot_bytes (forget_all t) (record { table = forget_all u; answer = a }) out ≡ slot_bytes t (record { table = u; answer = a }) out
-bytes_same t u out Done = ap (λ (pairs : List Pair). pair_bytes pairs ++ drop (length (pair_bytes pairs)) out) (pairs-same t u)
-bytes_same t u out (Refused cause) = refl
+bytes_same t u out (Ok _) = ap (λ (pairs : List Pair). pair_bytes pairs ++ drop (length (pair_bytes pairs)) out) (pairs-same t u)
+bytes_same t u out (Err cause) = refl
 
 -- ---- the ledger
 

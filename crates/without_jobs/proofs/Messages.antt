@@ -1,5 +1,5 @@
 -- At a node: a message that no new check refuses is read as the one without its last section is, the calls leave and answer the same but for m, and what is sent is the same but for the section (specs/Without). Assumes nothing.
-use Prim.Native.Nat.{ℕ, ◌+◌, ◌-◌, ◌^◌}
+use Prim.Native.Nat.{ℕ, ◌-◌, ◌^◌}
 use mathlib.Core.Path.{◌≡◌, refl, sym, ap, ap₂, ◌∙◌}
 use mathlib.Core.Bool.{Bool, true, false, cond, not, ◌&&◌}
 use mathlib.Core.List.{List, ◌++◌}
@@ -15,8 +15,7 @@ use Rattle.ledger.specs.cable.declared.Choices.{Choices}
 use Rattle.ledger.specs.cable.declared.Cable.{Cable}
 use Rattle.ledger.specs.cable.Cable.{cable_with, job_count, node_number, fault_of}
 use Rattle.ledger.specs.node_reports.Reports.{Counts, counts_within}
-use Rattle.ledger.specs.message.declared.Reading.{Reading}
-use Rattle.ledger.specs.message.declared.Reading.TheVariants as reading
+use Rattle.ledger.specs.message.Answers.{Reading}
 use Rattle.ledger.specs.message.declared.Received.{Received}
 use Rattle.ledger.specs.message.Message.{Outcome, bits_in, if_read, if_written, in_range, job_section, jobs_within, length_of, length_one, length_two, message_of, part_one, part_three, part_two, read_of, said_by, section_in, two_sections, write_of, wrote}
 use Rattle.ledger.specs.message.TwoSections.{absent, read_two_of}
@@ -32,6 +31,7 @@ use Rattle.ledger.specs.node.Calls.{Counted, done, refused, no_node, set_up_of, 
 use Rattle.ledger.proofs.node.Sent.{sent-by}
 use Rattle.without_jobs.specs.Without.{without_jobs, choices_without, forget, forget_stepped, without_section, section_right, SameAtNode}
 use Rattle.without_jobs.proofs.Records.{answers-alike, may-same, fault-same, record-sound, step_same, off-same, restart-same, bits-sent}
+use Rattle.ledger.specs.message.Answers.{heard_with}
 
 -- ---- one test after the other
 
@@ -100,7 +100,7 @@ read_same k m bytes e =
     ap₂ (λ (a b : List ℕ). (said_by (section_in k a) (section_in 1 b) three).reading) (one-stays k bytes long) (two-stays k bytes long)
     ∙ said_same k m (part_one k two) (part_two k two) (part_three k bytes) right.0 right.1))
 
-heard-right : (k m : ℕ) (bytes : List ℕ) (a : ℕ) (b : Bool) → (read_of k m bytes).reading ≡ reading.Heard a b → section_right k m bytes ≡ true
+heard-right : (k m : ℕ) (bytes : List ℕ) (a : ℕ) (b : Bool) → (read_of k m bytes).reading ≡ heard_with a b → section_right k m bytes ≡ true
 heard-right k m bytes a b e =
     let p = passed-all k m a b (read_of k m bytes).jobs bytes (ap (λ (r : Reading). record { reading = r; jobs = (read_of k m bytes).jobs }) e) in
     all (le-leb m 8 p.few)

@@ -1,4 +1,5 @@
 -- No rule of a record looks at the number of jobs: a rule on a record with m forgotten makes what it makes of the record, with m forgotten. Assumes nothing.
+use Rattle.std.specs.Prelude.{Err, Option, Ok}
 use Prim.Native.Nat.{ℕ, zero, suc, ◌+◌}
 use mathlib.Core.Path.{◌≡◌, refl, sym, ap, ap₂, ◌∙◌}
 use mathlib.Core.Bool.{Bool, true, false, cond, not, ◌&&◌, ◌||◌, true≢false}
@@ -11,8 +12,7 @@ use Rattle.ledger.specs.cable.Cable.{ring_size, lag_fits, sponsor_count, job_cou
 use Rattle.ledger.specs.ring.declared.Found.{Found}
 use Rattle.ledger.specs.ring.Ring.{member_before, member_in, is_found, sender, sponsors, sponsored, decided}
 use Rattle.ledger.proofs.ring_laws.Alike.{before-alike, sponsored-alike, decided-alike}
-use Rattle.ledger.specs.message.declared.Reading.{Reading}
-use Rattle.ledger.specs.message.declared.Reading.TheVariants as reading
+use Rattle.ledger.specs.message.Answers.{Reading}
 use Rattle.ledger.specs.node_record.declared.Node.{Node}
 use Rattle.ledger.specs.node_record.declared.Window.{Window}
 use Rattle.ledger.specs.node_record.declared.Cause.{Cause}
@@ -74,13 +74,13 @@ confirmed-same : (j s bits : ℕ) (v : Node) → confirmed j s bits (forget v) �
 unfolding forget confirmed
 confirmed-same zero s bits v = refl
 confirmed-same (suc j) s bits v =
-    ap₂ (λ (marks : ℕ) (f : Found). cond (has bits (suc j)) (with marks (member_in f)) marks) (confirmed-same j s bits v) (sponsored-same v.cable v.set s (suc j))
+    ap₂ (λ (marks : ℕ) (f : Option Found). cond (has bits (suc j)) (with marks (member_in f)) marks) (confirmed-same j s bits v) (sponsored-same v.cable v.set s (suc j))
 
 says_same : (answer : Bool) (j s bits : ℕ) (v : Node) → says answer j s bits (forget v) ≡ says answer j s bits v
 unfolding forget says
 says_same answer zero s bits v = refl
 says_same answer (suc j) s bits v =
-    ap₂ (λ (b : Bool) (f : Found). b || (is_found v.own f && says_so answer (has bits (suc j)))) (says_same answer j s bits v) (sponsored-same v.cable v.set s (suc j))
+    ap₂ (λ (b : Bool) (f : Option Found). b || (is_found v.own f && says_so answer (has bits (suc j)))) (says_same answer j s bits v) (sponsored-same v.cable v.set s (suc j))
 
 heard-marks : (s bits : ℕ) (v : Node) → heard_marks s bits (forget v) ≡ heard_marks s bits v
 unfolding forget heard_marks sponsors
@@ -90,8 +90,8 @@ heard-marks s bits v =
 
 read-marks : (s : ℕ) (heard : Reading) (v : Node) → read_marks s heard (forget v) ≡ read_marks s heard v
 unfolding forget
-read-marks s (reading.Heard bits return_bit) v = heard-marks s bits v
-read-marks s (reading.Refused r) v = refl
+read-marks s (Ok h) v = heard-marks s h.acknowledgements v
+read-marks s (Err r) v = refl
 
 marks-after : (s : ℕ) (heard : Reading) (v : Node) → marks_after s heard (forget v) ≡ marks_after s heard v
 unfolding forget
@@ -99,8 +99,8 @@ marks-after s heard v = ap (λ (marks : ℕ). cond (is_own s v) (own_marks v) ma
 
 read-yes : (s : ℕ) (heard : Reading) (v : Node) → read_yes s heard (forget v) ≡ read_yes s heard v
 unfolding forget sponsors
-read-yes s (reading.Heard bits return_bit) v = ap (λ (b : Bool). v.yes_heard || b) (says_same true (sponsors_in v) s bits v)
-read-yes s (reading.Refused r) v = refl
+read-yes s (Ok h) v = ap (λ (b : Bool). v.yes_heard || b) (says_same true (sponsors_in v) s h.acknowledgements v)
+read-yes s (Err r) v = refl
 
 yes-after : (s : ℕ) (heard : Reading) (v : Node) → yes_after s heard (forget v) ≡ yes_after s heard v
 unfolding forget
@@ -123,11 +123,11 @@ noted-same s heard v =
 
 leaves-same : (s : ℕ) (v : Node) (x : ℕ) → leaves s (forget v) x ≡ leaves s v x
 unfolding forget
-leaves-same s v x = ap (λ (f : Found). is_found x f && not (has v.present x)) (decided-same v.cable v.set s)
+leaves-same s v x = ap (λ (f : Option Found). is_found x f && not (has v.present x)) (decided-same v.cable v.set s)
 
 departed-same : (s : ℕ) (v : Node) → departed s (forget v) ≡ forget (departed s v)
 unfolding forget
-departed-same s v = ap (λ (f : Found). with_set (cond (is_found (member_in f) f && not (has v.present (member_in f))) (without v.set (member_in f)) v.set) (forget v)) (decided-same v.cable v.set s)
+departed-same s v = ap (λ (f : Option Found). with_set (cond (is_found (member_in f) f && not (has v.present (member_in f))) (without v.set (member_in f)) v.set) (forget v)) (decided-same v.cable v.set s)
 
 departed-in : (times s : ℕ) (v : Node) → departed_in times s (forget v) ≡ forget (departed_in times s v)
 unfolding departed_in
@@ -154,7 +154,7 @@ unfolding forget settle
 settle-same inside s v =
     alike (too_few v) _ _ refl
     (alike (nothing_heard v) _ _ (leave_same (leaving_cause 2) v)
-    (ap (λ (f : Found). cond (inside && (not (eqb v.returning 0) && is_found s f)) (join (forget v)) (forget v)) (before_same v.cable v.set v.returning 1)
+    (ap (λ (f : Option Found). cond (inside && (not (eqb v.returning 0) && is_found s f)) (join (forget v)) (forget v)) (before_same v.cable v.set v.returning 1)
     ∙ alike (inside && joins s v) _ _ (join-same v) refl))
 
 -- ---- one slot
@@ -267,7 +267,7 @@ mark-bits : (j : ℕ) (v : Node) → mark_bits j (forget v) ≡ mark_bits j v
 unfolding forget mark_bits
 mark-bits zero v = refl
 mark-bits (suc j) v =
-    ap₂ (λ (bits : ℕ) (f : Found). with_if (has v.present (member_in f)) bits (suc j)) (mark-bits j v) (sponsored-same v.cable v.set v.own (suc j))
+    ap₂ (λ (bits : ℕ) (f : Option Found). with_if (has v.present (member_in f)) bits (suc j)) (mark-bits j v) (sponsored-same v.cable v.set v.own (suc j))
 
 pub bits-sent : (v : Node) → bits_sent (forget v) ≡ bits_sent v
 unfolding forget bits_sent sponsors

@@ -14,8 +14,7 @@ use Rattle.ledger.specs.slot_table.Order.{same_order}
 use Rattle.ledger.specs.cable.declared.Cable.{Cable}
 use Rattle.ledger.specs.cable.Cable.{node_number, job_count}
 use Rattle.ledger.specs.ring.Ring.{sender}
-use Rattle.ledger.specs.message.declared.Reading.{Reading}
-use Rattle.ledger.specs.message.declared.Reading.TheVariants as reading
+use Rattle.ledger.specs.message.Answers.{Reading}
 use Rattle.ledger.specs.node_record.declared.Node.{Node}
 use Rattle.ledger.specs.node_record.States.{is_out}
 use Rattle.ledger.specs.node_record.Soundness.{limit}
@@ -30,6 +29,7 @@ use Rattle.ledger.specs.bench.Runs.{Call, slot, off, restart, call_of}
 use Rattle.ledger.proofs.bench.Places.{in-place}
 use Rattle.without_jobs.specs.Without.{without_jobs, forget, forget_all, jobs_kept, forget_stepped}
 use Rattle.without_jobs.proofs.Records.{alike, record-sound, step_same, off-same, restart-same, bits-sent}
+use Rattle.ledger.specs.message.Answers.{heard_with}
 
 -- ---- what a table says of the next slot
 
@@ -58,7 +58,7 @@ unfolding forget spoken
 spoken-same t =
     let v = record_of t (speaker t) in
     ap₂ (λ (b : Bool) (heard : Reading). cond b heard unheard) (transmits-same t)
-    (ap (λ (w : Node). reading.Heard (bits_sent w) (return_sent w)) (sender-same t) ∙ ap (λ (bits : ℕ). reading.Heard bits (return_sent v)) (bits-sent v))
+    (ap (λ (w : Node). heard_with (bits_sent w) (return_sent w)) (sender-same t) ∙ ap (λ (bits : ℕ). heard_with bits (return_sent v)) (bits-sent v))
 
 heard-same : (lost : Bool) (missed : ℕ) (t : Table) (i : ℕ) → heard_by lost missed (forget_all t) i ≡ heard_by lost missed t i
 unfolding heard_by

@@ -5,7 +5,6 @@ use Rattle.ledger.specs.cable.declared.Choices.{Choices}
 use Rattle.ledger.specs.cable.declared.Cable.{Cable}
 use Rattle.ledger.specs.cable.Cable.{job_count, cable_fits}
 use Rattle.ledger.specs.node_reports.Reports.{Counts, no_reports_at, counts_within}
-use Rattle.ledger.specs.message.declared.Reading.TheVariants as reading
 use Rattle.ledger.specs.message.Message.{length_of, part_three, section_in, read_of, jobs_within, two_sections, wrote}
 use Rattle.ledger.specs.message.TwoSections.{read_two_of}
 use Rattle.ledger.specs.node_record.declared.Node.{Node}
@@ -20,6 +19,7 @@ use Rattle.ledger.specs.bench.Ledger.{Ledger}
 use Rattle.ledger.specs.bench.Kept.{Kept, kept_of, bytes_with}
 use Rattle.ledger.specs.bench.Runs.{Call, table_after}
 use Rattle.ledger.specs.Runs.{Lent, table_lent, taken}
+use Rattle.ledger.specs.message.Answers.{heard_with}
 
 -- A cable's choices but for the number of jobs, which is 0.
 abbrev pub without_jobs : Cable → Cable
@@ -114,7 +114,7 @@ pub record SameAtNode : Type 0 where
   -- The message is heard, or refused, as the one without the section is,
   pub reads : (k m : ℕ) (bytes : List ℕ) → section_right k m bytes ≡ true → (read_of k m bytes).reading ≡ (read_two_of k (without_section bytes)).reading
   -- and each message that is heard is such a one.
-  pub heard : (k m : ℕ) (bytes : List ℕ) (acknowledgements : ℕ) (return_bit : Bool) → (read_of k m bytes).reading ≡ reading.Heard acknowledgements return_bit → section_right k m bytes ≡ true
+  pub heard : (k m : ℕ) (bytes : List ℕ) (acknowledgements : ℕ) (return_bit : Bool) → (read_of k m bytes).reading ≡ heard_with acknowledgements return_bit → section_right k m bytes ≡ true
   -- The slot in which it comes, where 4 does not refuse the counts, leaves and answers but for m what it does without the section and without jobs.
   pub slots : (bytes : List ℕ) (v : Node) (counts : Counts) → section_right v.cable.k v.cable.m bytes ≡ true → counts_within v.slots counts ≡ true
       → forget_stepped (slot_of bytes v counts).stepped ≡ step_of (read_two_of v.cable.k (without_section bytes)).reading (forget v)

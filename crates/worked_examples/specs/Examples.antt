@@ -1,11 +1,8 @@
 -- "The examples marked P form a single table, proved by one statement against the definitions" (document 01, "What a contract says, and which examples carry
 -- proof"). The rows stand in document 01's order under its sentences.
-use Rattle.std.specs.Prelude.{ℕ, true, false, List, [], ◌∷◌, replicate}
-use Rattle.cover_light.specs.ring.declared.Speaker.TheVariants as speaker
-use Rattle.cover_light.specs.ring.declared.Found.TheVariants as found
+use Rattle.std.specs.Prelude.{ℕ, true, false, List, [], ◌∷◌, replicate, None, Ok}
 use Rattle.cover_light.specs.cable.Cable.{cable_of}
 use Rattle.cover_light.specs.ring.Answers.{finds, sender_of, sponsored_of, decided_of}
-use Rattle.converter.specs.message.declared.Written.TheVariants as written
 use Rattle.converter.specs.message.Message.{read_of, write_of}
 use Rattle.plan_program.specs.bench.Table.{Table}
 use Rattle.plan_program.specs.bench.Runs.{Call, off}
@@ -13,6 +10,7 @@ use Rattle.plan_program.specs.plan_line.Words.{bytes}
 use Rattle.plan_program.specs.Program.{printed}
 use Rattle.plan_program.specs.bench.Plans.{ok, lost}
 use Rattle.worked_examples.specs.Rows.{Row, ◌gives◌, these, refusal_in, holds, out, standing, standings, miss, after, failures, apart}
+use Rattle.cover_light.specs.ring.Ring.{found}
 
 -- ---- plans, and the listing
 
@@ -47,24 +45,24 @@ all_four = these (1 ∷ 2 ∷ 3 ∷ 4 ∷ [])
 unfoldable pub examples : Table → List Row
 examples lent =
     -- "n = 4, slot 4 has sender 4; slot 5 has 1."
-    (sender_of (cable_of 4 2) 4 gives speaker.Node 4)
-    ∷ (sender_of (cable_of 4 2) 5 gives speaker.Node 1)
+    (sender_of (cable_of 4 2) 4 gives Ok 4)
+    ∷ (sender_of (cable_of 4 2) 5 gives Ok 1)
     -- "set {1,3,4}, k = 2: node 1 sponsors 4, 3 and decides 3."
-    ∷ (sponsored_of (cable_of 4 2) (these (1 ∷ 3 ∷ 4 ∷ [])) 1 1 gives finds (found.Member 4 1))
-    ∷ (sponsored_of (cable_of 4 2) (these (1 ∷ 3 ∷ 4 ∷ [])) 1 2 gives finds (found.Member 3 2))
-    ∷ (sponsored_of (cable_of 4 2) (these (1 ∷ 3 ∷ 4 ∷ [])) 1 3 gives finds found.Nobody)
-    ∷ (decided_of (cable_of 4 2) (these (1 ∷ 3 ∷ 4 ∷ [])) 1 gives finds (found.Member 3 2))
+    ∷ (sponsored_of (cable_of 4 2) (these (1 ∷ 3 ∷ 4 ∷ [])) 1 1 gives finds (found 4 1))
+    ∷ (sponsored_of (cable_of 4 2) (these (1 ∷ 3 ∷ 4 ∷ [])) 1 2 gives finds (found 3 2))
+    ∷ (sponsored_of (cable_of 4 2) (these (1 ∷ 3 ∷ 4 ∷ [])) 1 3 gives finds None)
+    ∷ (decided_of (cable_of 4 2) (these (1 ∷ 3 ∷ 4 ∷ [])) 1 gives finds (found 3 2))
     -- "set {2,5}, k = 3: node 5 sponsors and decides 2."
-    ∷ (sponsored_of (cable_of 5 3) (these (2 ∷ 5 ∷ [])) 5 1 gives finds (found.Member 2 3))
-    ∷ (sponsored_of (cable_of 5 3) (these (2 ∷ 5 ∷ [])) 5 2 gives finds found.Nobody)
-    ∷ (decided_of (cable_of 5 3) (these (2 ∷ 5 ∷ [])) 5 gives finds (found.Member 2 3))
+    ∷ (sponsored_of (cable_of 5 3) (these (2 ∷ 5 ∷ [])) 5 1 gives finds (found 2 3))
+    ∷ (sponsored_of (cable_of 5 3) (these (2 ∷ 5 ∷ [])) 5 2 gives finds None)
+    ∷ (decided_of (cable_of 5 3) (these (2 ∷ 5 ∷ [])) 5 gives finds (found 2 3))
     -- "set {2}: nobody."
-    ∷ (sponsored_of (cable_of 5 3) (these (2 ∷ [])) 2 1 gives finds found.Nobody)
-    ∷ (decided_of (cable_of 5 3) (these (2 ∷ [])) 2 gives finds found.Nobody)
+    ∷ (sponsored_of (cable_of 5 3) (these (2 ∷ [])) 2 1 gives finds None)
+    ∷ (decided_of (cable_of 5 3) (these (2 ∷ [])) 2 gives finds None)
     -- "k = 2, both yes, no return: 02 03 01 00." ("document 01's messages get 00 00 added for m = 0": document 02, h)
-    ∷ (write_of 2 0 0b11 false 0 (replicate 6 0xAA) gives (written.Bytes 6, 0x02 ∷ 0x03 ∷ 0x01 ∷ 0x00 ∷ 0x00 ∷ 0x00 ∷ []))
+    ∷ (write_of 2 0 0b11 false 0 (replicate 6 0xAA) gives (Ok 6, 0x02 ∷ 0x03 ∷ 0x01 ∷ 0x00 ∷ 0x00 ∷ 0x00 ∷ []))
     -- "k = 9, all yes, return: 09 FF 01 01 01."
-    ∷ (write_of 9 0 0b1_1111_1111 true 0 (replicate 7 0xAA) gives (written.Bytes 7, 0x09 ∷ 0xFF ∷ 0x01 ∷ 0x01 ∷ 0x01 ∷ 0x00 ∷ 0x00 ∷ []))
+    ∷ (write_of 9 0 0b1_1111_1111 true 0 (replicate 7 0xAA) gives (Ok 7, 0x09 ∷ 0xFF ∷ 0x01 ∷ 0x01 ∷ 0x01 ∷ 0x00 ∷ 0x00 ∷ []))
     -- "for k = 2, 02 07 01 00 is refusal 8; 02 03 02 00 is 7."
     ∷ (refusal_in (read_of 2 0 (0x02 ∷ 0x07 ∷ 0x01 ∷ 0x00 ∷ 0x00 ∷ 0x00 ∷ [])).reading gives 8)
     ∷ (refusal_in (read_of 2 0 (0x02 ∷ 0x03 ∷ 0x02 ∷ 0x00 ∷ 0x00 ∷ 0x00 ∷ [])).reading gives 7)

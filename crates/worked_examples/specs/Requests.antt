@@ -1,14 +1,11 @@
 -- Examples of document 02's requests, under its sentences.
-use Rattle.std.specs.Prelude.{ℕ, ◌-◌, Bool, true, false, List, [], ◌∷◌, ◌++◌, reverse, length, get_or, replicate, take}
+use Rattle.std.specs.Prelude.{ℕ, ◌-◌, Bool, true, false, List, [], ◌∷◌, ◌++◌, reverse, length, get_or, replicate, take, Err, None, Ok}
 use Rattle.cover_light.specs.nodeset.Sets.{has}
 use Rattle.converter.specs.refusal.Causes.{cause}
 use Rattle.cover_light.specs.cable.declared.Cable.{Cable}
 use Rattle.cover_light.specs.cable.declared.Choices.{Choices}
-use Rattle.cover_light.specs.ring.declared.Speaker.TheVariants as speaker
-use Rattle.cover_light.specs.ring.declared.Found.TheVariants as found
 use Rattle.cover_light.specs.cable.Cable.{cable_of, lagging_cable, cable_with}
 use Rattle.cover_light.specs.ring.Answers.{finds, sender_of, sponsored_of, decided_of}
-use Rattle.cover_light.specs.node.declared.Answer.TheVariants as answer
 use Rattle.cover_light.specs.node_record.declared.Window.{Window}
 use Rattle.cover_light.specs.node_hearing.Hearing.{clean}
 use Rattle.cover_light.specs.node_sending.Sending.{bits_sent}
@@ -19,14 +16,13 @@ use Rattle.plan_program.specs.bench.Calls.{Called, set_up_given, slot_of}
 use Rattle.plan_program.specs.bench.Pairs.{slot_bytes}
 use Rattle.plan_program.specs.bench.Runs.{Call, off, restart, table_after}
 use Rattle.plan_program.specs.bench.Plans.{ok, lost}
-use Rattle.converter.specs.message.declared.Written.TheVariants.{Bytes}
 use Rattle.converter.specs.message.Message.{Outcome, heard, unwritten, read_of, write_of}
 use Rattle.converter.specs.Converter.{to_three_of, to_two_of}
-use Rattle.cover_light.specs.declared.Light.TheVariants as light
 use Rattle.cover_light.specs.Light.{worked, level_of, levels_of}
 use Rattle.cover_light.specs.row.declared.Row as members
 use Rattle.cover_light.specs.row.Rows.{as_row, sound_row, as_set}
 use Rattle.worked_examples.specs.Rows.{Row, ◌gives◌, these, refusal_in, Standing, standing_as, holds, out, other, standings, miss, after_on, after}
+use Rattle.cover_light.specs.ring.Ring.{found}
 
 -- ---- c: changes in a fixed order
 
@@ -122,7 +118,7 @@ knock_given jobs lent = node.send_of (record_of (table_after (four_with 3 lent).
 unfoldable pub failure_reports : Table → List Row
 failure_reports lent =
     -- "The message gains a third section: the number of jobs m, 0 to 8, then one byte with a bit per job, lowest first"; "reading back gives it too".
-    (write_of 2 3 0b11 false 0b101 (replicate 7 0xAA) gives (Bytes 6, with_section 3 0b101 ++ 0xAA ∷ []))
+    (write_of 2 3 0b11 false 0b101 (replicate 7 0xAA) gives (Ok 6, with_section 3 0b101 ++ 0xAA ∷ []))
     ∷ (read_of 2 3 (with_section 3 0b101) gives heard 0b11 false 0b101)
     -- "Its controllers read and send only that m, and any other message is unheard"; "the new section's wrong count or a spare bit .. gives 7 or 8".
     ∷ (refusal_in (read_of 2 3 (with_section 2 0b1)).reading gives 7)
@@ -132,7 +128,7 @@ failure_reports lent =
     -- "The length that 6 tests grows by two bytes."
     ∷ (refusal_in (read_of 2 0 (0x02 ∷ 0x03 ∷ 0x01 ∷ 0x00 ∷ [])).reading gives 6)
     -- "Job count above 8 at set-up, in reader or writer: 14, after 2"
-    ∷ ((four_with 9 lent).answer gives answer.Refused (cause 14))
+    ∷ ((four_with 9 lent).answer gives Err (cause 14))
     ∷ (refusal_in (read_of 2 9 (with_section 9 0)).reading gives 14)
     -- "Each node keeps, for every node and every job, the number of reports heard": nodes 2 and 4 of node 1's, and node 1 none of its own.
     ∷ (heard_of_node1 2 (with_section 3 0b101) lent gives 1 ∷ 0 ∷ 1 ∷ [])
@@ -142,7 +138,7 @@ failure_reports lent =
     ∷ (heard_of_node1 2 (0x02 ∷ 0x03 ∷ 0x01 ∷ 0x01 ∷ 3 ∷ 0b101 ∷ []) lent gives 1 ∷ 0 ∷ 1 ∷ [])
     ∷ (state_after 2 (0x02 ∷ 0x03 ∷ 0x01 ∷ 0x01 ∷ 3 ∷ 0b101 ∷ []) lent gives out 3)
     -- "A knock carries zero job bits": node 2's.
-    ∷ (knock_given 0b101 lent gives (Bytes 6, 0x02 ∷ 0x00 ∷ 0x01 ∷ 0x00 ∷ 3 ∷ 0 ∷ []))
+    ∷ (knock_given 0b101 lent gives (Ok 6, 0x02 ∷ 0x00 ∷ 0x01 ∷ 0x00 ∷ 3 ∷ 0 ∷ []))
     ∷ []
 
 -- ---- i: recorded messages of last year
@@ -150,8 +146,8 @@ failure_reports lent =
 unfoldable pub recorded_messages : List Row
 recorded_messages =
     -- "A converter brings a message to the three-section form with no jobs, and takes one with no jobs back." "Lent bytes after the result stay untouched."
-    (to_three_of 2 (0x02 ∷ 0x03 ∷ 0x01 ∷ 0x00 ∷ []) (replicate 7 0xAA) gives (Bytes 6, with_section 0 0 ++ 0xAA ∷ []))
-    ∷ (to_two_of 2 (with_section 0 0) (replicate 5 0xAA) gives (Bytes 4, 0x02 ∷ 0x03 ∷ 0x01 ∷ 0x00 ∷ 0xAA ∷ []))
+    (to_three_of 2 (0x02 ∷ 0x03 ∷ 0x01 ∷ 0x00 ∷ []) (replicate 7 0xAA) gives (Ok 6, with_section 0 0 ++ 0xAA ∷ []))
+    ∷ (to_two_of 2 (with_section 0 0) (replicate 5 0xAA) gives (Ok 4, 0x02 ∷ 0x03 ∷ 0x01 ∷ 0x00 ∷ 0xAA ∷ []))
     -- "Message with a job count of 1 to 8 to be taken back: 15, after 8, which judges spare bits by that count. A job count above 8 there gives 7."
     ∷ (to_two_of 2 (with_section 3 0b101) (replicate 5 0xAA) gives (unwritten 15, replicate 5 0xAA))
     ∷ (to_two_of 2 (with_section 3 0b1000) (replicate 5 0xAA) gives (unwritten 8, replicate 5 0xAA))
@@ -176,11 +172,11 @@ window nodes run = record { done = 5; heard = these nodes; shortest = run; retur
 unfoldable pub slow_receivers : Table → List Row
 slow_receivers lent =
     -- "With lag 1 and c members, ks is the smaller of k and c - 2": of {1,3,4} node 1 sponsors 3 and nobody else, and decides 3,
-    (sponsored_of (slow 4) (these (1 ∷ 3 ∷ 4 ∷ [])) 1 1 gives finds (found.Member 3 2))
-    ∷ (sponsored_of (slow 4) (these (1 ∷ 3 ∷ 4 ∷ [])) 1 2 gives finds found.Nobody)
-    ∷ (decided_of (slow 4) (these (1 ∷ 3 ∷ 4 ∷ [])) 1 gives finds (found.Member 3 2))
+    (sponsored_of (slow 4) (these (1 ∷ 3 ∷ 4 ∷ [])) 1 1 gives finds (found 3 2))
+    ∷ (sponsored_of (slow 4) (these (1 ∷ 3 ∷ 4 ∷ [])) 1 2 gives finds None)
+    ∷ (decided_of (slow 4) (these (1 ∷ 3 ∷ 4 ∷ [])) 1 gives finds (found 3 2))
     -- "and with two members or fewer nobody is decided."
-    ∷ (decided_of (slow 4) (these (1 ∷ 3 ∷ [])) 1 gives finds found.Nobody)
+    ∷ (decided_of (slow 4) (these (1 ∷ 3 ∷ [])) 1 gives finds None)
     -- "Bit 1 concerns the second member back": in slot 4 node 4 says no of node 2, and yes of node 1.
     ∷ (bits_sent (record_of (after_on (slow 5) lent (second_lost 1)) 4) gives 0b10)
     -- "Leaving falls at the (k + lag)-th member after": node 2 leaves at slot 5, that of the third member after it.
@@ -196,8 +192,8 @@ slow_receivers lent =
     ∷ (clean (cable_of 5 2) (window (1 ∷ 2 ∷ []) 1) gives true)
     ∷ (clean (cable_of 5 2) (window (1 ∷ 2 ∷ []) 0) gives false)
     -- "Lag above 1: 16, after 1. The limit on k is refused by 2."
-    ∷ ((set_up_given (record { n = 5; k = 2; m = 0; lag = 2 }) (1 ∷ 2 ∷ 3 ∷ 4 ∷ 5 ∷ []) lent).answer gives answer.Refused (cause 16))
-    ∷ ((set_up_given (record { n = 5; k = 4; m = 0; lag = 1 }) (1 ∷ 2 ∷ 3 ∷ 4 ∷ 5 ∷ []) lent).answer gives answer.Refused (cause 2))
+    ∷ ((set_up_given (record { n = 5; k = 2; m = 0; lag = 2 }) (1 ∷ 2 ∷ 3 ∷ 4 ∷ 5 ∷ []) lent).answer gives Err (cause 16))
+    ∷ ((set_up_given (record { n = 5; k = 4; m = 0; lag = 1 }) (1 ∷ 2 ∷ 3 ∷ 4 ∷ 5 ∷ []) lent).answer gives Err (cause 2))
     ∷ []
 
 -- ---- k: slots out of number order
@@ -218,10 +214,10 @@ first_returns slots = second_lost 2 ++ restart 1 ∷ replicate slots ok
 unfoldable pub crossed_slots : Table → List Row
 crossed_slots lent =
     -- "Slots, ring, sponsoring .. follow the table": before node 3 speak 4 and 2,
-    (sender_of crossed 1 gives speaker.Node 3)
-    ∷ (sender_of crossed 7 gives speaker.Node 1)
-    ∷ (sponsored_of crossed (these (1 ∷ 2 ∷ 3 ∷ 4 ∷ 5 ∷ [])) 3 1 gives finds (found.Member 4 1))
-    ∷ (decided_of crossed (these (1 ∷ 2 ∷ 3 ∷ 4 ∷ 5 ∷ [])) 3 gives finds (found.Member 2 2))
+    (sender_of crossed 1 gives Ok 3)
+    ∷ (sender_of crossed 7 gives Ok 1)
+    ∷ (sponsored_of crossed (these (1 ∷ 2 ∷ 3 ∷ 4 ∷ 5 ∷ [])) 3 1 gives finds (found 4 1))
+    ∷ (decided_of crossed (these (1 ∷ 2 ∷ 3 ∷ 4 ∷ 5 ∷ [])) 3 gives finds (found 2 2))
     -- and the message of slot 2 is that of node 1, which node 2 decides in slot 4; "sets and printed figures keep node numbers."
     ∷ (standings (after_on crossed lent (second_lost 1)) gives replicate 5 (holds (these (1 ∷ 2 ∷ 3 ∷ 4 ∷ 5 ∷ []))))
     ∷ (standings (after_on crossed lent (second_lost 2)) gives out 1 ∷ replicate 4 (holds (these (2 ∷ 3 ∷ 4 ∷ 5 ∷ []))))
@@ -229,8 +225,8 @@ crossed_slots lent =
     ∷ (standings (after_on crossed lent (first_returns 16)) gives other ∷ replicate 4 (holds (these (2 ∷ 3 ∷ 4 ∷ 5 ∷ []))))
     ∷ (standings (after_on crossed lent (first_returns 17)) gives replicate 5 (holds (these (1 ∷ 2 ∷ 3 ∷ 4 ∷ 5 ∷ []))))
     -- "Table of the wrong length: 17, after 14. A node missing or doubled: 18, next".
-    ∷ ((set_up_given five (3 ∷ 1 ∷ 5 ∷ 2 ∷ []) lent).answer gives answer.Refused (cause 17))
-    ∷ ((set_up_given five (3 ∷ 1 ∷ 5 ∷ 2 ∷ 2 ∷ []) lent).answer gives answer.Refused (cause 18))
+    ∷ ((set_up_given five (3 ∷ 1 ∷ 5 ∷ 2 ∷ []) lent).answer gives Err (cause 17))
+    ∷ ((set_up_given five (3 ∷ 1 ∷ 5 ∷ 2 ∷ 2 ∷ []) lent).answer gives Err (cause 18))
     ∷ []
 
 -- ---- l: members as a row
@@ -267,10 +263,10 @@ levels_by i s lent = levels_of (record_of (until_slot s lent) i) (10 ∷ 21 ∷ 
 unfoldable pub cover_light : Table → List Row
 cover_light lent =
     -- "its base plus half the base of each neighbour i - 1 and i + 1 that is not listed": while all are listed, the bases; without node 2 half of 21 for lamps 1 and 3.
-    (levels_by 1 3 lent gives (Bytes 4, 10 ∷ 21 ∷ 30 ∷ 41 ∷ 0xAA ∷ []))
-    ∷ (levels_by 1 4 lent gives (Bytes 4, 20 ∷ 21 ∷ 40 ∷ 41 ∷ 0xAA ∷ []))
+    (levels_by 1 3 lent gives (Ok 4, 10 ∷ 21 ∷ 30 ∷ 41 ∷ 0xAA ∷ []))
+    ∷ (levels_by 1 4 lent gives (Ok 4, 20 ∷ 21 ∷ 40 ∷ 41 ∷ 0xAA ∷ []))
     -- "A node in any other state gives 254 for each lamp."
-    ∷ (levels_by 2 4 lent gives (Bytes 4, 254 ∷ 254 ∷ 254 ∷ 254 ∷ 0xAA ∷ []))
+    ∷ (levels_by 2 4 lent gives (Ok 4, 254 ∷ 254 ∷ 254 ∷ 254 ∷ 0xAA ∷ []))
     -- "halves rounded down one by one, and at most 254"
     ∷ (worked (these (2 ∷ [])) (1 ∷ 10 ∷ 3 ∷ []) 2 gives 11)
     ∷ (worked (these (2 ∷ [])) (254 ∷ 2 ∷ 253 ∷ []) 2 gives 254)
@@ -278,7 +274,7 @@ cover_light lent =
     ∷ (worked (these (3 ∷ [])) (8 ∷ 100 ∷ 60 ∷ []) 1 gives 58)
     ∷ (worked (these (1 ∷ [])) (8 ∷ 100 ∷ 60 ∷ []) 3 gives 110)
     -- "Base above 254 or a table not of n entries: 20, after 4 and 3"
-    ∷ (level_of (record_of (until_slot 4 lent) 1) (10 ∷ 21 ∷ 30 ∷ []) 1 gives light.Refused (cause 20))
-    ∷ (level_of (record_of (until_slot 4 lent) 1) (10 ∷ 21 ∷ 30 ∷ 255 ∷ []) 1 gives light.Refused (cause 20))
-    ∷ (level_of (record_of (until_slot 4 lent) 1) (10 ∷ 21 ∷ 30 ∷ []) 5 gives light.Refused (cause 3))
+    ∷ (level_of (record_of (until_slot 4 lent) 1) (10 ∷ 21 ∷ 30 ∷ []) 1 gives Err (cause 20))
+    ∷ (level_of (record_of (until_slot 4 lent) 1) (10 ∷ 21 ∷ 30 ∷ 255 ∷ []) 1 gives Err (cause 20))
+    ∷ (level_of (record_of (until_slot 4 lent) 1) (10 ∷ 21 ∷ 30 ∷ []) 5 gives Err (cause 3))
     ∷ []

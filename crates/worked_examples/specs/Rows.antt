@@ -1,13 +1,12 @@
 -- Rows of worked examples: what is asked of a definition that the contracts cite, and what is answered; and how rows are written.
-use Rattle.std.specs.Prelude.{ℕ, ◌≡◌, false}
+use Rattle.std.specs.Prelude.{ℕ, ◌≡◌, false, Err, Ok}
 use mathlib.Core.List.{List, [], ◌∷◌, foldr, map, reverse}
 use Rattle.converter.specs.refusal.Causes.{number_of}
 use Rattle.cover_light.specs.nodeset.Sums.{sum}
 use Rattle.cover_light.specs.nodeset.Sets.{with}
 use Rattle.cover_light.specs.cable.declared.Cable.{Cable}
 use Rattle.cover_light.specs.cable.Cable.{cable_of}
-use Rattle.converter.specs.message.declared.Reading.{Reading}
-use Rattle.converter.specs.message.declared.Reading.TheVariants as reading
+use Rattle.converter.specs.message.Answers.{Reading}
 use Rattle.cover_light.specs.node_record.declared.Node.{Node}
 use Rattle.cover_light.specs.node_record.declared.State.{State}
 use Rattle.cover_light.specs.node_record.declared.State.TheVariants as state
@@ -39,8 +38,8 @@ these nodes = foldr (λ x s. with s x) 0 nodes
 
 -- The number of the refusal; 0 where the bytes are read.
 abbrev pub refusal_in : Reading → ℕ
-refusal_in (reading.Heard bits return_bit) = 0
-refusal_in (reading.Refused cause) = number_of cause
+refusal_in (Ok h) = 0
+refusal_in (Err cause) = number_of cause
 
 -- What is told of a node: it is a member and holds this set, it is out with a cause of this number, or it is in another state.
 pub data Standing : Type 0 where

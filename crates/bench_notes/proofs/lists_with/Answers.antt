@@ -2,7 +2,7 @@
 use mathlib.Core.Path.{ap, ◌∙◌}
 use mathlib.Core.Bool.{Bool, ◌&&◌}
 use Rattle.row.specs.declared.Row.{Row}
-use Rattle.bench.specs.declared.Listed.{Listed}
+use Rattle.bench.specs.Answers.{Listed}
 use Rattle.bench_notes.specs.declared.Lists.{Lists}
 use Rattle.bench_notes.specs.Notes.{list_with, same_with, lists_with}
 use Rattle.bench_notes.proofs.lists_with.Goals as goal

@@ -8,12 +8,6 @@ use Rattle.converter_text.specs.Recorded.{message_text}
 use Rattle.converter_text.proofs.Hex.{text-long}
 use Rattle.converter_text.proofs.put_converted.Goals as goal
 
-pub put_word-after_word-requires : goal.put_word-after_word-requires
-put_word-after_word-requires c = omega (arith, c.requires)
-
-pub put_message-after_message-requires : goal.put_message-after_message-requires
-put_message-after_message-requires c = omega (arith, c.requires)
-
 pub put_word-requires : goal.put_word-requires
 put_word-requires c = omega (arith, c.requires, text-long c.args.bytes.now)
 

@@ -1,10 +1,9 @@
 -- `converter_text::put_line` meets its contract: each test that fails is one of `readable`. Assumes nothing.
 use Prim.Native.Nat.{ℕ, ◌+◌, ◌-◌, ◌≤◌}
 use mathlib.Core.Path.{◌≡◌, sym, ap, subst, ◌∙◌}
-use mathlib.Core.Bool.{Bool, true}
+use mathlib.Core.Bool.{Bool}
 use mathlib.Core.List.{List}
 use native.Mathlib.Omega.{arith}
-use borrow.Author.Tests.{not-true, not-false}
 use lib.ListN.{length, take, drop, length-drop}
 use lib.Seq.{length-take-le, take_all}
 use Rattle.plan_line.specs.Words.{before, gap, is_number, value_of}
@@ -13,7 +12,6 @@ use Rattle.converter_text.specs.declared.Direction.{Direction}
 use Rattle.plan_line.proofs.Lists.{part-in}
 use Rattle.converter_text.specs.Recorded.{behind, bytes_of, is_message, outcome_text, turned}
 use Rattle.converter_text.proofs.Lines.{no-message, no_number, reads, too_long, unreadable, was_read}
-use borrow.Author.Rules.{rules}
 use Rattle.converter_text.proofs.put_line.Goals as goal
 
 -- k ends in the line, before the first space
@@ -32,9 +30,6 @@ module _ (text : List ℕ) (end : ℕ) (was : end ≡ 0 + gap 32 (drop 0 text)) 
 
   number : {r : Bool} → r ≡ is_number (take end text) → is_number (before text) ≡ r
   number e = ap is_number (sym word) ∙ sym e
-
-  message : {r : Bool} → r ≡ is_message (take (length text - end) (drop end text)) → is_message (behind text) ≡ r
-  message e = ap is_message (sym rest) ∙ sym e
 
 -- what is printed of a word and a message is printed of equal ones
 outcome_same : (L : ℕ) (d : Direction) {r at : ℕ} {word word' m m' out last : List ℕ} → word ≡ word' → m ≡ m'
@@ -63,34 +58,20 @@ slice_bounds-message_in-count c = inside _ _ c.part_end-end.ensures
 pub slice_bounds-message_in-start : goal.slice_bounds-message_in-start
 slice_bounds-message_in-start c = inside _ _ c.part_end-end.ensures
 
-pub returns-then-not-read : goal.returns-then-not-read
-returns-then-not-read c =
+pub returns-in_default : goal.returns-in_default
+returns-in_default c =
     let a = c.args in
-    rw (unreadable a.direction a.line a.text.now (no-message a.text.now (message _ _ c.part_end-end.ensures c.message_in-read.ensures.is ∙ not-true c.message_in-read.result.readable c.if-not-read.true))) c.put_refusal-then-not-read.ensures
+    rw (unreadable a.direction a.line a.text.now (no-message a.text.now (ap is_message (sym (rest _ _ c.part_end-end.ensures)) ∙ c.in_default.ensures))) c.put_refusal-in_default.ensures
 
 pub slice_bounds-put_turned-end : goal.slice_bounds-put_turned-end
 slice_bounds-put_turned-end c = sym (length-take-le c.part_end-end.result c.args.text.now (inside _ _ c.part_end-end.ensures))
-
-pub slice_bounds-bytes-end : goal.slice_bounds-bytes-end
-slice_bounds-bytes-end c =
-    let forty : length c.message_in-read.result.bytes ≡ 40 = search rules in
-    omega (arith, forty, c.message_in-read.ensures.few)
-
-pub slice_bounds-put_turned-end-2 : goal.slice_bounds-put_turned-end-2
-slice_bounds-put_turned-end-2 c =
-    let forty : length c.message_in-read.result.bytes ≡ 40 = search rules in
-    sym (length-take-le c.message_in-read.result.count c.message_in-read.result.bytes (omega (arith, forty, c.message_in-read.ensures.few)))
-
-pub put_turned-requires : goal.put_turned-requires
-put_turned-requires c = (c.requires, sym c.is_number.ensures ∙ c.if-not-is_number.false)
 
 pub returns : goal.returns
 returns c =
     let a = c.args in
     let text = a.text.now in
-    let read = c.message_in-read in
+    let read = c.in-Some.ensures in
     let end = c.part_end-end.ensures in
-    let readable : read.result.readable ≡ true = not-false read.result.readable c.if-not-read.false in
-    let bytes : take read.result.count read.result.bytes ≡ bytes_of (behind text) = read.ensures.bytes readable ∙ ap bytes_of (rest _ _ end) in
-    rw (was_read a.direction a.line text (reads text (omega (arith, c.if-text-gt120.false)) (number _ _ end c.is_number.ensures ∙ c.if-not-is_number.false) (message _ _ end read.ensures.is ∙ readable)))
-    (outcome_same a.line a.direction (word _ _ end) bytes c.put_turned.ensures)
+    let whole = rest _ _ end in
+    rw (was_read a.direction a.line text (reads text (omega (arith, c.if-text-gt120.false)) (number _ _ end c.is_number.ensures ∙ c.if-not-is_number.false) (ap is_message (sym whole) ∙ read.is)))
+    (outcome_same a.line a.direction (word _ _ end) (read.bytes ∙ ap bytes_of whole) c.put_turned.ensures)

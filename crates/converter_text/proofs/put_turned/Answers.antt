@@ -1,5 +1,6 @@
 -- `converter_text::put_turned` meets its contract: where the message is written, k has two digits at the most and the message 9 bytes.
 -- Assumes nothing.
+use Rattle.std.specs.Prelude.{Ok}
 use Prim.Native.Nat.{ℕ, ◌≤◌, min}
 use mathlib.Core.Path.{◌≡◌, sym, ap, ◌∙◌}
 use mathlib.Core.Bool.{true}
@@ -8,14 +9,13 @@ use native.Mathlib.Omega.{arith}
 use lib.ListN.{length, take, replicate}
 use lib.Seq.{length-take-le}
 use Rattle.message.specs.Message.{Outcome}
-use Rattle.message.specs.declared.Written.TheVariants.{Bytes}
 use Rattle.plan_line.specs.Words.{is_number, value_of}
 use Rattle.converter_text.specs.declared.Direction.{Direction}
 use Rattle.converter_text.specs.Recorded.{conversion, turned}
 use Rattle.converter_text.proofs.Turned.{count_fits, k-small, turned-capped, word-short}
 use Rattle.converter_text.proofs.put_turned.Goals as goal
 
-module _ (d : Direction) (k : ℕ) (bytes last : List ℕ) (count : ℕ) (made : ◌≡◌ {A = Outcome} (Bytes count, last) (conversion d k bytes (replicate 9 0))) (nine : length last ≡ 9) where
+module _ (d : Direction) (k : ℕ) (bytes last : List ℕ) (count : ℕ) (made : ◌≡◌ {A = Outcome} (Ok count, last) (conversion d k bytes (replicate 9 0))) (nine : length last ≡ 9) where
   fits : count ≤ length last
   fits = omega (arith, nine, count_fits d k bytes (replicate 9 0) count last made)
 
@@ -34,17 +34,17 @@ is d k word bytes w e h =
     ∙ sym e
 
 pub slice_bounds-made-end : goal.slice_bounds-made-end
-slice_bounds-made-end c = fits _ _ _ _ _ c.in-Bytes.ensures c.turn-written.auto.out
+slice_bounds-made-end c = fits _ _ _ _ _ c.in-Ok.ensures c.turn-written.auto.out
 
 pub slice_bounds-put_converted-end : goal.slice_bounds-put_converted-end
-slice_bounds-put_converted-end c = sym (length-take-le _ _ (fits _ _ _ _ _ c.in-Bytes.ensures c.turn-written.auto.out))
+slice_bounds-put_converted-end c = sym (length-take-le _ _ (fits _ _ _ _ _ c.in-Ok.ensures c.turn-written.auto.out))
 
 pub put_converted-requires : goal.put_converted-requires
 put_converted-requires c =
-    (c.requires.0, omega (arith, few _ _ _ _ _ c.in-Bytes.ensures c.turn-written.auto.out, short _ _ _ _ _ c.in-Bytes.ensures c.turn-written.auto.out c.args.word.now c.requires.1 c.small_value.ensures))
+    (c.requires.0, omega (arith, few _ _ _ _ _ c.in-Ok.ensures c.turn-written.auto.out, short _ _ _ _ _ c.in-Ok.ensures c.turn-written.auto.out c.args.word.now c.requires.1 c.small_value.ensures))
 
-pub returns-in-Bytes : goal.returns-in-Bytes
-returns-in-Bytes c = rw (is _ _ c.args.word.now _ _ c.in-Bytes.ensures c.small_value.ensures) c.put_converted.ensures
+pub returns-in-Ok : goal.returns-in-Ok
+returns-in-Ok c = rw (is _ _ c.args.word.now _ _ c.in-Ok.ensures c.small_value.ensures) c.put_converted.ensures
 
-pub returns-in-Refused : goal.returns-in-Refused
-returns-in-Refused c = rw (is _ _ c.args.word.now _ _ c.in-Refused.ensures c.small_value.ensures) (rw c.number.ensures at c.put_refusal.ensures)
+pub returns-in-Err : goal.returns-in-Err
+returns-in-Err c = rw (is _ _ c.args.word.now _ _ c.in-Err.ensures c.small_value.ensures) (rw c.number.ensures at c.put_refusal.ensures)

@@ -1,14 +1,8 @@
 -- `converter_text::take_bytes` meets its contract. The loop's invariant: the bytes so far are taken and what is printed of them put, 80 bytes for each at the
--- most. The measure is what is left of the input. Assumes nothing.
-use Prim.Native.Nat.{◌-◌, ◌*◌, ◌≤◌}
-use mathlib.Core.Path.{◌≡◌}
-use lib.ListN.{length, take}
-use Rattle.plan_text.specs.Text.{PutAt}
-use Rattle.converter_text.specs.Calls.{after, text_of}
+-- most. Assumes nothing.
+use Rattle.plan_text.proofs.Pieces.{Taken}
+use Rattle.converter_text.specs.Calls.{after_byte, byte_text}
 use Rattle.converter_text.proofs.take_bytes.Given as goal
 
-abbrev pub invariant-loop-i : goal.invariant-loop-i
-invariant-loop-i l = (l.i ≤ length l.input) × (length l.out ≡ length l.initial.out) × (l.taken.at ≤ 80 * l.i) × (l.taken.recording ≡ after l.initial.taken.recording (take l.i l.input)) × PutAt l.taken.at 0 (text_of l.initial.taken.recording (take l.i l.input)) l.initial.out l.out
-
-abbrev pub decreases-loop-i : goal.decreases-loop-i
-decreases-loop-i l = length l.input - l.i
+abbrev pub invariant-loop-byte : goal.invariant-loop-byte
+invariant-loop-byte l = Taken after_byte byte_text 80 l.initial.taken.recording l.input l.byte-index l.taken.recording l.taken.at l.initial.out l.out

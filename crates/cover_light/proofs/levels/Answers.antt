@@ -1,7 +1,9 @@
 -- `cover_light::levels` meets its contract. Assumes nothing.
-use mathlib.Core.Path.{ap, ◌∙◌}
+use Rattle.std.specs.Prelude.{Err}
+use Rattle.std.proofs.Common.{rules}
+use mathlib.Core.Path.{◌≡◌, ap, ◌∙◌}
 use Rattle.refusal.specs.declared.Refusal.{Refusal}
-use Rattle.message.specs.declared.Written.TheVariants.{Refused}
+use Rattle.message.specs.Answers.{Written}
 use Rattle.node_record.specs.declared.Node.{Node}
 use Rattle.node_record.specs.Soundness.{sound}
 use Rattle.cover_light.specs.Light.{levels_of}
@@ -11,20 +13,20 @@ use Rattle.cover_light.proofs.levels.Goals as goal
 
 pub levels_by-requires : goal.levels_by-requires
 levels_by-requires c =
-    let r = c.as_set-converted in
-    let m = made c.args.v r.result r.ensures c.in-Done.is in
+    let m = made c.args.v c.as_set.result c.as_set.ensures _ c.in_ok-node.was in
     ap sound m.0 ∙ m.1
 
-pub returns-in-Done : goal.returns-in-Done
-returns-in-Done c =
+pub returns : goal.returns
+returns c =
     let a = c.args in
-    let r = c.as_set-converted in
-    let m = made a.v r.result r.ensures c.in-Done.is in
+    let m = made a.v c.as_set.result c.as_set.ensures _ c.in_ok-node.was in
     c.levels_by.ensures ∙ ap (λ (v : Node). levels_of v a.bases.now a.out.now) m.0
 
-pub returns-in-Refused : goal.returns-in-Refused
-returns-in-Refused c =
+pub returns-in_err-node : goal.returns-in_err-node
+returns-in_err-node c =
     let a = c.args in
-    let r = c.as_set-converted in
-    let m = unmade a.v r.result r.ensures _ c.in-Refused.is in
-    ap (λ (x : Refusal). (Refused x, a.out.now)) m.0 ∙ levels-unsound _ a.bases.now a.out.now m.1
+    let m = unmade a.v c.as_set.result c.as_set.ensures _ c.in_err-node.was in
+    let refused : c.from_residual.result ≡ Err c.in_err-node.field-0.0 = search rules in
+    ap (λ (w : Written). (w, a.out.now)) refused
+    ∙ ap (λ (x : Refusal). (Err x, a.out.now)) m.0
+    ∙ levels-unsound _ a.bases.now a.out.now m.1

@@ -1,31 +1,24 @@
-use mathlib.Core.Path.{ap, ◌∙◌}
-use mathlib.Core.Bool.{◌&&◌}
+-- `ledger::fits` meets its contract: the length is tested, and what `all` tells of the entries. Assumes nothing.
+use borrow.Author.Rules.{rules}
+use borrow.Author.Tests.{tests, eq-eqb}
 use native.Mathlib.Omega.{arith}
-use lib.Dec.{eqb}
+use mathlib.Core.Path.{◌∙◌}
 use lib.ListN.{length}
-use lib.Seq.{take_all}
-use Rattle.bench.specs.Ledger.{Ledger, all_fit, ledger_fits}
-use Rattle.ledger.proofs.Entered.{one-fits, and_last}
+use Rattle.std.proofs.lemmas.Bool.Decides.{nat_tests}
+use Rattle.std.proofs.lemmas.Iterator.{YieldsList-from_slice}
+use Rattle.std.proofs.lemmas.Iterator.Search.{all_from_yields_List}
+use Rattle.bench.specs.Ledger.{counts_fit, ledger_fits}
+use Rattle.ledger.proofs.Entered.{all-fit}
 use Rattle.ledger.proofs.fits.Goals as goal
 
-pub loop-i-init : goal.loop-i-init
-unfolding all_fit
-loop-i-init c = (omega arith, and_last (eqb (length c.args.ledger.now) c.args.n))
-
-pub loop-i-smaller : goal.loop-i-smaller
-loop-i-smaller c = omega (arith, c.loop-i-test.true)
-
-pub loop-i-preserved : goal.loop-i-preserved
-loop-i-preserved c =
-    let l = c.loop-i in
-    let a = c.args in (
-      omega (arith, c.loop-i-test.true),
-      one-fits a.slots l.i a.ledger.now (eqb (length a.ledger.now) a.n) l.fine c.counts_fit-fine.result (omega (arith, c.loop-i-test.true)) l.invariant.1 c.counts_fit-fine.ensures,
-    )
-
-pub returns : goal.returns
+pub returns-then-ledger-n : goal.returns-then-ledger-n
 unfolding ledger_fits
-returns c =
-    let l = c.loop-i in
+returns-then-ledger-n c =
     let a = c.args in
-    l.invariant.1 ∙ ap (λ (x : Ledger). eqb (length a.ledger.now) a.n && all_fit a.slots x) (take_all l.i a.ledger.now (omega (arith, c.loop-i-test.false)))
+    let ledger = a.ledger.now in
+    rw (eq-eqb (length ledger) a.n c.if-ledger-n.true)
+    (all_from_yields_List (counts_fit a.slots) _ _ _ c.all.ensures.ran (YieldsList-from_slice ledger cc) (λ x b q k. search (rules, tests)) ∙ all-fit a.slots ledger)
+
+pub returns-else-ledger-n : goal.returns-else-ledger-n
+unfolding ledger_fits
+returns-else-ledger-n c = grind (arith, nat_tests)

@@ -2,7 +2,6 @@ use Prim.Native.Nat.{ℕ, suc, ◌+◌, ◌-◌, ◌*◌, ◌^◌, ◌≤◌, �
 use mathlib.Core.List.{List}
 use mathlib.Core.Path.{◌≡◌, sym, ap, ◌∙◌}
 use native.Mathlib.Omega.{arith}
-use borrow.Author.Rules.{rules}
 use lib.ListN.{length, drop, get_or}
 use lib.Seq.{drop-length}
 use Rattle.message.specs.Message.{little}
@@ -17,24 +16,23 @@ small i bits l bytes few e =
 
 pub loop-i-init : goal.loop-i-init
 unfolding little
-loop-i-init c = (search rules, search rules, sym (ap little (drop-length c.args.part.now)))
+loop-i-init c = (c.requires.0, sym (ap little (drop-length c.args.part.now)))
 
 pub overflow_mul-bits : goal.overflow_mul-bits
-overflow_mul-bits c = omega (arith, small c.loop-i.i c.loop-i.bits c.args.part.now (λ j. (c.type_inv.part j).fits) (omega arith) c.loop-i.invariant.2)
+overflow_mul-bits c = omega (arith, small c.loop-i.i c.loop-i.bits c.args.part.now (λ j. (c.type_inv.part j).fits) (omega arith) c.loop-i.invariant.1)
 
 pub overflow_add-bits : goal.overflow_add-bits
-overflow_add-bits c = omega (arith, small c.loop-i.i c.loop-i.bits c.args.part.now (λ j. (c.type_inv.part j).fits) (omega arith) c.loop-i.invariant.2, (c.type_inv.part (c.loop-i.i - 1)).fits)
+overflow_add-bits c = omega (arith, small c.loop-i.i c.loop-i.bits c.args.part.now (λ j. (c.type_inv.part j).fits) (omega arith) c.loop-i.invariant.1, (c.type_inv.part (c.loop-i.i - 1)).fits)
 
 pub loop-i-preserved : goal.loop-i-preserved
 loop-i-preserved c =
     let l = c.args.part.now in
     let i = c.loop-i.i in
     let next : suc (i - 1) ≡ i = omega arith in
-    let e = c.loop-i.invariant.2 in
     let more : little (drop (i - 1) l) ≡ get_or l (i - 1) 0 + little (drop i l) * 256 = little-drop (i - 1) l (omega arith) ∙ ap (λ (j : ℕ). get_or l (i - 1) 0 + little (drop j l) * 256) next in
-    (omega arith, omega arith, omega arith)
+    (omega arith, omega arith)
 
 pub returns : goal.returns
 returns c =
     let last : c.loop-i.i ≡ 1 = omega arith in
-    c.loop-i.invariant.2 ∙ ap (λ (i : ℕ). little (drop i c.args.part.now)) last
+    c.loop-i.invariant.1 ∙ ap (λ (i : ℕ). little (drop i c.args.part.now)) last

@@ -28,20 +28,14 @@ last l i rest end =
     rw (none, end, take-length, append-nil)
 
 pub loop-i-init : goal.loop-i-init
-loop-i-init c =
-    (omega arith, simp length-set c.requires.1, refl, first c.args.part.now c.args.count c.args.bits c.requires.1)
+loop-i-init c = first c.args.part.now c.args.count c.args.bits c.requires.1
 
 pub loop-i-preserved : goal.loop-i-preserved
-loop-i-preserved c =
-    let l = c.loop-i.part in
-    let i = c.loop-i.i in
-    let rest = c.loop-i.rest in
-    (omega arith, simp length-set (omega arith), length-set l i (rest % 256) ∙ c.loop-i.invariant.2, next l i rest (omega arith) ∙ c.loop-i.invariant.3)
+loop-i-preserved c = next c.loop-i.part c.loop-i.i c.loop-i.rest (omega arith) ∙ c.loop-i.invariant
 
 pub returns : goal.returns
 returns c =
     let a = c.args in
     let l = c.loop-i.part in
-    sym (last l c.loop-i.i c.loop-i.rest (omega arith))
-    ∙ c.loop-i.invariant.3
-    ∙ ap (λ (n : ℕ). section_of a.count (n - 1) a.bits) (length-set a.part.now 0 a.count)
+    let long = length-set a.part.now 0 a.count in
+    sym (last l c.loop-i.i c.loop-i.rest (omega arith)) ∙ c.loop-i.invariant ∙ ap (λ (n : ℕ). section_of a.count (n - 1) a.bits) long

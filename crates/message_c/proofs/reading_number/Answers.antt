@@ -12,20 +12,20 @@ use Rattle.message_c.proofs.reading_number.Goals as goal
 small : (b : Bool) → bool_byte b < 2
 small b = omega (arith, byte-is b, bit-small b)
 
-pub overflow_mul-result-in-Heard : goal.overflow_mul-result-in-Heard
-overflow_mul-result-in-Heard c = omega (arith, small c.in-Heard.return_bit)
+pub overflow_mul-result-in-Ok : goal.overflow_mul-result-in-Ok
+overflow_mul-result-in-Ok c = omega (arith, small c.in-Ok.heard.return_bit)
 
-pub overflow_add-result-in-Heard : goal.overflow_add-result-in-Heard
-overflow_add-result-in-Heard c = omega (arith, small c.in-Heard.return_bit)
+pub overflow_add-result-in-Ok : goal.overflow_add-result-in-Ok
+overflow_add-result-in-Ok c = omega (arith, small c.in-Ok.heard.return_bit)
 
-pub overflow_add-result-in-Heard-2 : goal.overflow_add-result-in-Heard-2
-overflow_add-result-in-Heard-2 c = omega (arith, small c.in-Heard.return_bit)
+pub overflow_add-result-in-Ok-2 : goal.overflow_add-result-in-Ok-2
+overflow_add-result-in-Ok-2 c = omega (arith, small c.in-Ok.heard.return_bit)
 
-pub returns-in-Heard : goal.returns-in-Heard
-returns-in-Heard c =
+pub returns-in-Ok : goal.returns-in-Ok
+returns-in-Ok c =
     let a = c.args in
-    ap (λ (x : ℕ). 0x200_0000_0000 + a.jobs * 0x2_0000_0000 + x * 0x1_0000_0000 + c.in-Heard.acknowledgements) (byte-is c.in-Heard.return_bit)
-    ∙ ap (reading_number a.jobs) (sym c.in-Heard.is)
+    ap (λ (x : ℕ). 0x200_0000_0000 + a.jobs * 0x2_0000_0000 + x * 0x1_0000_0000 + c.in-Ok.heard.acknowledgements) (byte-is c.in-Ok.heard.return_bit)
+    ∙ ap (reading_number a.jobs) (sym c.in-Ok.is)
 
-pub returns-in-Refused : goal.returns-in-Refused
-returns-in-Refused c = c.number.ensures ∙ ap (reading_number c.args.jobs) (sym c.in-Refused.is)
+pub returns-in-Err : goal.returns-in-Err
+returns-in-Err c = c.number.ensures ∙ ap (reading_number c.args.jobs) (sym c.in-Err.is)

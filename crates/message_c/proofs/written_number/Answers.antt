@@ -7,11 +7,11 @@ use Rattle.message_c.proofs.written_number.Goals as goal
 
 pub overflow_add-result : goal.overflow_add-result
 overflow_add-result c =
-    let few : c.in-Bytes.count ≤ 9 = subst Short c.in-Bytes.is c.requires in
+    let few : c.in-Ok.count ≤ 9 = subst Short c.in-Ok.is c.requires in
     omega (arith, few)
 
-pub returns-in-Bytes : goal.returns-in-Bytes
-returns-in-Bytes c = ap written_number (sym c.in-Bytes.is)
+pub returns-in-Ok : goal.returns-in-Ok
+returns-in-Ok c = ap written_number (sym c.in-Ok.is)
 
-pub returns-in-Refused : goal.returns-in-Refused
-returns-in-Refused c = c.number.ensures ∙ ap written_number (sym c.in-Refused.is)
+pub returns-in-Err : goal.returns-in-Err
+returns-in-Err c = c.number.ensures ∙ ap written_number (sym c.in-Err.is)

@@ -1,5 +1,6 @@
 -- `node::after_step` meets its contract: its tests are in the table's order; on a ring the sender is never refused; the slot goes by the digest of the
 -- record's own row. Assumes nothing.
+use Rattle.std.specs.Prelude.{Ok}
 use Prim.Native.Nat.{◌+◌}
 use mathlib.Core.Path.{refl, sym, ap, ◌∙◌}
 use borrow.Author.Tests.{le-leb, lt-leb}
@@ -8,7 +9,6 @@ use Rattle.node_record.proofs.ring_laws.Speakers.{is-sender, no-refusal}
 use Rattle.node_record.specs.declared.Held.{Held}
 use Rattle.node_record.specs.Held.{setted}
 use Rattle.node_record.proofs.Facts.{clauses}
-use Rattle.node.specs.declared.Answer.TheVariants.{Done}
 use Rattle.node.specs.Calls.{step_of}
 use Rattle.node.specs.Held.{held_as}
 use Rattle.node.proofs.Holding.{slot-held}
@@ -33,10 +33,9 @@ returns-in_default c =
 pub returns : goal.returns
 unfolding step_of
 returns c =
-    let q = c in
-    let a = q.args in
+    let a = c.args in
     let v = a.v in
-    let good = passed q.is_sound.ensures q.if-not-is_sound.false in
-    let s = is-sender v.cable (v.slots + 1) _ _ (clauses (setted v) good).choices.ring c.in-Node.ensures refl in
-    ap (λ (x : Held). record { node = x; answer = Done }) (slot-held v good _ a.heard _ _ c.after_slot-w.ensures c.digest_of-digest.ensures s)
-    ∙ sym (ap (held_as v) (chosen _ _ good ∙ otherwise _ _ (lt-leb _ _ q.if-v-ge-LIMIT.false)))
+    let good = passed c.is_sound.ensures c.if-not-is_sound.false in
+    let s = is-sender v.cable (v.slots + 1) _ _ (clauses (setted v) good).choices.ring c.in-Ok.ensures refl in
+    ap (λ (x : Held). record { node = x; answer = Ok tt }) (slot-held v good _ a.heard _ _ c.after_slot-w.ensures c.digest_of-digest.ensures s)
+    ∙ sym (ap (held_as v) (chosen _ _ good ∙ otherwise _ _ (lt-leb _ _ c.if-v-ge-LIMIT.false)))

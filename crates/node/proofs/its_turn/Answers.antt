@@ -10,5 +10,5 @@ pub returns : goal.returns
 returns c =
     let v = c.args.v in
     ap₂ (λ (s : ℕ) (b : Bool). eqb s v.own && b)
-    (is-sender v.cable (v.slots + 1) _ _ c.requires c.in-Node.ensures refl)
+    (is-sender v.cable (v.slots + 1) _ _ c.requires c.in-Ok.ensures refl)
     c.sends.ensures

@@ -1,4 +1,5 @@
 -- `node::off` meets its contract: it tests soundness first. Assumes nothing.
+use Rattle.std.specs.Prelude.{Ok}
 use mathlib.Core.Path.{sym, ap, ◌∙◌}
 use Rattle.ring.proofs.nodeset.Tests.{failed, passed, chosen, otherwise}
 use Rattle.node_record.specs.declared.Held.{Held}
@@ -6,7 +7,6 @@ use Rattle.node_record.specs.declared.Cause.TheVariants.{SwitchedOff}
 use Rattle.node_changes.specs.Changes as rules
 use Rattle.node_changes.specs.Held as changes
 use Rattle.node_changes.proofs.Holding.{out-held}
-use Rattle.node.specs.declared.Answer.TheVariants.{Done}
 use Rattle.node.specs.Calls.{off_of}
 use Rattle.node.specs.Held.{held_as}
 use Rattle.node.proofs.Holding.{on-held}
@@ -21,5 +21,5 @@ unfolding off_of
 returns c =
     let v = c.args.v in
     let good = passed c.is_sound.ensures c.if-not-is_sound.false in
-    ap (λ (x : Held). record { node = x; answer = Done }) (c.out_for-w.ensures ∙ on-held v good (changes.out_for SwitchedOff) (rules.out_for SwitchedOff) (out-held SwitchedOff))
+    ap (λ (x : Held). record { node = x; answer = Ok tt }) (c.out_for-w.ensures ∙ on-held v good (changes.out_for SwitchedOff) (rules.out_for SwitchedOff) (out-held SwitchedOff))
     ∙ sym (ap (held_as v) (chosen _ _ good))

@@ -41,16 +41,14 @@ returns-then-not-its_turn c = sym (
 pub returns : goal.returns
 unfolding send_of
 returns c =
-    let w = c in
-    let tests = w in
-    let a = tests.args in
+    let a = c.args in
     let v = setted a.v in
-    let good = passed tests.is_sound.ensures tests.if-not-is_sound.false in
-    w.write.ensures
-    ∙ ap₂ (λ (bits : ℕ) (b : Bool). write_of a.v.cable.k a.v.cable.m bits b w.jobs_sent.result a.out.now) (w.bits_sent.ensures ∙ bits-sent-held a.v good) w.return_sent.ensures
-    ∙ ap (λ (j : ℕ). write_of a.v.cable.k a.v.cable.m (bits_sent v) (return_sent v) j a.out.now) w.jobs_sent.ensures
+    let good = passed c.is_sound.ensures c.if-not-is_sound.false in
+    c.write.ensures
+    ∙ ap₂ (λ (bits : ℕ) (b : Bool). write_of a.v.cable.k a.v.cable.m bits b c.jobs_sent.result a.out.now) (c.bits_sent.ensures ∙ bits-sent-held a.v good) c.return_sent.ensures
+    ∙ ap (λ (j : ℕ). write_of a.v.cable.k a.v.cable.m (bits_sent v) (return_sent v) j a.out.now) c.jobs_sent.ensures
     ∙ sym (
     chosen _ _ good
-    ∙ otherwise _ _ (lt-leb _ _ tests.if-v-ge-LIMIT.false)
-    ∙ chosen _ _ (passed tests.jobs_within.ensures tests.if-not-jobs_within.false)
-    ∙ chosen _ _ (passed tests.its_turn.ensures tests.if-not-its_turn.false))
+    ∙ otherwise _ _ (lt-leb _ _ c.if-v-ge-LIMIT.false)
+    ∙ chosen _ _ (passed c.jobs_within.ensures c.if-not-jobs_within.false)
+    ∙ chosen _ _ (passed c.its_turn.ensures c.if-not-its_turn.false))

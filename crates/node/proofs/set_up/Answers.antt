@@ -11,8 +11,7 @@ use Rattle.node.proofs.set_up.Goals as goal
 
 pub returns : goal.returns
 returns c =
-    let d = c in
-    let a = d.args in
+    let a = c.args in
     c.with_counts.ensures
     ∙ ap (λ (s : Stepped). beside s no_reports)
-    (c.started-stepped.ensures ∙ ap (λ (cable : Cable). held_as (rowed no_node) (set_up_of cable (length a.slots.now) a.own)) d.cable_with-cable.ensures)
+    (c.started-stepped.ensures ∙ ap (λ (cable : Cable). held_as (rowed no_node) (set_up_of cable (length a.slots.now) a.own)) c.cable_with-cable.ensures)

@@ -1,4 +1,5 @@
 -- `node::started` meets its contract: its tests are in their order, and the record made holds that of the rules. Assumes nothing.
+use Rattle.std.specs.Prelude.{Err, Ok}
 use Prim.Native.Nat.{ℕ}
 use mathlib.Core.Path.{◌≡◌, sym, ap, ◌∙◌}
 use mathlib.Core.Bool.{true, false}
@@ -18,21 +19,20 @@ use Rattle.node_changes.specs.Changes.{starting}
 use Rattle.node_changes.specs.Held as changes
 use Rattle.node_changes.proofs.Holding.{starting-held}
 use Rattle.node.specs.declared.Stepped as code
-use Rattle.node.specs.declared.Answer.TheVariants.{Done, Refused}
 use Rattle.node.specs.Calls.{Stepped, done, refused, no_node, set_up_of}
 use Rattle.node.specs.Held.{held_as}
 use Rattle.node.proofs.Holding.{no-node-held}
 use Rattle.node.proofs.started.Goals as goal
 
 abbrev refused_by : Refusal → Held → code.Stepped
-refused_by cause v = record { node = v; answer = Refused cause }
+refused_by cause v = record { node = v; answer = Err cause }
 
 -- what is left of a refused call
 held-refused : (v : Held) (w : Node) (number : ℕ) (s : Stepped) → s ≡ refused number w → refused_by (cause number) v ≡ held_as v s
 held-refused v w number s e = sym (ap (held_as v) e)
 
 -- of a call that is made
-held-done : (v : Held) (w : Node) (s : Stepped) → s ≡ done w → record { node = rowed w; answer = Done } ≡ held_as v s
+held-done : (v : Held) (w : Node) (s : Stepped) → s ≡ done w → record { node = rowed w; answer = Ok tt } ≡ held_as v s
 held-done v w s e = sym (ap (held_as v) e)
 
 no-cable : (cable : Cable) (places own : ℕ) → may_set_up cable places ≡ false → set_up_of cable places own ≡ refused (fault_of cable places) no_node
@@ -65,5 +65,5 @@ returns-then-not-is_node_number c =
 pub returns : goal.returns
 returns c =
     let a = c.args in
-    ap (λ (v : Held). record { node = v; answer = Done }) (c.starting-v.ensures ∙ starting-held a.cable a.own)
+    ap (λ (v : Held). record { node = v; answer = Ok tt }) (c.starting-v.ensures ∙ starting-held a.cable a.own)
     ∙ held-done (rowed no_node) (starting a.cable a.own) _ (made a.cable a.places a.own (passed c.may_set_up.ensures c.if-not-may_set_up.false) (passed c.is_node_number.ensures c.if-not-is_node_number.false))

@@ -9,5 +9,5 @@ use Rattle.node_changes.proofs.starting.Goals as goal
 pub returns : goal.returns
 returns c =
     let a = c.args in
-    ap (λ (r : Row). beginning a.cable a.own r c.full-all.result) c.as_row-row.ensures
+    ap (λ (r : Row). beginning a.cable a.own r c.full-all.result) c.as_row.ensures
     ∙ ap (λ (all : ℕ). beginning a.cable a.own (as_row a.cable.order all) all) c.full-all.ensures

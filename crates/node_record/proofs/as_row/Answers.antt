@@ -2,4 +2,4 @@
 use Rattle.node_record.proofs.as_row.Goals as goal
 
 pub returns : goal.returns
-returns c = cc c.as_row-row.ensures
+returns c = cc c.as_row.ensures

@@ -1,6 +1,6 @@
 use Prim.Native.Nat.{ℕ, suc, ◌<◌, ◌-◌}
 use native.Mathlib.Omega.{arith}
-use mathlib.Core.Path.{refl, sym, ap, ◌∙◌}
+use mathlib.Core.Path.{sym, ap, ◌∙◌}
 use mathlib.Core.List.{[]}
 use lib.ListN.{length, get_or, set}
 use Rattle.node_reports.specs.Reports.{counts_with, heard_from}
@@ -18,33 +18,21 @@ returns-then-sender-eq0 c = sym (all_same _ _ _ _ (λ counts. no-sender _ _ coun
 pub returns-then-sender-gt32 : goal.returns-then-sender-gt32
 returns-then-sender-gt32 c = sym (all_same _ _ _ _ (λ counts. no_row _ _ counts c.if-sender-gt32.true))
 
-pub loop-i-init : goal.loop-i-init
-loop-i-init c = (omega arith, (refl, refl))
-
-pub overflow_add-i : goal.overflow_add-i
-overflow_add-i c = omega arith
-
-pub loop-i-smaller : goal.loop-i-smaller
-loop-i-smaller c = omega arith
-
 pub loop-i-preserved : goal.loop-i-preserved
 loop-i-preserved c =
-    let p = c.loop-i in
+    let l = c.loop-i in
     let a = c.args in
-    let h : p.i < length p.all = omega arith in
-    let own = get_or p.all p.i [] in
-    let n : HeardNext p.all c.if-hears.all a.hearers a.sender a.jobs p.i =
+    let h : l.i < length l.all = omega arith in
+    let own = get_or l.all l.i [] in
+    let n : HeardNext l.all c.if-hears.all a.hearers a.sender a.jobs l.i =
     elim c.if-hears.branch [
       | then-hears w ↦ heard-told _ _ _ _ _ _ (set own (a.sender - 1) w.row_with.result) h (sym c.hears.ensures ∙ w.if-hears.true)
           (ap (set own (a.sender - 1)) w.row_with.ensures ∙ own_row a.sender a.jobs own (omega arith) (omega arith)) w.all-is
       | else-hears w ↦ heard-kept _ _ _ _ _ _ h (sym c.hears.ensures ∙ w.if-hears.false) w.all-is
     ] in
-    (omega (arith, n.0), (n.0 ∙ p.invariant.1.0, n.1 ∙ p.invariant.1.1))
-
-pub shape_of-all : goal.shape_of-all
-shape_of-all c = c.loop-i.invariant.1.0
+    n.1 ∙ l.invariant
 
 pub returns : goal.returns
 returns c =
-    let p = c.loop-i in
-    walk_end (heard_from (suc p.i) _ _ _) p.all p.i (heard-none (suc p.i) _ _ _) (omega arith) ∙ p.invariant.1.1
+    let l = c.loop-i in
+    walk_end (heard_from (suc l.i) _ _ _) l.all l.i (heard-none (suc l.i) _ _ _) (omega arith) ∙ l.invariant

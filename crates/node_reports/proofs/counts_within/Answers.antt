@@ -1,31 +1,17 @@
-use native.Mathlib.Omega.{arith}
-use Rattle.nodeset.proofs.Tests.{failed, passed}
-use Rattle.node_reports.specs.Reports.{counts_within}
-use Rattle.node_reports.proofs.Below.{every-none, every-on, every-stop, every-end}
+-- `node_reports::counts_within` meets its contract: what `all` tells of the rows. Assumes nothing.
+use borrow.Author.Rules.{rules}
+use borrow.Author.Tests.{tests}
+use mathlib.Core.Path.{◌∙◌}
+use mathlib.Core.List.{[]}
+use Rattle.std.proofs.lemmas.Iterator.{YieldsList-from_slice}
+use Rattle.std.proofs.lemmas.Iterator.Search.{all_from_yields_List}
+use Rattle.node_reports.specs.Reports.{row_within, counts_within}
+use Rattle.node_reports.proofs.Below.{every-list}
 use Rattle.node_reports.proofs.counts_within.Goals as goal
-
-pub loop-sender-init : goal.loop-sender-init
-loop-sender-init c = (omega arith, every-none _)
-
-pub offset_bounds-counts-sender : goal.offset_bounds-counts-sender
-offset_bounds-counts-sender c = omega arith
-
-pub bounds-counts-sender : goal.bounds-counts-sender
-bounds-counts-sender c = omega arith
-
-pub returns-then-not-row_within : goal.returns-then-not-row_within
-unfolding counts_within
-returns-then-not-row_within c = every-stop _ c.loop-sender.sender 32 (omega arith) (failed c.row_within.ensures c.if-not-row_within.true)
-
-pub overflow_add-sender : goal.overflow_add-sender
-overflow_add-sender c = omega arith
-
-pub loop-sender-smaller : goal.loop-sender-smaller
-loop-sender-smaller c = omega arith
-
-pub loop-sender-preserved : goal.loop-sender-preserved
-loop-sender-preserved c = (omega arith, every-on _ c.loop-sender.sender c.loop-sender.invariant.1 (passed c.row_within.ensures c.if-not-row_within.false))
 
 pub returns : goal.returns
 unfolding counts_within
-returns c = every-end _ c.loop-sender.sender 32 c.loop-sender.invariant.1 (omega arith) (omega arith)
+returns c =
+    let a = c.args in
+    all_from_yields_List (row_within a.slots) _ _ _ c.all.ensures.ran (YieldsList-from_slice a.counts cc) (λ x b q k. search (rules, tests))
+    ∙ every-list (row_within a.slots) [] a.counts 32 (search rules)

@@ -1,24 +1,17 @@
--- `node_reports::row_greatest` meets its contract: the greatest of eight, two by two. Assumes nothing.
+-- `node_reports::row_greatest` meets its contract: what `fold` finds. Assumes nothing.
+use borrow.Author.Rules.{rules}
+use borrow.Author.Tests.{tests}
 use Prim.Native.Nat.{ℕ, max}
-use native.Mathlib.Nat.{zero-max}
-use mathlib.Core.Path.{◌≡◌, ◌∙◌}
-use lib.ListN.{get_or}
-use Rattle.node_reports.specs.Reports.{Row}
-use Rattle.node_reports.specs.Inner.{greatest_below, row_greatest}
-use Rattle.node_reports.proofs.Below.{max_assoc}
+use mathlib.Core.Path.{◌∙◌}
+use Rattle.std.proofs.lemmas.Iterator.{YieldsList-from_slice}
+use Rattle.std.proofs.lemmas.Iterator.Consumers.{fold_from_yields_List}
+use Rattle.node_reports.specs.Inner.{row_greatest}
+use Rattle.node_reports.proofs.Below.{greatest-list}
 use Rattle.node_reports.proofs.row_greatest.Goals as goal
 
-abbrev two-by-two : Row → ℕ
-two-by-two row =
-    max (max (max (get_or row 0 0) (get_or row 1 0)) (max (get_or row 2 0) (get_or row 3 0)))
-    (max (max (get_or row 4 0) (get_or row 5 0)) (max (get_or row 6 0) (get_or row 7 0)))
-
-one_by_one : (row : Row) → two-by-two row ≡ row_greatest row
-unfolding row_greatest greatest_below
-one_by_one row = simp (max_assoc, zero-max)
-
 pub returns : goal.returns
+unfolding row_greatest
 returns c =
-    let row = c.args.row in
-    let e : c.larger-7.result ≡ two-by-two row = cc in
-    e ∙ one_by_one row
+    let xs = c.args.row in
+    fold_from_yields_List _ (λ (best x : ℕ). max best x) 0 c.fold.result c.fold.ensures.ran (YieldsList-from_slice xs cc) (λ best x b q k. search (rules, tests))
+    ∙ greatest-list (λ (x : ℕ). x) 0 xs 8 (search rules)

@@ -1,31 +1,17 @@
-use borrow.Author.Tests.{lt-leb, le-leb}
-use native.Mathlib.Omega.{arith}
+-- `node_reports::row_within` meets its contract: what `all` tells of the row. Assumes nothing.
+use borrow.Author.Rules.{rules}
+use borrow.Author.Tests.{tests}
+use lib.Dec.{leb}
+use mathlib.Core.Path.{◌∙◌}
+use Rattle.std.proofs.lemmas.Iterator.{YieldsList-from_slice}
+use Rattle.std.proofs.lemmas.Iterator.Search.{all_from_yields_List}
 use Rattle.node_reports.specs.Reports.{row_within}
-use Rattle.node_reports.proofs.Below.{every-none, every-on, every-stop, every-end}
+use Rattle.node_reports.proofs.Below.{every-list}
 use Rattle.node_reports.proofs.row_within.Goals as goal
-
-pub loop-job-init : goal.loop-job-init
-loop-job-init c = (omega arith, every-none _)
-
-pub offset_bounds-row-job : goal.offset_bounds-row-job
-offset_bounds-row-job c = omega arith
-
-pub bounds-row-job : goal.bounds-row-job
-bounds-row-job c = omega arith
-
-pub returns-then-slots-row : goal.returns-then-slots-row
-unfolding row_within
-returns-then-slots-row c = every-stop _ c.loop-job.job 8 (omega arith) (lt-leb _ _ c.if-slots-row.true)
-
-pub overflow_add-job : goal.overflow_add-job
-overflow_add-job c = omega arith
-
-pub loop-job-smaller : goal.loop-job-smaller
-loop-job-smaller c = omega arith
-
-pub loop-job-preserved : goal.loop-job-preserved
-loop-job-preserved c = (omega arith, every-on _ c.loop-job.job c.loop-job.invariant.1 (le-leb _ _ c.if-slots-row.false))
 
 pub returns : goal.returns
 unfolding row_within
-returns c = every-end _ c.loop-job.job 8 c.loop-job.invariant.1 (omega arith) (omega arith)
+returns c =
+    let a = c.args in
+    all_from_yields_List (λ x. leb x a.slots) _ _ _ c.all.ensures.ran (YieldsList-from_slice a.row cc) (λ x b q k. search (rules, tests))
+    ∙ every-list (λ x. leb x a.slots) 0 a.row 8 (search rules)

@@ -19,36 +19,23 @@ one-more v j bits x e f =
     ap₂ (λ (y b : ℕ). with_if (has v.present y) b (j + 1)) f e
     ∙ subst⁻¹ (λ (m : ℕ). with_if (has v.present (sponsored_row v.cable v.row v.own m)) (mark_bits j v) m ≡ mark_bits m v) (add-one j) refl
 
-pub loop-j-init : goal.loop-j-init
+pub loop-earlier-init : goal.loop-earlier-init
 unfolding mark_bits
-loop-j-init c = record { below = omega arith; so_far = refl }
+loop-earlier-init c = refl
 
-pub overflow_add-j : goal.overflow_add-j
-overflow_add-j c = omega arith
-
-pub overflow_add-j-in-loop-j : goal.overflow_add-j-in-loop-j
-overflow_add-j-in-loop-j c = omega arith
-
-pub loop-j-smaller : goal.loop-j-smaller
-loop-j-smaller c = omega arith
-
-pub loop-j-preserved : goal.loop-j-preserved
-loop-j-preserved c =
-    let l = c.loop-j in
+pub loop-earlier-preserved : goal.loop-earlier-preserved
+loop-earlier-preserved c =
+    let l = c.loop-earlier in
     let v = c.args.v in
-    record {
-      below = omega arith;
-      so_far =
-          c.with_if-bits.ensures
-          ∙ ap (λ (b : Bool). with_if b l.bits (l.j + 1)) c.has-marked.ensures
-          ∙ one-more v l.j l.bits c.back-member.result l.invariant.so_far
-          (c.back-member.ensures
-          ∙ ap₂ (λ (p : ℕ) (here : Bool). back_in v.row p here (l.j + 1 + v.cable.lag)) c.rank-p.ensures c.has-here.ensures);
-    }
+    c.with_if-bits.ensures
+    ∙ ap (λ (b : Bool). with_if b l.bits (l.earlier + 1)) c.has-marked.ensures
+    ∙ one-more v l.earlier l.bits c.back-member.result l.invariant
+    (c.back-member.ensures
+    ∙ ap₂ (λ (p : ℕ) (here : Bool). back_in v.row p here (l.earlier + 1 + v.cable.lag)) c.rank-p.ensures c.has-here.ensures)
 
 pub returns : goal.returns
 returns c =
     let v = c.args.v in
     let most = c.sponsors-most in
-    let last : c.loop-j.j ≡ most.result = omega (arith, c.loop-j.invariant.below) in
-    c.loop-j.invariant.so_far ∙ ap (λ (m : ℕ). mark_bits m v) (last ∙ most.ensures)
+    let last : c.loop-earlier.earlier ≡ most.result = omega arith in
+    c.loop-earlier.invariant ∙ ap (λ (m : ℕ). mark_bits m v) (last ∙ most.ensures)

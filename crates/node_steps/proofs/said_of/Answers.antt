@@ -1,10 +1,9 @@
 -- `node_steps::said_of` meets its contract: the goals about its invariant. Assumes nothing.
-use Prim.Native.Nat.{ℕ, ◌+◌, ◌^◌, ◌<◌}
+use Prim.Native.Nat.{ℕ, ◌+◌}
 use mathlib.Core.Path.{◌≡◌, refl, ap, ap₂, ◌∙◌, subst⁻¹}
 use mathlib.Core.Bool.{Bool, true, false, cond}
 use native.Mathlib.Omega.{arith}
 use native.Mathlib.Numerals.{add-one}
-use borrow.Author.Rules.{rules}
 use Rattle.nodeset.specs.Sets.{has, with}
 use Rattle.cable.specs.declared.Cable.{Cable}
 use Rattle.row.specs.declared.Row.{Row}
@@ -21,54 +20,30 @@ unfolding answered
 one-more answer start s bits cable row j nodes x bit b e f =
     rw (b, e, f) (subst⁻¹ (λ (i : ℕ). cond (says_so answer (has bits i)) (with (answered answer start j s bits cable row) (sponsored_row cable row s i)) (answered answer start j s bits cable row) ≡ answered answer start i s bits cable row) (add-one j) refl)
 
-pub loop-j-init : goal.loop-j-init
+pub loop-earlier-init : goal.loop-earlier-init
 unfolding answered
-loop-j-init c =
-    record {
-      below = omega arith;
-      count = c.sponsors-most.ensures;
-      rank_is = c.rank-rank.ensures;
-      here-is = c.has-here.ensures;
-      so_far = c.with-yes.ensures;
-      others = refl;
-    }
+loop-earlier-init c = record { so_far = c.with-yes.ensures; others = refl }
 
-pub overflow_add-j : goal.overflow_add-j
-overflow_add-j c = omega arith
-
-pub overflow_add-j-in-loop-j : goal.overflow_add-j-in-loop-j
-overflow_add-j-in-loop-j c =
+pub loop-earlier-preserved : goal.loop-earlier-preserved
+loop-earlier-preserved c =
+    let l = c.loop-earlier in
     let a = c.args in
-    let few : a.row.length < 2 ^ 32 = search rules in
-    omega (arith, few, c.loop-j.invariant.count)
-
-pub loop-j-smaller : goal.loop-j-smaller
-loop-j-smaller c = omega arith
-
-pub loop-j-preserved : goal.loop-j-preserved
-loop-j-preserved c =
-    let l = c.loop-j in
-    let a = c.args in
-    let it : c.back-node.result ≡ sponsored_row a.cable a.row a.s (l.j + 1)
-    = c.back-node.ensures ∙ ap₂ (λ (p : ℕ) (here : Bool). back_in a.row p here (l.j + 1 + a.cable.lag)) l.invariant.rank_is l.invariant.here-is in
+    let it : c.back-node.result ≡ sponsored_row a.cable a.row a.s (l.earlier + 1)
+    = c.back-node.ensures ∙ ap₂ (λ (p : ℕ) (here : Bool). back_in a.row p here (l.earlier + 1 + a.cable.lag)) c.rank-rank.ensures c.has-here.ensures in
     record {
-      below = omega arith;
-      count = l.invariant.count;
-      rank_is = l.invariant.rank_is;
-      here-is = l.invariant.here-is;
       so_far =
           c.with_if-yes.ensures
-          ∙ one-more true (with 0 a.s) a.s a.bits a.cable a.row l.j l.«yes» c.back-node.result c.has-bit.result c.has-bit.ensures l.invariant.so_far it;
+          ∙ one-more true (with 0 a.s) a.s a.bits a.cable a.row l.earlier l.«yes» c.back-node.result c.has-bit.result c.has-bit.ensures l.invariant.so_far it;
       others =
           c.with_if-no.ensures
-          ∙ one-more false 0 a.s a.bits a.cable a.row l.j l.«no» c.back-node.result c.has-bit.result c.has-bit.ensures l.invariant.others it;
+          ∙ one-more false 0 a.s a.bits a.cable a.row l.earlier l.«no» c.back-node.result c.has-bit.result c.has-bit.ensures l.invariant.others it;
     }
 
 pub returns : goal.returns
 returns c =
-    let l = c.loop-j in
+    let l = c.loop-earlier in
     let a = c.args in
-    let last : l.j ≡ sponsors_row a.cable a.row = omega (arith, l.invariant.below, l.invariant.count) in
+    let last : l.earlier ≡ sponsors_row a.cable a.row = omega (arith, c.sponsors-most.ensures) in
     ap₂ (λ (y m : ℕ). record { yes = y; no = m })
     (l.invariant.so_far ∙ ap (λ (m : ℕ). answered true (with 0 a.s) m a.s a.bits a.cable a.row) last)
     (l.invariant.others ∙ ap (λ (m : ℕ). answered false 0 m a.s a.bits a.cable a.row) last)

@@ -1,32 +1,23 @@
-use mathlib.Core.Path.{refl, sym, ◌∙◌}
-use native.Mathlib.Omega.{arith}
+-- `plan_line::all_digits` meets its contract.
+-- Assumes nothing.
+use mathlib.Core.Path.{◌≡◌, refl, ap, ◌∙◌}
+use mathlib.Core.Bool.{Bool, ◌&&◌}
+use mathlib.Core.List.{List, [], ◌∷◌}
+use Prim.Native.Nat.{ℕ}
 use borrow.Author.Rules.{rules}
-use Rattle.plan_line.proofs.Words.{digits-next, digits_low, digits-high, digits-end}
+use borrow.Author.Tests.{tests}
+use Rattle.std.specs.List.{list_all}
+use Rattle.std.proofs.lemmas.Iterator.{YieldsList-from_slice}
+use Rattle.std.proofs.lemmas.Iterator.Search.{all_from_yields_List}
+use Rattle.plan_line.specs.Words.{all_digits, is_digit}
 use Rattle.plan_line.proofs.all_digits.Goals as goal
 
-pub loop-i-init : goal.loop-i-init
-loop-i-init c = (search rules, refl)
-
-pub returns-then-word-i-lt48 : goal.returns-then-word-i-lt48
-returns-then-word-i-lt48 c =
-    let loop = c.loop-i in
-    sym (loop.invariant.1 ∙ digits_low c.args.word.now loop.i c.loop-i-test.true c.if-word-i-lt48.true)
-
-pub returns-then-word-i-gt57 : goal.returns-then-word-i-gt57
-returns-then-word-i-gt57 c =
-    let loop = c.loop-i in
-    sym (loop.invariant.1 ∙ digits-high c.args.word.now loop.i c.loop-i-test.true c.if-word-i-gt57.true)
-
-pub loop-i-smaller : goal.loop-i-smaller
-loop-i-smaller c = omega arith
-
-pub loop-i-preserved : goal.loop-i-preserved
-loop-i-preserved c =
-    let loop = c.loop-i in
-    let below = c.loop-i-test.true in
-    (omega arith, loop.invariant.1 ∙ digits-next c.args.word.now loop.i below c.if-word-i-lt48.false c.if-word-i-gt57.false)
+each : (l : List ℕ) → list_all is_digit l ≡ all_digits l
+unfolding all_digits
+each [] = refl
+each (b ∷ l) = ap (λ (t : Bool). is_digit b && t) (each l)
 
 pub returns : goal.returns
 returns c =
-    let loop = c.loop-i in
-    sym (loop.invariant.1 ∙ digits-end c.args.word.now loop.i (omega arith))
+    let w = c.args.word.now in
+    all_from_yields_List is_digit _ _ _ c.all.ensures.ran (YieldsList-from_slice w cc) (λ x b q k. search (rules, tests)) ∙ each w

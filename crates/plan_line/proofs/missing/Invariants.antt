@@ -1,20 +1,14 @@
--- `plan_line::missing` meets its contract. The loop's invariant: what the text says is what the words from `at` on say after those that were
--- read (`rest`); the last of those is a part of the text. The measure is what is left of the text. Assumes nothing.
-use Prim.Native.Nat.{◌≤◌, ◌+◌, ◌-◌}
+-- `plan_line::missing` meets its contract. The loop's invariant: what the text says is what the words that are left say after those that were
+-- read (`rest`); the last of those is digits without a leading 0. Assumes nothing.
 use mathlib.Core.Path.{◌≡◌}
 use mathlib.Core.Bool.{true, false}
-use lib.ListN.{length, take, drop}
-use Rattle.plan_line.specs.Words.{all_digits, leading_zero}
+use lib.ListN.{length, drop}
+use Rattle.plan_line.specs.Words.{all_digits, leading_zero, words_of}
 use Rattle.plan_line.specs.Plan.{missing_of}
-use Rattle.plan_line.proofs.Lists.{rest, parts_from}
+use Rattle.plan_line.proofs.Lists.{rest}
 use Rattle.plan_line.proofs.missing.Given as goal
 
-abbrev pub invariant-loop-at : goal.invariant-loop-at
-invariant-loop-at l =
-    (l.last ≤ l.end) × (l.end ≤ length l.text) × (l.at ≤ length l.text + 1)
-    × (leading_zero (take (l.end - l.last) (drop l.last l.text)) ≡ false)
-    × (all_digits (take (l.end - l.last) (drop l.last l.text)) ≡ true)
-    × (missing_of l.n l.text ≡ rest l.n (take (l.end - l.last) (drop l.last l.text)) l.missed (parts_from 32 l.text l.at))
-
-abbrev pub decreases-loop-at : goal.decreases-loop-at
-decreases-loop-at l = length l.text + 1 - l.at
+abbrev pub invariant-loop-word : goal.invariant-loop-word
+invariant-loop-word l =
+    (leading_zero l.last ≡ false) × (all_digits l.last ≡ true)
+    × (missing_of l.n l.text ≡ rest l.n l.last l.missed (drop (length l.yielded) (words_of l.text)))

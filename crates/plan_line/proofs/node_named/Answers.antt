@@ -1,11 +1,11 @@
 -- `plan_line::node_named` meets its contract: at each `return` the tests that led there say which case of `named_of` holds.
 -- Assumes nothing.
+use Rattle.std.specs.Prelude.{Ok}
 use Prim.Native.Nat.{ℕ, min}
 use mathlib.Core.Path.{◌≡◌, sym, ap, ◌∙◌}
 use mathlib.Core.Bool.{Bool, true}
 use Rattle.plan_line.specs.Words.{is_number, value_of}
 use Rattle.plan_line.specs.Plan.{in_ring, named_of}
-use Rattle.plan_line.specs.declared.Named.TheVariants.{Node}
 use Rattle.plan_line.proofs.Capped.{in-ring-capped, in-ring-kept}
 use Rattle.plan_line.proofs.node_named.Goals as goal
 
@@ -32,4 +32,4 @@ returns c =
     let a = c.args in
     let number : is_number a.word.now ≡ true = sym c.is_number.ensures ∙ c.if-not-is_number.false in
     let inside : in_ring a.n (value_of a.word.now) ≡ true = sym (judged a.n (value_of a.word.now) _ _ c.in_ring.ensures c.small_value-a.ensures) ∙ c.if-not-in_ring.false in
-    simp (number, inside) (ap Node (c.small_value-a.ensures ∙ in-ring-kept a.n (value_of a.word.now) inside))
+    simp (number, inside) (ap Ok (c.small_value-a.ensures ∙ in-ring-kept a.n (value_of a.word.now) inside))

@@ -1,5 +1,6 @@
 -- `plan_line::opening_of` meets its contract: the two parts that are lent are the bytes before the first space and those after it. Where there is no
 -- space, nothing is after it, and that is no number. Assumes nothing.
+use Rattle.std.specs.Prelude.{Err}
 use Prim.Native.Nat.{ℕ, suc, ◌+◌, ◌-◌, ◌≤◌}
 use mathlib.Core.Path.{◌≡◌, sym, ap, ◌∙◌}
 use mathlib.Core.List.{List}
@@ -10,12 +11,11 @@ use lib.Seq.{length-take-le, take_all}
 use borrow.Author.Tests.{le-leb, lt-leb}
 use Rattle.plan_line.specs.Words.{after, before, gap, is_number}
 use Rattle.refusal.specs.declared.Refusal.TheVariants.{PlanLine}
-use Rattle.plan_line.specs.declared.Opening.TheVariants.{Refused}
 use Rattle.plan_line.proofs.Words.{and-false}
 use Rattle.plan_line.specs.Plan.{numbers_of, opening_of}
 use Rattle.plan_line.proofs.opening_of.Goals as goal
 
-no_second : (l : List ℕ) → length l ≤ gap 32 l → numbers_of (before l) (after l) ≡ Refused PlanLine
+no_second : (l : List ℕ) → length l ≤ gap 32 l → numbers_of (before l) (after l) ≡ Err PlanLine
 unfolding numbers_of is_number
 no_second l h = rw (drop_of_length-le l {i = suc (gap 32 l)} (omega arith), and-false)
 

@@ -12,9 +12,6 @@ returns-then-text-i c =
     let none = gap-mark c.args.mark c.args.text.now loop.i c.loop-i-test.true c.if-text-i.true in
     omega (arith, none, loop.invariant)
 
-pub loop-i-smaller : goal.loop-i-smaller
-loop-i-smaller c = omega arith
-
 pub loop-i-preserved : goal.loop-i-preserved
 loop-i-preserved c =
     let loop = c.loop-i in
@@ -25,4 +22,5 @@ pub returns : goal.returns
 returns c =
     let loop = c.loop-i in
     let none = gap-end c.args.mark c.args.text.now loop.i (omega arith) in
-    omega (arith, none, loop.invariant)
+    let past = gap-end c.args.mark c.args.text.now c.args.from in
+    grind (arith, none, past, loop.invariant)

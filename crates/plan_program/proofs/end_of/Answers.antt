@@ -12,8 +12,8 @@ returns-in_default c = search rules
 
 pub returns-then-count-at : goal.returns-then-count-at
 unfolding end_of
-returns-then-count-at c = rw c.in-Bytes.is (simp (le-leb (c.args.at + c.in-Bytes.count) 18446744073709551615 (omega arith)))
+returns-then-count-at c = rw c.in-Ok.is (simp (le-leb (c.args.at + c.in-Ok.count) 18446744073709551615 (omega arith)))
 
 pub returns-else-count-at : goal.returns-else-count-at
 unfolding end_of
-returns-else-count-at c = rw c.in-Bytes.is (simp (lt-leb (c.args.at + c.in-Bytes.count) 18446744073709551615 (omega arith)))
+returns-else-count-at c = rw c.in-Ok.is (simp (lt-leb (c.args.at + c.in-Ok.count) 18446744073709551615 (omega arith)))

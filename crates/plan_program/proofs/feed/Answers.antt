@@ -1,9 +1,6 @@
 -- `plan_program::feed` meets its contract: each refusal by the test that fails, else what the loop over the lines leaves. Assumes nothing.
-use Prim.Native.Nat.{◌*◌}
 use mathlib.Core.Path.{◌≡◌, sym, ◌∙◌}
 use mathlib.Core.Bool.{false}
-use borrow.Author.Tests.{leb-true}
-use lib.ListN.{length}
 use Rattle.plan_program.specs.Calls.{has_room, plan_sound}
 use Rattle.plan_program.proofs.Pieces.{fed-unsound, fed-short, fed-run}
 use Rattle.plan_program.proofs.feed.Goals as goal
@@ -19,11 +16,6 @@ returns-then-not-has_room c =
     let a = c.args in
     let short : has_room a.input.now a.out.now ≡ false = sym c.has_room.ensures ∙ c.if-not-has_room.true in
     sym (fed-short a.plan a.part a.input.now a.out.now (sym c.is_sound.ensures ∙ c.if-not-is_sound.false) short)
-
-pub run_lines-ran-requires : goal.run_lines-ran-requires
-run_lines-ran-requires c =
-    let a = c.args in
-    (sym c.is_sound.ensures ∙ c.if-not-is_sound.false, leb-true (80 * length a.input.now) (length a.out.now) (sym c.has_room.ensures ∙ c.if-not-has_room.false))
 
 pub returns : goal.returns
 returns c =

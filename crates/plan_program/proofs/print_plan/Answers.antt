@@ -19,13 +19,7 @@ unfolding plan_sound
 run_lines-ran-requires c =
     (ap plan_sound c.no_plan.ensures, omega arith)
 
-pub put_end-requires : goal.put_end-requires
-put_end-requires c =
-    let ran = c in
-    omega (arith, ran.run_lines-ran.ensures.few, ran.run_lines-ran.auto, ran.if-out-input.false)
-
 pub returns : goal.returns
 returns c =
-    let ran = c in
-    let a = ran.args in
-    printed-in a.input.now (omega (arith, ran.if-out-input.false)) (whole ran.no_plan.result (bytes_in ran.no_part.result) a.input.now ran.run_lines-ran.result ran.no_plan.ensures (ap bytes_in ran.no_part.ensures) ran.run_lines-ran.ensures c.put_end.ensures)
+    let a = c.args in
+    printed-in a.input.now (omega (arith, c.if-out-input.false)) (whole c.no_plan.result (bytes_in c.no_part.result) a.input.now c.run_lines-ran.result c.no_plan.ensures (ap bytes_in c.no_part.ensures) c.run_lines-ran.ensures c.put_end.ensures)

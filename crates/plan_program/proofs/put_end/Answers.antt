@@ -12,6 +12,5 @@ returns-then-may_end c =
 
 pub returns : goal.returns
 returns c =
-    let may-end = c in
-    let a = may-end.args in
-    rw (end-some a.plan (bytes_in a.part) (sym may-end.may_end.ensures ∙ c.if-may_end.false)) (rw c.next_line.ensures at c.put.ensures)
+    let a = c.args in
+    rw (end-some a.plan (bytes_in a.part) (sym c.may_end.ensures ∙ c.if-may_end.false)) (rw c.next_line.ensures at c.put.ensures)

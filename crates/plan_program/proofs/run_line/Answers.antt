@@ -15,4 +15,4 @@ one_line p line = ap (after_line p) (append-nil line)
 pub returns : goal.returns
 returns c =
     let a = c.args in
-    c.run_lines-ran.ensures.plan-is ∙ one_line a.plan (bytes_in a.part)
+    c.run_lines.ensures.plan-is ∙ one_line a.plan (bytes_in a.part)

@@ -4,8 +4,8 @@ use Rattle.plan_program.specs.Calls.{bytes_in}
 use Rattle.plan_program.proofs.Turns.{Stands, left}
 use Rattle.plan_program.proofs.run_lines.Given as goal
 
-abbrev pub invariant-loop-size : goal.invariant-loop-size
-invariant-loop-size l = Stands l.fn.plan (bytes_in l.fn.part) l.input l.initial.out l.g l.rows l.out
+abbrev pub invariant-loop-g : goal.invariant-loop-g
+invariant-loop-g l = Stands l.fn.plan (bytes_in l.fn.part) l.input l.initial.out l.g l.rows l.out
 
-abbrev pub decreases-loop-size : goal.decreases-loop-size
-decreases-loop-size l = left l.input l.g
+abbrev pub decreases-loop-g : goal.decreases-loop-g
+decreases-loop-g l = left l.input l.g

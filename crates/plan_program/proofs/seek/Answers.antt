@@ -1,5 +1,4 @@
 -- `plan_program::seek` meets its contract. Assumes nothing.
-use native.Mathlib.Omega.{arith}
 use Prim.Native.Nat.{ℕ, ◌+◌, ◌-◌}
 use mathlib.Core.Path.{ap, ◌∙◌}
 use mathlib.Core.List.{◌++◌}
@@ -14,9 +13,6 @@ use Rattle.plan_program.proofs.seek.Goals as goal
 pub slice_bounds-longer-end : goal.slice_bounds-longer-end
 slice_bounds-longer-end c = (part-in 10 c.args.input.now c.args.g.at c.part_end-end.result c.requires c.part_end-end.ensures).1
 
-pub overflow_add-end : goal.overflow_add-end
-overflow_add-end c = omega (arith, (part-in 10 c.args.input.now c.args.g.at c.part_end-end.result c.requires c.part_end-end.ensures).1)
-
 pub returns : goal.returns
 unfolding sought
 returns c =
@@ -25,5 +21,5 @@ returns c =
     let input = a.input.now in
     let e = c.part_end-end.result in
     c.with_line.ensures
-    ∙ ap (λ (text : Part). with_line g text (ltb e (length input)) (e + 1)) c.longer-text.ensures
+    ∙ ap (λ (text : Part). with_line g text (ltb e (length input)) (e + 1)) c.longer-part.ensures
     ∙ ap (λ (k : ℕ). with_line g (part_in g.part.text (take 121 (bytes_in g.part ++ take (k - g.at) (drop g.at input)))) (ltb k (length input)) (k + 1)) c.part_end-end.ensures

@@ -19,9 +19,6 @@ returns-then-out-input c =
     let a = c.args in
     sym (fed-short a.report a.input.now a.out.now (sym c.is_sound.ensures ∙ c.if-not-is_sound.false) (omega arith))
 
-pub take_bytes-taken-requires : goal.take_bytes-taken-requires
-take_bytes-taken-requires c = (sym c.is_sound.ensures ∙ c.if-not-is_sound.false, omega arith)
-
 pub returns : goal.returns
 returns c =
     let a = c.args in

@@ -14,14 +14,13 @@ use Rattle.plan_report.proofs.line_done.Goals.{then-plan, else-plan}
 
 pub returns : goal.returns
 returns c =
-    let entry = c in
-    let t = entry.args.t in
-    let q = after_line t.plan (bytes_in entry.args.part) in
+    let t = c.args.t in
+    let q = after_line t.plan (bytes_in c.args.part) in
     let ran = c.run_line-next.ensures in
     let figures : c.figures_by-figures.result ≡ figures_after t.figures q =
     c.figures_by-figures.ensures
     ∙ ap (λ (p : Plan). figures_by t.figures p p.outcome) ran
-    ∙ tells t.figures t.plan (bytes_in entry.args.part) entry.requires in
+    ∙ tells t.figures t.plan (bytes_in c.args.part) c.requires in
     let either : Bool → ℕ = λ over. cond over t.fault (fault_in q.outcome) in
     let fault : c.if-plan.fault ≡ either t.plan.over =
     elim c.if-plan.branch [

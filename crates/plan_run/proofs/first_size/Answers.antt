@@ -1,17 +1,17 @@
 -- `plan_run::first_size` meets its contract, case by case. Assumes nothing.
 use Prim.Native.Nat.{ℕ}
 use mathlib.Core.Path.{sym, ap, ◌∙◌}
-use Rattle.plan_line.specs.declared.Opening.{Opening}
+use Rattle.plan_line.specs.Plan.{Opening}
 use Rattle.plan_run.specs.Run.{opened_by, opened_of}
 use Rattle.plan_run.proofs.first_size.Goals as goal
 
 abbrev said : Opening → ℕ
 said o = (opened_by o).n
 
-pub returns-in-Ring : goal.returns-in-Ring
+pub returns-in-Ok : goal.returns-in-Ok
 unfolding opened_of
-returns-in-Ring c = sym (ap said c.in-Ring.is) ∙ ap said c.opening_of-opening.ensures
+returns-in-Ok c = sym (ap said c.in-Ok.is) ∙ ap said c.opening_of-opening.ensures
 
-pub returns-in-Refused : goal.returns-in-Refused
+pub returns-in-Err : goal.returns-in-Err
 unfolding opened_of
-returns-in-Refused c = sym (ap said c.in-Refused.is) ∙ ap said c.opening_of-opening.ensures
+returns-in-Err c = sym (ap said c.in-Err.is) ∙ ap said c.opening_of-opening.ensures

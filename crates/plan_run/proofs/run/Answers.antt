@@ -8,7 +8,7 @@ use Rattle.bench_orders.specs.Survey.{glimpse_of}
 use Rattle.bench_orders.specs.Orders.{carried_from}
 use Rattle.bench_work.specs.declared.Work.{Work}
 use Rattle.bench_work.specs.Work.{work_of}
-use Rattle.plan_run.specs.declared.Act.{Act}
+use Rattle.plan_run.specs.Run.{Act}
 use Rattle.plan_run.specs.Inner.{asked, errand_by, errand_on, outcome_on, told}
 use Rattle.plan_run.proofs.run.Goals as goal
 

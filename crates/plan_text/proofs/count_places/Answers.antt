@@ -1,24 +1,19 @@
-use Prim.Native.Nat.{◌+◌, ◌-◌}
+-- `plan_text::count_places` meets its contract: 0 has one digit, as 1 has.
+-- Assumes nothing.
+use Prim.Native.Nat.{ℕ, ◌+◌, ◌*◌, ◌^◌, ◌≤◌, ◌<◌, max}
+use mathlib.Core.Path.{◌≡◌, sym, ap, ◌∙◌}
 use native.Mathlib.Omega.{arith}
-use Rattle.plan_text.proofs.Digits.{places-stop, places-next, places-last}
+use native.Mathlib.Decide.{dec_lt}
+use Rattle.plan_text.specs.Text.{places}
+use Rattle.plan_text.proofs.Digits.{places-log, places-stop}
 use Rattle.plan_text.proofs.count_places.Goals as goal
 
-pub loop-count-init : goal.loop-count-init
-loop-count-init c = (omega arith, omega arith, omega arith)
-
-pub returns-then-rest-lt10 : goal.returns-then-rest-lt10
-returns-then-rest-lt10 c = omega (arith, c.loop-count.invariant.2, places-stop (20 - c.loop-count.count) c.loop-count.rest c.if-rest-lt10.true)
-
-pub overflow_add-count : goal.overflow_add-count
-overflow_add-count c = omega arith
-
-pub loop-count-smaller : goal.loop-count-smaller
-loop-count-smaller c = omega arith
-
-pub loop-count-preserved : goal.loop-count-preserved
-loop-count-preserved c =
-    let loop = c.loop-count in
-    (omega arith, omega arith, omega (arith, loop.invariant.2, places-next (20 - loop.count) (20 - (loop.count + 1)) loop.rest (omega arith) c.if-rest-lt10.false))
+counted : (k x y : ℕ) → y ≡ max x 1 → k < 20 → 10 ^ k ≤ y → y < 10 * 10 ^ k → k + 1 ≡ places 19 x
+counted k x y e few low high = omega (arith, places-log 19 k y (omega arith) low high) ∙ same (dec_lt x 1)
+  where
+    same : Dec (x < 1) → places 19 y ≡ places 19 x
+    same (yes none) = places-stop 19 y (omega arith) ∙ sym (places-stop 19 x (omega arith))
+    same (no some) = let is : y ≡ x = omega arith in ap (places 19) is
 
 pub returns : goal.returns
-returns c = omega (arith, c.loop-count.invariant.2, places-last (20 - c.loop-count.count) c.loop-count.rest (omega arith))
+returns c = counted c.ilog10.result c.args.x c.max.result c.max.ensures c.ilog10.ensures.bound c.ilog10.ensures.power_le c.ilog10.ensures.next_power_gt

@@ -8,15 +8,12 @@ use Rattle.plan_text.proofs.put_refusal.Goals as goal
 
 pub overflow_add-result : goal.overflow_add-result
 overflow_add-result c =
-    let s = c in
-    omega (arith, count-is (refusal_text s.args.line s.args.cause) s.args.out.now s.args.at s.requires c.in-Bytes.ensures refl, refusal-short s.args.line s.args.cause, s.requires, s.well_formed)
+    omega (arith, count-is (refusal_text c.args.line c.args.cause) c.args.out.now c.args.at c.requires c.in-Ok.ensures refl, refusal-short c.args.line c.args.cause, c.requires, c.well_formed)
 
-pub returns-in-Bytes : goal.returns-in-Bytes
-returns-in-Bytes c =
-    let s = c in
-    put-few (refusal_text s.args.line s.args.cause) s.args.out.now s.args.at s.requires c.in-Bytes.ensures (refusal-short s.args.line s.args.cause) refl
+pub returns-in-Ok : goal.returns-in-Ok
+returns-in-Ok c =
+    put-few (refusal_text c.args.line c.args.cause) c.args.out.now c.args.at c.requires c.in-Ok.ensures (refusal-short c.args.line c.args.cause) refl
 
-pub returns-in-Refused : goal.returns-in-Refused
-returns-in-Refused c =
-    let s = c in
-    absurd (not-refused (refusal_text s.args.line s.args.cause) s.args.out.now s.args.at s.requires c.in-Refused.ensures refl)
+pub returns-in-Err : goal.returns-in-Err
+returns-in-Err c =
+    absurd (not-refused (refusal_text c.args.line c.args.cause) c.args.out.now c.args.at c.requires c.in-Err.ensures refl)

@@ -11,7 +11,7 @@ pub returns : goal.returns
 returns c =
     let a = c.args in
     let d = a.out.now in
-    let e = c.put_hex.new.out in
-    let set = c.in-Set.set in
-    let number : PutAt (a.at + 8) a.at (digits 16 8 set) d e = record { end = omega (arith, length_digits 16 8 set); bytes = c.put_hex.ensures } in
-    rw c.in-Set.is (both (omega (arith, c.requires)) number (put_byte e (a.at + 8) 32 (a.at + 9) (omega arith) (omega (arith, c.put_hex.auto.out, c.requires))))
+    let e = c.put_digits.new.out in
+    let set = c.in-Some.set in
+    let number : PutAt (a.at + 8) a.at (digits 16 8 set) d e = record { end = omega (arith, length_digits 16 8 set); bytes = c.put_digits.ensures } in
+    rw c.in-Some.is (both (omega (arith, c.requires)) number (put_byte e (a.at + 8) 32 (a.at + 9) (omega arith) (omega (arith, c.put_digits.auto.out, c.requires))))

@@ -31,7 +31,6 @@ overflow_add-j c =
 
 pub returns : goal.returns
 returns c =
-    let h = c in
-    let a = h.args in
+    let a = c.args in
     c.member_before.ensures
-    ∙ sym (sponsored-before a.cable a.set a.x a.j (omega (arith, h.if-j-eq0.false)) (omega (arith, h.if-sponsors-j.false, h.sponsors.ensures)))
+    ∙ sym (sponsored-before a.cable a.set a.x a.j (omega (arith, c.if-j-eq0.false)) (omega (arith, c.if-sponsors-j.false, c.sponsors.ensures)))

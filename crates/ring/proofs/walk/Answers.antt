@@ -3,6 +3,7 @@ use mathlib.Core.Path.{◌≡◌, refl, sym, ap, ◌∙◌}
 use mathlib.Core.Bool.{Bool, true, false, ◌&&◌}
 use native.Mathlib.Omega.{arith}
 use lib.Dec.{eqb}
+use Rattle.std.specs.Int.{from_bool}
 use Rattle.nodeset.specs.Sums.{num}
 use Rattle.nodeset.specs.Sets.{has}
 use Rattle.slot_table.specs.Order.{node_at}
@@ -28,6 +29,11 @@ found-later l cable set p j q x more met e y m t o =
     let s : (has set (node_at cable.order (previous cable.n p)) && eqb j 1) ≡ false = ap (λ (b : Bool). b && eqb j 1) (sym z) ∙ t in
     rw s (ap (λ (w : ℕ). reach l cable set w more) e ∙ ap (reach l cable set (previous cable.n p)) (o ∙ ap (λ (b : Bool). j - num b) z))
 
+-- a member met counts 1
+counted : (met : Bool) → from_bool met ≡ num met
+counted true = refl
+counted false = refl
+
 pub loop-left-init : goal.loop-left-init
 loop-left-init c = refl
 
@@ -43,12 +49,10 @@ overflow_sub-left c = omega arith
 
 pub returns-then-met-more : goal.returns-then-met-more
 returns-then-met-more c =
-    let d = c in
-    let e = d in
-    let l = e.loop-left in
-    let a = e.args in
+    let l = c.loop-left in
+    let a = c.args in
     let some : suc (l.left - 1) ≡ l.left = omega arith in
-    found_here (l.left - 1) a.cable a.set l.place l.more e.previous-place.result e.node_at-node.result d.has-met.result e.previous-place.ensures e.node_at-node.ensures d.has-met.ensures c.if-met-more.true
+    found_here (l.left - 1) a.cable a.set l.place l.more c.previous-place.result c.node_at-node.result c.has-met.result c.previous-place.ensures c.node_at-node.ensures c.has-met.ensures c.if-met-more.true
     ∙ ap (λ (i : ℕ). reach i a.cable a.set l.place l.more) some
     ∙ l.invariant
 
@@ -57,12 +61,11 @@ loop-left-smaller c = omega arith
 
 pub loop-left-preserved : goal.loop-left-preserved
 loop-left-preserved c =
-    let d = c in
-    let e = d in
-    let l = e.loop-left in
-    let a = e.args in
+    let l = c.loop-left in
+    let a = c.args in
     let some : suc (l.left - 1) ≡ l.left = omega arith in
-    found-later (l.left - 1) a.cable a.set l.place l.more e.previous-place.result e.node_at-node.result c.still-more.result d.has-met.result
-    e.previous-place.ensures e.node_at-node.ensures d.has-met.ensures c.if-met-more.false c.still-more.ensures
+    found-later (l.left - 1) a.cable a.set l.place l.more c.previous-place.result c.node_at-node.result c.saturating_sub-more.result c.has-met.result
+    c.previous-place.ensures c.node_at-node.ensures c.has-met.ensures c.if-met-more.false
+    (c.saturating_sub-more.ensures ∙ ap (λ (m : ℕ). l.more - m) (c.from.ensures ∙ counted c.has-met.result))
     ∙ ap (λ (i : ℕ). reach i a.cable a.set l.place l.more) some
     ∙ l.invariant

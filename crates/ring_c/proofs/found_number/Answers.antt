@@ -1,5 +1,5 @@
 -- `ring_c::found_number` meets its contract, case by case. Assumes nothing.
 use Rattle.ring_c.proofs.found_number.Goals as goal
 
-pub returns-in-Member : goal.returns-in-Member
-returns-in-Member c = cc
+pub returns-in-Some : goal.returns-in-Some
+returns-in-Some c = cc

@@ -24,46 +24,37 @@ on order x i h e =
     ∙ rw (ne_eqb (list.get_or order i 0) x e) (ap (λ (m : ℕ). place_from m order x (suc (suc i))) y)
     ∙ ap (λ (k : ℕ). place_from (32 - (i + 1)) order x (suc k)) (sym (add-one i))
 
-pub loop-i-init : goal.loop-i-init
+pub loop-m-init : goal.loop-m-init
 unfolding passed place
-loop-i-init c = (omega arith, (refl, refl))
+loop-m-init c = (refl, refl)
 
-pub returns-then-wide-x : goal.returns-then-wide-x
+pub returns-then-from-x : goal.returns-then-from-x
 unfolding rank_in
-returns-then-wide-x c =
+returns-then-from-x c =
     let a = c.args in
-    let l = c.loop-i in
-    let found : place a.order a.x - 1 ≡ l.i = omega (arith, l.invariant.1.1, here a.order a.x l.i (omega arith) (sym c.wide.ensures ∙ c.if-wide-x.true)) in
-    l.invariant.1.0 ∙ ap (λ (k : ℕ). passed k a.order a.row.nodes) (sym found)
+    let l = c.loop-m in
+    let found : place a.order a.x - 1 ≡ l.m-index = omega (arith, l.invariant.1, here a.order a.x l.m-index (omega arith) (sym c.from.ensures ∙ c.if-from-x.true)) in
+    l.invariant.0 ∙ ap (λ (k : ℕ). passed k a.order a.row.nodes) (sym found)
 
-pub bounds-nodes-p : goal.bounds-nodes-p
-bounds-nodes-p c =
+pub bounds-row-p : goal.bounds-row-p
+bounds-row-p c =
     let a = c.args in
-    let l = c.loop-i in
-    omega (arith, l.invariant.1.0, passed-le l.i a.order a.row.nodes)
+    let l = c.loop-m in
+    omega (arith, l.invariant.0, passed-le l.m-index a.order a.row.nodes)
 
-pub overflow_add-i : goal.overflow_add-i
-overflow_add-i c = omega arith
-
-pub loop-i-smaller : goal.loop-i-smaller
-loop-i-smaller c = omega arith
-
-pub loop-i-preserved : goal.loop-i-preserved
-loop-i-preserved c =
+pub loop-m-preserved : goal.loop-m-preserved
+loop-m-preserved c =
     let a = c.args in
-    let l = c.loop-i in (
-      omega arith,
-      (
-        c.past-p.ensures ∙ passed-next l.i a.order a.row.nodes l.p (omega arith) l.invariant.1.0,
-        l.invariant.1.1 ∙ on a.order a.x l.i (omega arith) (λ e. c.if-wide-x.false (c.wide.ensures ∙ e)),
-      ),
+    let l = c.loop-m in (
+      c.past-p.ensures ∙ passed-next l.m-index a.order a.row.nodes l.p (omega arith) l.invariant.0,
+      l.invariant.1 ∙ on a.order a.x l.m-index (omega arith) (λ e. c.if-from-x.false (c.from.ensures ∙ e)),
     )
 
 pub returns : goal.returns
 unfolding rank_in passed place_from
 returns c =
     let a = c.args in
-    let l = c.loop-i in
-    let last : 32 - l.i ≡ 0 = omega arith in
-    let none : place a.order a.x - 1 ≡ 0 = ap (λ (k : ℕ). k - 1) (l.invariant.1.1 ∙ ap (λ (m : ℕ). place_from m a.order a.x (suc l.i)) last) in
+    let l = c.loop-m in
+    let last : 32 - l.m-index ≡ 0 = omega arith in
+    let none : place a.order a.x - 1 ≡ 0 = ap (λ (k : ℕ). k - 1) (l.invariant.1 ∙ ap (λ (m : ℕ). place_from m a.order a.x (suc l.m-index)) last) in
     sym (ap (λ (k : ℕ). passed k a.order a.row.nodes) none)

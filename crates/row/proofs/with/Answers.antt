@@ -1,8 +1,8 @@
 -- `row::with` meets its contract: its tests are those of the definition, and x is put in at its rank. Assumes nothing.
-use borrow.Author.Tests.{lt-leb, le-leb, leb-false}
-use Prim.Native.Nat.{ℕ, ◌+◌, ◌<◌}
+use borrow.Author.Tests.{lt-leb, le-leb}
+use Prim.Native.Nat.{ℕ, ◌+◌}
 use mathlib.Core.Path.{◌≡◌, sym, ap, ap₂, ◌∙◌}
-use mathlib.Core.Bool.{Bool, true, false, not, ◌&&◌, ◌||◌, and-false, true≢false}
+use mathlib.Core.Bool.{Bool, true, false, not, ◌&&◌, ◌||◌, and-false}
 use mathlib.Core.List.{List}
 use native.Mathlib.Omega.{arith}
 use lib.Dec.{leb}
@@ -17,11 +17,6 @@ held row x = has_row row x || leb 32 row.length
 
 told : (row : Row) (x : ℕ) (r v : Bool) → r ≡ has_row row x → (r || leb 32 row.length) ≡ v → held row x ≡ v
 told row x r v e f = ap (λ (b : Bool). b || leb 32 row.length) (sym e) ∙ f
-
--- past it there is room
-room : (a : Bool) (count : ℕ) → (a || leb 32 count) ≡ false → count < 32
-room true count e = absurd (true≢false e)
-room false count e = leb-false 32 count e
 
 pub returns-then-has-count : goal.returns-then-has-count
 unfolding with_row
@@ -45,11 +40,6 @@ returns-then-x-ge33 c =
     (ap (λ (b : Bool). not (held a.row a.x) && (leb 1 a.x && b)) (lt-leb a.x 32 (omega arith))
     ∙ ap (λ (b : Bool). not (held a.row a.x) && b) (and-false (leb 1 a.x))
     ∙ and-false (not (held a.row a.x))))
-
-pub overflow_add-result : goal.overflow_add-result
-overflow_add-result c =
-    let a = c.args in
-    omega (arith, room c.has.result a.row.length c.if-has-count.false)
 
 pub returns : goal.returns
 unfolding with_row

@@ -1,35 +1,24 @@
+-- `row_sets::is_blank` meets its contract: what it passes over is dropped. Assumes nothing.
 use Prim.Native.Nat.{ℕ}
-use mathlib.Core.Path.{sym, ap, ◌∙◌}
-use mathlib.Core.Bool.{Bool, ◌&&◌, ◌||◌}
-use mathlib.Core.List.{List}
-use native.Mathlib.Omega.{arith}
-use lib.Dec.{eqb, ltb}
+use mathlib.Core.Path.{◌≡◌, refl, ap, ◌∙◌}
+use mathlib.Core.Bool.{Bool, ◌&&◌}
+use mathlib.Core.List.{List, [], ◌∷◌}
+use lib.Dec.{eqb}
 use lib.ListN as list
-use lib.Seq.{take_all, drop-nil}
+use Rattle.std.proofs.Common.{rules, tests}
+use Rattle.std.specs.List.{list_all}
+use Rattle.std.proofs.lemmas.Iterator.{YieldsList-from_slice}
+use Rattle.std.proofs.lemmas.Iterator.Adapters.{YieldsList-from_skip}
+use Rattle.std.proofs.lemmas.Iterator.Search.{all_from_yields_List}
 use Rattle.row.specs.Rows.{blank}
-use Rattle.row.proofs.Walked.{blank-next}
 use Rattle.row_sets.proofs.is_blank.Goals as goal
 
-pub loop-i-init : goal.loop-i-init
-loop-i-init c = (omega arith, sym (ap blank (drop-nil {A = ℕ} c.args.from)))
-
-pub overflow_add-i : goal.overflow_add-i
-overflow_add-i c = omega arith
-
-pub loop-i-smaller : goal.loop-i-smaller
-loop-i-smaller c = omega arith
-
-pub loop-i-preserved : goal.loop-i-preserved
-loop-i-preserved c =
-    let a = c.args in
-    let l = c.loop-i in
-    let x = list.get_or a.places.now l.i 0 in (
-      omega arith,
-      ap (λ (b : Bool). b && (ltb l.i a.from || eqb x 0)) l.invariant.1 ∙ sym (blank-next a.from l.i a.places.now (omega arith)),
-    )
+all-blank : (l : List ℕ) → list_all (λ x. eqb x 0) l ≡ blank l
+all-blank [] = refl
+all-blank (x ∷ l) = ap (λ (b : Bool). eqb x 0 && b) (all-blank l)
 
 pub returns : goal.returns
 returns c =
     let a = c.args in
-    let l = c.loop-i in
-    l.invariant.1 ∙ ap (λ (q : List ℕ). blank (list.drop a.from q)) (take_all l.i a.places.now (omega arith))
+    all_from_yields_List (λ x. eqb x 0) _ _ c.all.result c.all.ensures.ran (YieldsList-from_skip a.from (YieldsList-from_slice a.places.now cc) c.skip.ensures.count) (λ x b q k. search (rules, tests))
+    ∙ all-blank (list.drop a.from a.places.now)

@@ -1,6 +1,5 @@
-use borrow.Author.Rules.{rules}
 use borrow.Author.Tests.{lt-leb, eq-eqb}
-use Prim.Native.Nat.{ℕ, ◌+◌, ◌≤◌, min}
+use Prim.Native.Nat.{ℕ, ◌+◌, ◌≤◌, ◌<◌, min}
 use mathlib.Core.Path.{◌≡◌, refl, sym, ap, ◌∙◌}
 use mathlib.Core.Bool.{Bool, ◌&&◌}
 use mathlib.Core.List.{List}
@@ -8,8 +7,9 @@ use native.Mathlib.Omega.{arith}
 use native.Mathlib.Decide.{dec_le}
 use lib.Dec.{eqb, leb, ltb}
 use lib.ListN as list
-use lib.Seq.{take_all}
+use lib.Seq.{take_all, get_or-take}
 use Rattle.row.specs.Rows.{is_part, blank, sound_row}
+use Rattle.row.specs.Inner.{past}
 use Rattle.row.proofs.Walked.{left, part-start, part-next, part-done, past-le, past-below}
 use Rattle.row_sets.proofs.is_sound.Goals as goal
 
@@ -23,75 +23,44 @@ whole : (n : ℕ) (t : List ℕ) → list.length t ≡ 32 → Dec (n ≤ 32) →
 whole n t e (yes l) = let z : min n 32 ≡ n = omega arith in ap (λ (k : ℕ). list.take k t) z
 whole n t e (no l) = take_all (min n 32) t (omega arith) ∙ sym (take_all n t (omega arith))
 
-pub loop-i-init : goal.loop-i-init
-loop-i-init c =
+pub loop-m-init : goal.loop-m-init
+loop-m-init c = let a = c.args in record { in_table = omega arith; in_row = omega arith; part = part-start c.min-most.result a.row.length a.order a.row.nodes }
+
+pub loop-m-preserved : goal.loop-m-preserved
+loop-m-preserved c =
     let a = c.args in
-    let most = c.at_most_32-most in
-    (omega arith, (most.ensures, (omega arith, (omega arith, (search rules, (search rules, (c.is_blank-clear.ensures, part-start most.result a.row.length a.order a.row.nodes)))))))
-
-pub bounds-nodes-p : goal.bounds-nodes-p
-bounds-nodes-p c = let v = c.loop-i.invariant.1 in omega (arith, v.0, v.1.0)
-
-pub bounds-order-i : goal.bounds-order-i
-bounds-order-i c = let v = c.loop-i.invariant.1 in omega (arith, v.0)
-
-pub overflow_add-i : goal.overflow_add-i
-overflow_add-i c = let v = c.loop-i.invariant.1 in omega (arith, v.0)
-
-pub loop-i-smaller : goal.loop-i-smaller
-loop-i-smaller c = omega arith
-
-pub loop-i-preserved : goal.loop-i-preserved
-loop-i-preserved c =
-    let a = c.args in
-    let most = c.at_most_32-most.result in
-    let l = c.loop-i in
-    let v = l.invariant.1 in
-    let w = v.1.1.1 in
+    let l = c.loop-m in
+    let most = c.min-most.result in
     let count = a.row.length in
-    let b = eqb (list.get_or a.row.nodes l.p 0) (list.get_or a.order l.i 0) in (
-      omega arith,
-      (
-        v.0,
-        (
-          omega (arith, v.1.0, c.past-p.ensures, past-le l.p (ltb l.p count && b)),
-          (
-            omega (arith, c.past-p.ensures, past-below l.p count b v.1.1.0),
-            (
-              w.0,
-              (
-                w.1.0,
-                (
-                  w.1.1.0,
-                  ap (λ (k : ℕ). is_part (left k count a.row.nodes) (left (l.i + 1) most a.order)) c.past-p.ensures
-                      ∙ part-next most count a.order a.row.nodes l.i l.p w.1.0 w.0 (omega arith) (omega (arith, v.0)) (omega (arith, v.0, v.1.0))
-                      ∙ w.1.1.1,
-                ),
-              ),
-            ),
-          ),
-        ),
-      ),
-    )
+    let short : l.m-index < most = omega (arith, list.length-take most a.order) in
+    let e = eqb (list.get_or a.row.nodes l.p 0) (list.get_or a.order l.m-index 0) in
+    let moved : c.past-p.result ≡ past l.p (ltb l.p count && e)
+    = c.past-p.ensures ∙ ap (λ (x : ℕ). past l.p (ltb l.p count && eqb (list.get_or a.row.nodes l.p 0) x)) (get_or-take most a.order l.m-index 0 short) in
+    record {
+      in_table = omega (arith, moved, past-le l.p (ltb l.p count && e));
+      in_row = omega (arith, moved, past-below l.p count e l.invariant.in_row);
+      part = ap (λ (k : ℕ). is_part (left k count a.row.nodes) (left (l.m-index + 1) most a.order)) moved
+          ∙ part-next most count a.order a.row.nodes l.m-index l.p (omega arith) (omega arith) short (omega arith) (omega arith)
+          ∙ l.invariant.part;
+    }
 
 pub returns : goal.returns
 unfolding sound_row
 returns c =
     let a = c.args in
-    let most = c.at_most_32-most.result in
-    let l = c.loop-i in
-    let v = l.invariant.1 in
-    let w = v.1.1.1 in
+    let most = c.min-most.result in
+    let l = c.loop-m in
     let count = a.row.length in
+    let full : list.length a.row.nodes ≡ 32 = omega arith in
     let part = is_part (list.take count a.row.nodes) (list.take most a.order) in
     let clear = blank (list.drop count a.row.nodes) in
-    let last : l.i ≡ most = omega arith in
+    let last : l.m-index ≡ most = omega (arith, list.length-take most a.order) in
     ends count most l.p part c.is_blank-clear.result
     (λ m.
-    sym (ap (λ (k : ℕ). is_part (left l.p count a.row.nodes) (left k most a.order)) (sym last) ∙ w.1.1.1)
-    ∙ part-done most count a.order a.row.nodes l.p w.0 (omega (arith, v.0)) v.1.1.0)
+    sym (ap (λ (k : ℕ). is_part (left l.p count a.row.nodes) (left k most a.order)) (sym last) ∙ l.invariant.part)
+    ∙ part-done most count a.order a.row.nodes l.p full (omega arith) l.invariant.in_row)
     (dec_le count most)
-    ∙ ap (λ (b : Bool). leb count most && (part && b)) w.1.1.0
-    ∙ ap (λ (k : ℕ). leb count k && (is_part (list.take count a.row.nodes) (list.take k a.order) && clear)) v.0
-    ∙ ap (λ (q : List ℕ). leb count (min a.n 32) && (is_part (list.take count a.row.nodes) q && clear)) (whole a.n a.order w.1.0 (dec_le a.n 32))
-    ∙ sym (ap (λ (b : Bool). b && (leb count (min a.n 32) && (is_part (list.take count a.row.nodes) (list.take a.n a.order) && clear))) (eq-eqb (list.length a.row.nodes) 32 w.0))
+    ∙ ap (λ (b : Bool). leb count most && (part && b)) c.is_blank-clear.ensures
+    ∙ ap (λ (k : ℕ). leb count k && (is_part (list.take count a.row.nodes) (list.take k a.order) && clear)) c.min-most.ensures
+    ∙ ap (λ (q : List ℕ). leb count (min a.n 32) && (is_part (list.take count a.row.nodes) q && clear)) (whole a.n a.order (omega arith) (dec_le a.n 32))
+    ∙ sym (ap (λ (b : Bool). b && (leb count (min a.n 32) && (is_part (list.take count a.row.nodes) (list.take a.n a.order) && clear))) (eq-eqb (list.length a.row.nodes) 32 full))

@@ -7,26 +7,18 @@ use Rattle.row.specs.Rows.{nodes_in}
 use Rattle.row.proofs.Walked.{nodes-next}
 use Rattle.row_sets.proofs.nodes_in.Goals as goal
 
-pub loop-i-init : goal.loop-i-init
+pub loop-x-init : goal.loop-x-init
 unfolding nodes_at
-loop-i-init c = (omega arith, refl)
+loop-x-init c = refl
 
-pub overflow_add-i : goal.overflow_add-i
-overflow_add-i c = omega arith
-
-pub loop-i-smaller : goal.loop-i-smaller
-loop-i-smaller c = omega arith
-
-pub loop-i-preserved : goal.loop-i-preserved
-loop-i-preserved c =
-    let a = c.args in
-    let l = c.loop-i in
-    (omega arith, c.with-s.ensures ∙ ap₂ with l.invariant.1 c.wide.ensures ∙ nodes-next l.i a.row.nodes)
+pub loop-x-preserved : goal.loop-x-preserved
+loop-x-preserved c =
+    let l = c.loop-x in
+    c.with-s.ensures ∙ ap₂ with l.invariant c.from.ensures ∙ nodes-next l.x-index c.args.row.nodes
 
 pub returns : goal.returns
 unfolding nodes_in
 returns c =
-    let a = c.args in
-    let l = c.loop-i in
-    let last : l.i ≡ 32 = omega arith in
-    l.invariant.1 ∙ ap (λ (k : ℕ). nodes_at k a.row.nodes) last
+    let l = c.loop-x in
+    let last : l.x-index ≡ 32 = omega arith in
+    l.invariant ∙ ap (λ (k : ℕ). nodes_at k c.args.row.nodes) last

@@ -1,7 +1,6 @@
 use Prim.Native.Nat.{ℕ, ◌+◌}
 use mathlib.Core.Path.{◌≡◌, refl, sym, ap, ◌∙◌}
 use mathlib.Core.List.{List}
-use native.Mathlib.Omega.{arith}
 use native.Mathlib.Numerals.{add-one}
 use Rattle.nodeset.specs.Sets.{with}
 use Rattle.slot_table.specs.Order.{node_at, nodes_at}
@@ -13,24 +12,9 @@ one-more order p set x e f = ap (λ (s : ℕ). with s x) e ∙ ap (with (nodes_a
 
 pub loop-p-init : goal.loop-p-init
 unfolding nodes_at
-loop-p-init c = (omega arith, refl)
-
-pub overflow_add-p : goal.overflow_add-p
-overflow_add-p c = omega arith
-
-pub loop-p-smaller : goal.loop-p-smaller
-loop-p-smaller c = omega (arith, c.loop-p-test.true)
+loop-p-init c = refl
 
 pub loop-p-preserved : goal.loop-p-preserved
 loop-p-preserved c =
-    let a = c.args in
-    let l = c.loop-p in (
-      omega (arith, c.loop-p-test.true),
-      c.with-set.ensures ∙ one-more a.order l.p l.set c.node_at.result l.invariant.1 c.node_at.ensures,
-    )
-
-pub returns : goal.returns
-returns c =
-    let a = c.args in
-    let last : c.loop-p.p ≡ a.n = omega (arith, c.loop-p.invariant.0, c.loop-p-test.false) in
-    c.loop-p.invariant.1 ∙ ap (λ (m : ℕ). nodes_at m a.order) last
+    let l = c.loop-p in
+    c.with-set.ensures ∙ one-more c.args.order l.p l.set c.node_at.result l.invariant c.node_at.ensures

@@ -18,42 +18,31 @@ on order x p l e = rw (ne_eqb (node_at order p) x e) refl
 
 pub loop-p-init : goal.loop-p-init
 unfolding place
-loop-p-init c = (omega arith, (omega arith, refl))
+loop-p-init c = refl
 
 pub returns-then-node_at-x : goal.returns-then-node_at-x
 returns-then-node_at-x c =
     let a = c.args in
     let l = c.loop-p in
-    let z : 33 - l.p ≡ suc (32 - l.p) = omega (arith, c.loop-p-test.true) in
-    sym (l.invariant.1.1 ∙ ap (λ (m : ℕ). place_from m a.order a.x l.p) z ∙ here a.order a.x l.p (32 - l.p) (sym c.node_at.ensures ∙ c.if-node_at-x.true))
-
-pub overflow_add-p : goal.overflow_add-p
-overflow_add-p c = omega (arith, c.loop-p.invariant.1.0)
-
-pub loop-p-smaller : goal.loop-p-smaller
-loop-p-smaller c = omega (arith, c.loop-p-test.true)
+    let z : 33 - l.p ≡ suc (32 - l.p) = omega arith in
+    sym (l.invariant ∙ ap (λ (m : ℕ). place_from m a.order a.x l.p) z ∙ here a.order a.x l.p (32 - l.p) (sym c.node_at.ensures ∙ c.if-node_at-x.true))
 
 pub loop-p-preserved : goal.loop-p-preserved
 loop-p-preserved c =
     let a = c.args in
     let l = c.loop-p in
-    let z : 33 - l.p ≡ suc (32 - l.p) = omega (arith, c.loop-p-test.true) in
-    let y : 32 - l.p ≡ 33 - (l.p + 1) = omega arith in (
-      omega arith,
-      (
-        omega (arith, c.loop-p-test.true),
-        l.invariant.1.1
-            ∙ ap (λ (m : ℕ). place_from m a.order a.x l.p) z
-            ∙ on a.order a.x l.p (32 - l.p) (λ e. c.if-node_at-x.false (c.node_at.ensures ∙ e))
-            ∙ ap (λ (m : ℕ). place_from m a.order a.x (suc l.p)) y
-            ∙ ap (place_from (33 - (l.p + 1)) a.order a.x) (sym (add-one l.p)),
-      ),
-    )
+    let z : 33 - l.p ≡ suc (32 - l.p) = omega arith in
+    let y : 32 - l.p ≡ 33 - (l.p + 1) = omega arith in
+    l.invariant
+    ∙ ap (λ (m : ℕ). place_from m a.order a.x l.p) z
+    ∙ on a.order a.x l.p (32 - l.p) (λ e. c.if-node_at-x.false (c.node_at.ensures ∙ e))
+    ∙ ap (λ (m : ℕ). place_from m a.order a.x (suc l.p)) y
+    ∙ ap (place_from (33 - (l.p + 1)) a.order a.x) (sym (add-one l.p))
 
 pub returns : goal.returns
 unfolding place_from
 returns c =
     let a = c.args in
     let l = c.loop-p in
-    let z : 33 - l.p ≡ 0 = omega (arith, c.loop-p-test.false) in
-    sym (l.invariant.1.1 ∙ ap (λ (m : ℕ). place_from m a.order a.x l.p) z)
+    let z : 33 - l.p ≡ 0 = omega arith in
+    sym (l.invariant ∙ ap (λ (m : ℕ). place_from m a.order a.x l.p) z)

@@ -27,33 +27,14 @@ one-more order i l e =
 
 pub loop-i-init : goal.loop-i-init
 unfolding numbers_from
-loop-i-init c = (omega arith, (c.at_most_32-count.ensures, refl))
-
-pub overflow_add-order : goal.overflow_add-order
-overflow_add-order c = omega (arith, c.loop-i-test.true, c.loop-i.invariant.1.0)
-
-pub overflow_cast-order : goal.overflow_cast-order
-overflow_cast-order c = omega (arith, c.loop-i-test.true, c.loop-i.invariant.1.0)
-
-pub bounds-order-i : goal.bounds-order-i
-bounds-order-i c = omega (arith, c.loop-i-test.true, c.loop-i.invariant.1.0)
-
-pub overflow_add-i : goal.overflow_add-i
-overflow_add-i c = omega (arith, c.loop-i-test.true, c.loop-i.invariant.1.0)
-
-pub loop-i-smaller : goal.loop-i-smaller
-loop-i-smaller c = omega (arith, c.loop-i-test.true)
+loop-i-init c = refl
 
 pub loop-i-preserved : goal.loop-i-preserved
-loop-i-preserved c =
-    let l = c.loop-i in
-    let t = c.loop-i-test.true in
-    (omega (arith, t), (l.invariant.1.0, one-more l.order l.i (omega (arith, t, l.invariant.1.0)) l.invariant.1.1))
+loop-i-preserved c = let l = c.loop-i in one-more l.order l.i (omega arith) l.invariant
 
 pub returns : goal.returns
 unfolding plain
 returns c =
     let l = c.loop-i in
-    let a = c.args in
-    let last : l.i ≡ min a.n 32 = omega (arith, l.invariant.0, l.invariant.1.0, c.loop-i-test.false) in
-    l.invariant.1.1 ∙ ap (λ (m : ℕ). numbers_from m 1 ++ replicate (32 - m) 0) last
+    let last : l.i ≡ min c.args.n 32 = omega arith in
+    l.invariant ∙ ap (λ (m : ℕ). numbers_from m 1 ++ replicate (32 - m) 0) last

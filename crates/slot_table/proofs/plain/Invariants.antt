@@ -1,5 +1,5 @@
 -- `slot_table::plain` meets its contract. The invariant: the first i places are numbered, the others 0. Assumes nothing.
-use Prim.Native.Nat.{◌-◌, ◌≤◌, min}
+use Prim.Native.Nat.{◌-◌}
 use mathlib.Core.Path.{◌≡◌}
 use mathlib.Core.List.{◌++◌}
 use lib.ListN.{replicate}
@@ -7,7 +7,4 @@ use Rattle.slot_table.specs.Order.{numbers_from}
 use Rattle.slot_table.proofs.plain.Given as goal
 
 abbrev pub invariant-loop-i : goal.invariant-loop-i
-invariant-loop-i l = (l.i ≤ l.count) × ((l.count ≡ min l.n 32) × (l.order ≡ numbers_from l.i 1 ++ replicate (32 - l.i) 0))
-
-abbrev pub decreases-loop-i : goal.decreases-loop-i
-decreases-loop-i l = l.count - l.i
+invariant-loop-i l = l.order ≡ numbers_from l.i 1 ++ replicate (32 - l.i) 0

@@ -1,40 +1,47 @@
-use Prim.Native.Nat.{ℕ, suc, ◌+◌, ◌-◌, ◌≤◌}
-use mathlib.Core.Path.{◌≡◌, ap, ◌∙◌}
+-- `slot_table::spare_empty` meets its contract: the places passed over are the first n. Assumes nothing.
+use Prim.Native.Nat.{ℕ, zero, suc, ◌+◌, ◌-◌, ◌≤◌}
+use mathlib.Core.Path.{◌≡◌, refl, sym, ap, ap₂, ◌∙◌}
 use mathlib.Core.Bool.{Bool, ◌&&◌}
 use mathlib.Core.List.{List}
 use native.Mathlib.Omega.{arith}
+use native.Mathlib.Decide.{dec_le}
+use native.Mathlib.Numerals.{add-one}
 use lib.Dec.{eqb}
+use lib.ListN.{length, take, drop}
+use Rattle.std.proofs.Common.{rules, tests}
+use Rattle.std.specs.List.{list_all}
+use Rattle.std.proofs.lemmas.Iterator.{YieldsList-from_slice}
+use Rattle.std.proofs.lemmas.Iterator.Adapters.{YieldsList-from_skip}
+use Rattle.std.proofs.lemmas.Iterator.Search.{all_from_yields_List}
+use Rattle.std.proofs.lemmas.List.{length-drop, get_or-drop, take_all, drop_all}
+use Rattle.std.proofs.lemmas.List.Folds.{list_all_more}
 use Rattle.slot_table.specs.Order.{node_at, spare_empty}
 use Rattle.slot_table.proofs.spare_empty.Goals as goal
 
-one-more : (n : ℕ) (order : List ℕ) (p x : ℕ) (empty : Bool) → n ≤ p → empty ≡ spare_empty (p - n) n order → x ≡ node_at order (p + 1) → (empty && eqb x 0) ≡ spare_empty (p + 1 - n) n order
+-- the m places after place n
+some : (n : ℕ) (order : List ℕ) (m : ℕ) → n + m ≤ length order → list_all (λ x. eqb x 0) (take m (drop n order)) ≡ spare_empty m n order
+unfolding spare_empty node_at
+some n order zero h = refl
+some n order (suc m) h =
+    let one : m + 1 ≡ suc m = add-one m in
+    let p : suc (n + m) ≡ n + suc m = omega arith in
+    ap (λ (k : ℕ). list_all (λ x. eqb x 0) (take k (drop n order))) (sym one)
+    ∙ list_all_more (λ x. eqb x 0) (drop n order) m 0 (omega (arith, length-drop n order))
+    ∙ ap₂ (λ (b : Bool) (x : ℕ). b && eqb x 0) (some n order m (omega arith)) (get_or-drop n order m 0)
+    ∙ ap (λ (p : ℕ). spare_empty m n order && eqb (node_at order p) 0) p
+
+-- all that there are
+rest : (n : ℕ) (order : List ℕ) → length order ≡ 32 → Dec (n ≤ 32) → list_all (λ x. eqb x 0) (drop n order) ≡ spare_empty (32 - n) n order
 unfolding spare_empty
-one-more n order p x empty h e f =
-    let z : p + 1 ≡ n + suc (p - n) = omega arith in
-    let y : suc (p - n) ≡ p + 1 - n = omega arith in
-    ap (λ (b : Bool). b && eqb x 0) e ∙ ap (λ (w : ℕ). spare_empty (p - n) n order && eqb w 0) (f ∙ ap (node_at order) z) ∙ ap (λ (m : ℕ). spare_empty m n order) y
-
-pub loop-p-init : goal.loop-p-init
-unfolding spare_empty
-loop-p-init c =
-    let z : 0 ≡ c.args.n - c.args.n = omega arith in
-    (omega arith, (omega arith, ap (λ (m : ℕ). spare_empty m c.args.n c.args.order) z))
-
-pub overflow_add-p : goal.overflow_add-p
-overflow_add-p c = omega (arith, c.loop-p.invariant.1.0)
-
-pub loop-p-smaller : goal.loop-p-smaller
-loop-p-smaller c = omega (arith, c.loop-p-test.true)
-
-pub loop-p-preserved : goal.loop-p-preserved
-loop-p-preserved c =
-    let a = c.args in
-    let l = c.loop-p in
-    (omega (arith, l.invariant.0), (omega (arith, c.loop-p-test.true), one-more a.n a.order l.p c.node_at.result l.empty l.invariant.0 l.invariant.1.1 c.node_at.ensures))
+rest n order e (yes l) =
+    ap (list_all (λ x. eqb x 0)) (sym (take_all (32 - n) (drop n order) (omega (arith, length-drop n order))))
+    ∙ some n order (32 - n) (omega arith)
+rest n order e (no l) =
+    let z : 0 ≡ 32 - n = omega arith in
+    ap (list_all (λ x. eqb x 0)) (drop_all n order (omega arith)) ∙ ap (λ (m : ℕ). spare_empty m n order) z
 
 pub returns : goal.returns
 returns c =
-    let l = c.loop-p in
     let a = c.args in
-    let last : l.p - a.n ≡ 32 - a.n = omega (arith, l.invariant.0, l.invariant.1.0, c.loop-p-test.false) in
-    l.invariant.1.1 ∙ ap (λ (m : ℕ). spare_empty m a.n a.order) last
+    all_from_yields_List (λ x. eqb x 0) _ _ c.all.result c.all.ensures.ran (YieldsList-from_skip a.n (YieldsList-from_slice a.order cc) c.skip.ensures.count) (λ x b q k. search (rules, tests))
+    ∙ rest a.n a.order (omega arith) (dec_le a.n 32)

@@ -2,7 +2,7 @@
 use Prim.Native.Nat.{ℕ, ◌+◌}
 use mathlib.Core.Path.{ap, ◌∙◌}
 use Rattle.bench.specs.declared.Fate.{Fate}
-use Rattle.message.specs.declared.Reading.{Reading}
+use Rattle.message.specs.Answers.{Reading}
 use Rattle.node_steps.specs.declared.Digest.{Digest}
 use Rattle.node_steps.specs.Held.{digest_of}
 use Rattle.bench_orders.specs.declared.Turn.{Turn}

@@ -1,6 +1,6 @@
 -- `bench_orders::records::step_at` meets its contract: what its node hears and the record that is stepped are those of the definition. Assumes nothing.
 use mathlib.Core.Path.{ap, ◌∙◌}
-use Rattle.message.specs.declared.Reading.{Reading}
+use Rattle.message.specs.Answers.{Reading}
 use Rattle.node_record.specs.declared.Held.{Held}
 use Rattle.node_slot.specs.Held.{after_by}
 use Rattle.bench_orders.specs.Orders.{heard_at, digest_in}

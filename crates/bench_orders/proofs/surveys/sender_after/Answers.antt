@@ -3,10 +3,10 @@ use mathlib.Core.Path.{ap}
 use Rattle.bench_orders.specs.Survey.{node_in, sender_after}
 use Rattle.bench_orders.proofs.surveys.sender_after.Goals as goal
 
-pub returns-in-Node : goal.returns-in-Node
+pub returns-in-Ok : goal.returns-in-Ok
 unfolding sender_after
-returns-in-Node c = ap node_in c.in-Node.ensures
+returns-in-Ok c = ap node_in c.in-Ok.ensures
 
-pub returns-in-Refused : goal.returns-in-Refused
+pub returns-in-Err : goal.returns-in-Err
 unfolding sender_after
-returns-in-Refused c = ap node_in c.in-Refused.ensures
+returns-in-Err c = ap node_in c.in-Err.ensures

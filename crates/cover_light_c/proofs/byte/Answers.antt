@@ -1,7 +1,0 @@
--- `cover_light_c::byte` meets its contract. Assumes nothing.
-use mathlib.Core.Path.{sym}
-use lib.ListN.{get_or-eq_default}
-use Rattle.cover_light_c.proofs.byte.Goals as goal
-
-pub returns-then-bytes-at : goal.returns-then-bytes-at
-returns-then-bytes-at c = sym (get_or-eq_default c.args.bytes.now 0 c.if-bytes-at.true)
