@@ -11,10 +11,10 @@ use lib.ListN.{length, get_or, take, drop, set, length-map}
 use lib.Seq.{take_all, paste-suc}
 use borrow.Author.Tests.{eq-eqb, ne_eqb, le-leb, lt-leb}
 use Rattle.std.specs.List.{list_all}
-use Rattle.std.proofs.lemmas.List.Folds.{list_all_more}
 use Rattle.cable.specs.slot_table.Order.{numbers_from}
 use Rattle.cable.proofs.slot_table.Numbers.{count_of}
 use Rattle.node.specs.node_reports.Reports.{every_below}
+use Rattle.node.proofs.node_reports.Below.{every-list}
 use Rattle.message.specs.Message.{unwritten, wrote}
 use Rattle.node_record.specs.declared.Node.{Node}
 use Rattle.node_record.specs.Soundness.{sound}
@@ -40,20 +40,10 @@ pub unfit-length : (n : ℕ) (bases : List ℕ) → (length bases ≡ n → ⊥)
 unfolding bases_fit
 unfit-length n bases h = ap (λ (b : Bool). b && every_below (dim bases) n) (sym (ne_eqb (length bases) n h))
 
--- each of the first m bases
-each-below : (bases : List ℕ) (m : ℕ) → m ≤ length bases → list_all (λ x. leb x brightest) (take m bases) ≡ every_below (dim bases) m
-unfolding every_below
-each-below bases zero h = refl
-each-below bases (suc m) h =
-    ap (λ (i : ℕ). list_all (λ x. leb x brightest) (take i bases)) (sym (add-one m))
-    ∙ list_all_more (λ x. leb x brightest) bases m 0 h
-    ∙ ap (λ (b : Bool). b && dim bases m) (each-below bases m (omega arith))
-
 pub fit-by : (n : ℕ) (bases : List ℕ) → length bases ≡ n → list_all (λ x. leb x brightest) bases ≡ bases_fit n bases
 unfolding bases_fit
 fit-by n bases e =
-    sym (ap (list_all (λ x. leb x brightest)) (take_all n bases (omega arith)))
-    ∙ each-below bases n (omega arith)
+    every-list (λ x. leb x brightest) 0 bases n e
     ∙ sym (ap (λ (b : Bool). b && every_below (dim bases) n) (eq-eqb (length bases) n e))
 
 -- ---- the levels as they are written, f giving that of each lamp

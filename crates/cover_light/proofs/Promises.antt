@@ -19,8 +19,7 @@ use Rattle.message.specs.Message.{Outcome, if_written, unwritten}
 use Rattle.node_record.specs.declared.Node.{Node}
 use Rattle.node_record.specs.States.{is_member}
 use Rattle.node_record.specs.Soundness.{sound}
-use Rattle.cover_light.specs.Light.{Light}
-use Rattle.cover_light.specs.Light.{brightest, half, worked, lamp_level, bases_fit, level_of, all_levels, levels_of}
+use Rattle.cover_light.specs.Light.{Light, brightest, half, worked, lamp_level, bases_fit, level_of, all_levels, levels_of}
 use Rattle.cover_light.specs.Promises.{Work, Alike, CoverLight}
 use Rattle.cover_light.proofs.Lamps.{number_at, how-many}
 

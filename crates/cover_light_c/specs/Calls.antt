@@ -4,8 +4,7 @@ use Rattle.refusal.specs.Causes.{cause, number_of}
 use Rattle.message.specs.Answers.{Written}
 use Rattle.message.specs.Message.{Outcome, if_written}
 use Rattle.node_record.specs.Held.{setted}
-use Rattle.cover_light.specs.Light.{Light}
-use Rattle.cover_light.specs.Light.{level_of, levels_of}
+use Rattle.cover_light.specs.Light.{Light, level_of, levels_of}
 use Rattle.cover_light_c.specs.Records.{held_in, is_record}
 
 -- Bytes that are no record are no sound one: 4.

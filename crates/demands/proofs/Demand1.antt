@@ -12,11 +12,9 @@ use Rattle.cover_light.specs.refusal.Causes.{cause}
 use Rattle.cover_light.specs.nodeset.Sets.{within}
 use Rattle.cover_light.proofs.nodeset.Tests.{by_cases}
 use Rattle.cover_light.specs.cable.declared.Cable.{Cable}
-use Rattle.cover_light.specs.ring.Answers.{Speaker}
+use Rattle.cover_light.specs.ring.Answers.{Speaker, Lookup, before_of, on_cable}
 use Rattle.cover_light.specs.ring.declared.Found.{Found}
-use Rattle.cover_light.specs.ring.Answers.{Lookup}
 use Rattle.cover_light.specs.cable.Cable.{fault_of, cable_with, ring_size, node_number, lag_fits, sponsor_count, job_count, cable_fits, may_set_up}
-use Rattle.cover_light.specs.ring.Answers.{before_of, on_cable}
 use Rattle.cover_light.proofs.cable.Ranges.{fault-by}
 use Rattle.cover_light.specs.ring.Ring.{sponsored, decided}
 use Rattle.agreement.specs.bench.Reports.{reports_fit, jobs_on}
@@ -35,8 +33,7 @@ use Rattle.cover_light.specs.node_record.Held.{setted}
 use Rattle.cover_light.specs.node.Held.{setted_of}
 use Rattle.cover_light.specs.node.Calls.{Stepped, its_turn, no_node, set_up_of, step_of, send_of, off_of, restart_of, is_done, refused, with_counts, counts_after, counted_of}
 use Rattle.cover_light.proofs.node.Sent.{sent-or-short}
-use Rattle.cover_light.specs.Light.{Light}
-use Rattle.cover_light.specs.Light.{bases_fit, level_of, levels_of}
+use Rattle.cover_light.specs.Light.{Light, bases_fit, level_of, levels_of}
 use Rattle.agreement.specs.bench.declared.Command.{Command}
 use Rattle.agreement.specs.bench.declared.Command.TheVariants as command
 use Rattle.agreement.specs.bench.declared.Outcome as told

@@ -26,9 +26,8 @@ use Rattle.agreement.specs.Distance.{SlotTells}
 use Rattle.agreement.proofs.Throughout.{distance-throughout}
 use Rattle.plan_report.specs.bench_by_value.ByValue as by_value
 use Rattle.plan_report.specs.bench_by_value.ByValue.{table_of}
-use Rattle.converter_text.specs.plan_line.Plan.{Said}
+use Rattle.converter_text.specs.plan_line.Plan.{Said, line_of}
 use Rattle.converter_text.specs.plan_line.declared.Line.TheVariants as lines
-use Rattle.converter_text.specs.plan_line.Plan.{line_of}
 use Rattle.plan_report.specs.plan_run.Run.{act_of, choices_of, no_rows, ran_by}
 use Rattle.plan_report.specs.plan_program.declared.Plan.{Plan}
 use Rattle.plan_report.specs.plan_program.Program.{after_line, no_plan}

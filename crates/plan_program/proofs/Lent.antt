@@ -23,11 +23,9 @@ use Rattle.bench.specs.declared.Outcome.{Outcome}
 use Rattle.bench.specs.declared.Outcome.TheVariants as outcome
 use Rattle.plan_run.specs.bench_orders.Orders.{carried_from}
 use Rattle.bench_by_value.specs.ByValue.{Rows, table_of}
-use Rattle.plan_line.specs.Plan.{Opening}
-use Rattle.plan_line.specs.Plan.{opening_of, line_of}
+use Rattle.plan_line.specs.Plan.{Opening, opening_of, line_of}
 use Rattle.plan_line.proofs.Ranges.{RingIn, opened}
-use Rattle.plan_run.specs.Run.{Act}
-use Rattle.plan_run.specs.Run.{act_of, choices_of, no_rows, opened_by, opened_of, ran_by, ran_of}
+use Rattle.plan_run.specs.Run.{Act, act_of, choices_of, no_rows, opened_by, opened_of, ran_by, ran_of}
 use Rattle.plan_run.specs.Inner.{errand_on, opening_act, outcome_on}
 use Rattle.plan_run.proofs.Glimpses as line
 use Rattle.plan_program.specs.declared.Plan.{Plan}

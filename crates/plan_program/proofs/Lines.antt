@@ -17,15 +17,11 @@ use Rattle.refusal.specs.declared.Refusal.TheVariants.{PlanLine}
 use Rattle.refusal.specs.Causes.{number_of}
 use Rattle.bench.specs.declared.Outcome.{Outcome}
 use Rattle.bench.specs.declared.Outcome.TheVariants as outcome
-use Rattle.plan_line.specs.Plan.{Opening}
-use Rattle.plan_line.specs.Plan.{Said}
-use Rattle.plan_line.specs.declared.Line.TheVariants as lines
+use Rattle.plan_line.specs.Plan.{Opening, Said, opening_of, line_of}
 use Rattle.plan_line.specs.Words.{gap}
-use Rattle.plan_line.specs.Plan.{opening_of, line_of}
 use Rattle.plan_line.proofs.Lists.{part_at, from_place, from_end}
 use Rattle.plan_run.specs.Run.{opened_by, opened_of, ran_by, act_of, ran_of}
-use Rattle.plan_text.specs.Text.{next_line, slot_text, pasted, written_of, PutAt}
-use Rattle.plan_text.specs.Text.{Written}
+use Rattle.plan_text.specs.Text.{next_line, slot_text, pasted, written_of, PutAt, Written}
 use Rattle.plan_text.proofs.Digits.{decimal-short, fate-short, refusal-short, shown-short}
 use Rattle.plan_program.specs.declared.Plan.{Plan}
 use Rattle.plan_program.specs.declared.Part.{Part}

@@ -21,13 +21,10 @@ use Rattle.bench.specs.declared.Command.TheVariants as command
 use Rattle.bench.specs.declared.Outcome.{Outcome}
 use Rattle.bench_by_value.specs.ByValue as by_value
 use Rattle.bench_by_value.specs.ByValue.{Rows, table_of}
-use Rattle.plan_line.specs.Plan.{Opening}
-use Rattle.plan_line.specs.Plan.{Said}
-use Rattle.plan_line.specs.Plan.{opening_of, line_of}
+use Rattle.plan_line.specs.Plan.{Opening, Said, opening_of, line_of}
 use Rattle.plan_line.proofs.Ranges.{RingIn, opened}
 use Rattle.plan_text.specs.Text.{next_line}
-use Rattle.plan_run.specs.Run.{Act}
-use Rattle.plan_run.specs.Run.{act_of, choices_of, no_rows, opened_by, ran_by}
+use Rattle.plan_run.specs.Run.{Act, act_of, choices_of, no_rows, opened_by, ran_by}
 use Rattle.plan_run.proofs.Plain.{plain-set-up}
 use Rattle.plan_program.specs.declared.Plan.{Plan}
 use Rattle.plan_program.specs.Program.{after_line, end_text, line_text, lines_in, no_plan, plan_opened, plan_ran, printed, run_of, text_of, whole_text}

@@ -13,8 +13,7 @@ use lib.Seq.{take_at, take-take}
 use borrow.Author.Tests.{le-leb}
 use Rattle.refusal.specs.declared.Refusal.TheVariants.{Unsound, OutputShort}
 use Rattle.plan_line.specs.Words.{parted}
-use Rattle.plan_text.specs.Text.{input_of, next_line, PutAt, pasted, refusal_text, written_of, Piece}
-use Rattle.plan_text.specs.Text.{Written}
+use Rattle.plan_text.specs.Text.{input_of, next_line, PutAt, pasted, refusal_text, written_of, Piece, Written}
 use Rattle.plan_text.proofs.Paste.{both, empty-take}
 use Rattle.plan_text.specs.Bytewise.{begun_with}
 use Rattle.plan_text.proofs.Bytewise.{begun-none}

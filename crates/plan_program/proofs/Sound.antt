@@ -30,10 +30,8 @@ use Rattle.bench.proofs.Runs.{placed-call, start-placed}
 use Rattle.bench.proofs.Standing.{length-setted, Keeps, set-up-keeps, off-keeps, restart-keeps, given-keeps, SoundIfMade, set-up-made, off-made, restart-made, slot-made, stands}
 use Rattle.bench_by_value.specs.ByValue as by_value
 use Rattle.bench_by_value.specs.ByValue.{Rows, table_of}
-use Rattle.plan_line.specs.Plan.{Opening}
-use Rattle.plan_line.specs.Plan.{Said}
+use Rattle.plan_line.specs.Plan.{Opening, Said, opening_of, line_of}
 use Rattle.plan_line.specs.declared.Line.TheVariants as lines
-use Rattle.plan_line.specs.Plan.{opening_of, line_of}
 use Rattle.plan_line.proofs.Ranges.{RingIn, opened}
 use Rattle.plan_run.specs.Run.{act_of, choices_of, no_rows, opened_by, opened_of, ran_by, ran_of}
 use Rattle.plan_run.proofs.Plain.{plain-set-up}

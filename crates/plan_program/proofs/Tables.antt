@@ -8,10 +8,8 @@ use lib.Dec.{eqb}
 use Rattle.bench.specs.Table.{Table}
 use Rattle.bench.specs.Runs.{Call, table_after}
 use Rattle.bench_by_value.specs.ByValue.{table_of}
-use Rattle.plan_line.specs.Plan.{Opening}
-use Rattle.plan_line.specs.Plan.{Said}
+use Rattle.plan_line.specs.Plan.{Opening, Said, line_of}
 use Rattle.plan_line.specs.declared.Line.TheVariants as lines
-use Rattle.plan_line.specs.Plan.{line_of}
 use Rattle.plan_line.proofs.Ranges.{RingIn, opened}
 use Rattle.plan_run.specs.Run.{opened_by}
 use Rattle.plan_program.specs.declared.Plan.{Plan}

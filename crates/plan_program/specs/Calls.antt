@@ -4,9 +4,8 @@ use Rattle.refusal.specs.declared.Refusal.{Refusal}
 use Rattle.refusal.specs.Causes.{cause}
 use Rattle.bench.specs.Table.{table_sound}
 use Rattle.bench_by_value.specs.ByValue.{table_of}
-use Rattle.plan_text.specs.Text.{input_of, written_in, written_of, Piece}
+use Rattle.plan_text.specs.Text.{input_of, written_in, written_of, Piece, Written}
 use Rattle.plan_text.specs.Bytewise.{begun_with}
-use Rattle.plan_text.specs.Text.{Written}
 use Rattle.plan_program.specs.declared.Plan.{Plan}
 use Rattle.plan_program.specs.declared.Part.{Part}
 use Rattle.plan_program.specs.declared.Fed as code

@@ -6,10 +6,8 @@ use Rattle.bench.specs.declared.Outcome.TheVariants as outcome
 use Rattle.bench_by_value.specs.ByValue.{Rows}
 use Rattle.plan_line.specs.Words.{gap}
 use Rattle.plan_line.specs.Plan.{line_of, opening_of}
-use Rattle.plan_text.specs.Text.{next_line, PutAt}
-use Rattle.plan_text.specs.Text.{Written}
-use Rattle.plan_run.specs.Run.{Act}
-use Rattle.plan_run.specs.Run.{act_of, no_rows, opened_of}
+use Rattle.plan_text.specs.Text.{next_line, PutAt, Written}
+use Rattle.plan_run.specs.Run.{Act, act_of, no_rows, opened_of}
 use Rattle.plan_run.specs.Inner.{opening_act}
 use Rattle.plan_program.specs.declared.Plan.{Plan}
 use Rattle.plan_program.specs.declared.Part.{Part}

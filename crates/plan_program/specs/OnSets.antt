@@ -7,11 +7,9 @@ use Rattle.bench.specs.Outcomes.{ended_of}
 use Rattle.bench.specs.declared.Command.TheVariants as command
 use Rattle.bench.specs.declared.Outcome.{Outcome}
 use Rattle.bench.specs.declared.Outcome.TheVariants as outcome
-use Rattle.plan_line.specs.Plan.{Opening}
-use Rattle.plan_line.specs.Plan.{opening_of, line_of}
+use Rattle.plan_line.specs.Plan.{Opening, opening_of, line_of}
 use Rattle.plan_text.specs.Text.{next_line, refusal_text}
-use Rattle.plan_run.specs.Run.{Act}
-use Rattle.plan_run.specs.Run.{act_of, choices_of, slots_for}
+use Rattle.plan_run.specs.Run.{Act, act_of, choices_of, slots_for}
 use Rattle.plan_program.specs.Program.{is_refused, lines_in, printed, text_of}
 
 -- A plan as far as its lines have been run, with the table itself.

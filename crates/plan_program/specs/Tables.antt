@@ -5,9 +5,8 @@ use Rattle.bench.specs.Table.{Table}
 use Rattle.bench.specs.Calls.{set_up_of}
 use Rattle.bench.specs.Runs.{Call, slot, off, restart, table_after}
 use Rattle.bench_by_value.specs.ByValue.{table_of}
-use Rattle.plan_line.specs.Plan.{Said}
+use Rattle.plan_line.specs.Plan.{Said, opening_of, line_of}
 use Rattle.plan_line.specs.declared.Line.TheVariants as lines
-use Rattle.plan_line.specs.Plan.{opening_of, line_of}
 use Rattle.plan_run.specs.Run.{no_rows}
 use Rattle.plan_program.specs.declared.Plan.{Plan}
 use Rattle.plan_program.specs.Program.{after_line, line_text, no_plan, run_of}

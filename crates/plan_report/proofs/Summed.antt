@@ -28,9 +28,8 @@ use Rattle.bench.proofs.Places.{InPlace, sound-placed, slots-of-placed}
 use Rattle.bench.proofs.Runs.{placed-call}
 use Rattle.plan_program.specs.bench_by_value.ByValue as by_value
 use Rattle.plan_program.specs.bench_by_value.ByValue.{Rows, table_of}
-use Rattle.plan_line.specs.Plan.{Said}
+use Rattle.plan_line.specs.Plan.{Said, line_of}
 use Rattle.plan_line.specs.declared.Line.TheVariants as lines
-use Rattle.plan_line.specs.Plan.{line_of}
 use Rattle.plan_program.specs.plan_run.Run.{act_of, ran_by}
 use Rattle.plan_program.specs.declared.Plan.{Plan}
 use Rattle.plan_program.specs.Program.{after_line, is_refused, no_plan}

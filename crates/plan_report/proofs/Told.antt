@@ -15,10 +15,8 @@ use Rattle.bench.specs.Outcomes.{ended_of, quiet_outcome, slot_given, slot_outco
 use Rattle.bench.specs.Runs.{list_of}
 use Rattle.plan_program.specs.bench_by_value.ByValue as by_value
 use Rattle.plan_program.specs.bench_by_value.ByValue.{Rows, table_of}
-use Rattle.plan_line.specs.Plan.{Said}
+use Rattle.plan_line.specs.Plan.{Said, Opening, line_of, opening_of}
 use Rattle.plan_line.specs.declared.Line.TheVariants as lines
-use Rattle.plan_line.specs.Plan.{Opening}
-use Rattle.plan_line.specs.Plan.{line_of, opening_of}
 use Rattle.plan_text.specs.Text.{next_line}
 use Rattle.plan_program.specs.plan_run.Run.{act_of, choices_of, no_rows, opened_by, ran_by}
 use Rattle.plan_program.specs.declared.Plan.{Plan}

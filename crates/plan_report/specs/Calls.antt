@@ -2,8 +2,7 @@
 use Rattle.std.specs.Prelude.{ℕ, ◌+◌, ◌*◌, ◌≡◌, cond, List, [], ◌∷◌, ◌++◌, eqb, ltb, leb, length, set, Err, Ok}
 use Rattle.refusal.specs.Causes.{cause}
 use Rattle.plan_text.specs.Bytewise.{after_bytes, bytes_text, RoomFor}
-use Rattle.plan_text.specs.Text.{input_of, pasted, written_in, Piece}
-use Rattle.plan_text.specs.Text.{Written}
+use Rattle.plan_text.specs.Text.{input_of, pasted, written_in, Piece, Written}
 use Rattle.plan_program.specs.declared.Part.{Part}
 use Rattle.plan_program.specs.Calls.{bytes_in, part_of, plan_sound}
 use Rattle.plan_report.specs.declared.Report.{Report}

@@ -6,9 +6,8 @@ use Rattle.plan_program.specs.declared.Plan.{Plan}
 use Rattle.plan_program.specs.Program.{after_line, no_plan}
 use Rattle.plan_report.specs.declared.Figures.{Figures}
 use Rattle.plan_report.specs.declared.Tally.{Tally}
-use Rattle.plan_report.specs.Report.{Verdict}
+use Rattle.plan_report.specs.Report.{Verdict, fault_in, is_begun, is_next, is_slot_line, plan_text, total_text, totals_with, verdict_with}
 use Rattle.plan_report.specs.Figures.{slot_figures, no_figures, last64}
-use Rattle.plan_report.specs.Report.{fault_in, is_begun, is_next, is_slot_line, plan_text, total_text, totals_with, verdict_with}
 
 -- ---- a line of a plan
 

@@ -1,13 +1,7 @@
 -- `plan_program::run_lines` meets its contract: the steps of its loop are the turns of `Turns.antt`. Assumes nothing.
 use Prim.Native.Nat.{ℕ, ◌≤◌}
 use mathlib.Core.Path.{◌≡◌, sym, ap, subst, ◌∙◌}
-use mathlib.Core.List.{List}
-use lib.ListN.{length, take}
-use Rattle.node_record.specs.declared.Held.{Held}
-use Rattle.bench.specs.declared.Outcome.{Outcome}
-use Rattle.plan_run.specs.bench_orders.Orders.{carried_from}
-use Rattle.plan_run.specs.Run.{Act}
-use Rattle.plan_run.specs.Inner.{errand_on, outcome_on}
+use lib.ListN.{length}
 use Rattle.plan_program.specs.declared.Going.{Going}
 use Rattle.plan_program.specs.Inner.{sought}
 use Rattle.plan_program.proofs.Turns.{begins, ended, fewer, room, starts, turns}
