@@ -1,12 +1,11 @@
 // The bench program (document 01, "The bench program"): a plan from standard input, a line for each
 // slot to standard output. What is printed of which bytes is proved in `plan_program`; the loop that reads
-// and writes is that of `text_bytes`.
+// and writes is that of `text_pieces`.
 #![tactic(auto)]
 
 use plan_program::{Part, Plan};
 use refusal::Refusal;
-use text_bytes::pieces;
-use text_bytes::pieces::Pieces;
+use text_pieces::Pieces;
 
 // The plan so far, and a part of its next line.
 #[derive(Clone, Copy)]
@@ -32,13 +31,18 @@ impl Pieces for Run {
     }
 }
 
-// The output holds 80 bytes for each byte of a piece, all that can be printed of it.
-fn main(rt: HostRuntime) {
+// The output holds 80 bytes for each byte of a piece, all that can be printed of it. In `main` itself the
+// compiler would zero it twice.
+fn run_plan(rt: &(impl Input + Print + Eprint)) {
     let mut run = Run {
         plan: plan_program::no_plan(),
         part: plan_program::no_part(),
     };
     let mut input: [u8; 4096] = [0; 4096];
     let mut output: [u8; 327680] = [0; 327680];
-    pieces::run(&rt, &mut run, &mut input, &mut output);
+    text_pieces::run(rt, &mut run, &mut input, &mut output);
+}
+
+fn main(rt: HostRuntime) {
+    run_plan(&rt);
 }

@@ -59,11 +59,15 @@ pub fn cable_with(choices: Choices, slots: &[u8]) -> Cable
     }
 }
 
-// Whether two cables are the same. `==` by the name that the definitions have, `same_cable`.
+// Whether two cables are the same. No `==`: its tests are those of the definition, and that of the slot
+// tables is `slot_table`'s.
 pub fn is_same_cable(a: Cable, b: Cable) -> bool
     ensures { result ≡ same_cable a b }
 {
-    a == b
+    let one = a.order;
+    let other = b.order;
+    (a.n == b.n)
+        & ((a.k == b.k) & ((a.m == b.m) & ((a.lag == b.lag) & slot_table::is_same(one, other))))
 }
 
 // Whether a ring may have n nodes.
@@ -87,8 +91,7 @@ pub fn is_lag(lag: u32) -> bool
     lag <= 1
 }
 
-// Of two numbers, by how much the first is greater; 0 where it is not. Std's method by another name: its
-// clause and two must-fail edits hold the name.
+// Of two numbers, by how much the first is greater; 0 where it is not: the definitions' `-`, std's method.
 pub fn less(a: u32, b: u32) -> u32
     ensures { result ≡ a - b }
 {
@@ -99,7 +102,7 @@ pub fn less(a: u32, b: u32) -> u32
 pub fn is_sponsor_count(cable: Cable) -> bool
     ensures { result ≡ sponsor_count cable }
 {
-    let most = cable.n.saturating_sub(1).saturating_sub(cable.lag);
+    let most = less(less(cable.n, 1), cable.lag);
     2 <= cable.k && cable.k <= most
 }
 

@@ -1,6 +1,6 @@
 // Converts recorded messages (document 02, request i): a file of them from standard input, each brought
 // to the form that the argument names, `three` or `two`, to standard output. What is printed of which
-// bytes is proved in `converter_text`; the loop that reads and writes is that of `text_bytes`.
+// bytes is proved in `converter_text`; the loop that reads and writes is that of `text_pieces`.
 #![tactic(auto)]
 
 ghost use Rattle.std.specs.Prelude.{◌≡◌, ◌≢◌, codes};
@@ -9,8 +9,7 @@ ghost use Rattle.converter_text.specs.declared.Direction.TheVariants.{Three, Two
 use converter_text::{Direction, Recording};
 use refusal::Refusal;
 use std::rt::Env;
-use text_bytes::pieces;
-use text_bytes::pieces::Pieces;
+use text_pieces::Pieces;
 
 // The recording so far.
 #[derive(Clone, Copy)]
@@ -37,7 +36,7 @@ fn convert_to(rt: &(impl Input + Print + Eprint), direction: Direction) {
     };
     let mut input: [u8; 4096] = [0; 4096];
     let mut output: [u8; 327680] = [0; 327680];
-    pieces::run(rt, &mut conversion, &mut input, &mut output);
+    text_pieces::run(rt, &mut conversion, &mut input, &mut output);
 }
 
 // The form that a word names, if it names one.

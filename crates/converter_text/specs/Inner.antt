@@ -3,7 +3,6 @@ use Rattle.std.specs.Prelude.{ℕ, ◌+◌, ◌*◌, ◌≤◌, ◌≡◌, true,
 use Rattle.plan_text.specs.Text.{PutFew}
 use Rattle.converter_text.specs.declared.Message.{Message}
 use Rattle.converter_text.specs.declared.Recording.{Recording}
-use Rattle.converter_text.specs.declared.Taken.{Taken}
 use Rattle.converter_text.specs.Recorded.{bytes_of, digit_of, is_hex, is_message}
 use Rattle.converter_text.specs.Calls.{after_byte, byte_text}
 
@@ -27,6 +26,6 @@ Read text (Some m) = Holds text m
 Read text None = is_message text ≡ false
 
 -- A byte was taken, and its text put.
-pub record Took (r : Recording) (byte at : ℕ) (t : Taken) (out written : List ℕ) : Type 0 where
-  pub is : t.recording ≡ after_byte r byte
-  pub put : PutFew 80 t.at at (byte_text r byte) out written
+pub record Took (r : Recording) (byte at : ℕ) (now : Recording) (end : ℕ) (out written : List ℕ) : Type 0 where
+  pub is : now ≡ after_byte r byte
+  pub put : PutFew 80 end at (byte_text r byte) out written

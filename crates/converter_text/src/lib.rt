@@ -37,13 +37,6 @@ pub struct Fed {
     pub written: Result<usize, Refusal>,
 }
 
-// What came of a byte: the recording, and the place after what was printed.
-#[derive(Clone, Copy)]
-struct Taken {
-    recording: Recording,
-    at: usize,
-}
-
 // The message of a line: the first `count` bytes.
 #[derive(Clone, Copy)]
 struct Message {
@@ -198,68 +191,54 @@ pub fn start(direction: Direction) -> Recording
     }
 }
 
-// With one byte more of the next line. `plan_report` has the like for its own line: a recording holds its
-// bytes itself, as callers see them.
-fn with_byte(r: Recording, byte: u8) -> Recording
-    ensures { result ≡ with_byte r byte }
+// One byte more of the next line. `plan_report` has the like for its own line: a recording holds its bytes
+// itself, as callers see them.
+fn with_byte(r: &mut Recording, byte: u8)
+    ensures { r.new ≡ with_byte r.old byte }
 {
     let at = r.length;
-    if 121 <= at {
-        return r;
+    if at < 121 {
+        r.text[at] = byte;
+        r.length = at + 1;
     }
-    let mut next = r;
-    next.text[at] = byte;
-    next.length = at + 1;
-    next
 }
 
-// After the end of the line.
-fn line_ended(r: Recording) -> Recording
-    ensures { result ≡ line_ended r }
+// The end of the line.
+fn line_ended(r: &mut Recording)
+    ensures { r.new ≡ line_ended r.old }
 {
-    let mut next = r;
-    next.lines = plan_text::next_line(r.lines);
-    next.length = 0;
-    next
+    r.lines = plan_text::next_line(r.lines);
+    r.length = 0;
 }
 
-// Takes a byte, and puts what is printed of it.
-fn take_byte(r: Recording, byte: u8, out: &mut [u8], at: usize) -> Taken
+// Takes a byte, and puts what is printed of it: the place after that.
+fn take_byte(r: &mut Recording, byte: u8, out: &mut [u8], at: usize) -> usize
     requires { at + 80 ≤ length out.old }
-    ensures { Took r byte at result out.old out.new }
+    ensures { Took r.old byte at r.new result out.old out.new }
 {
     if byte != 10 {
-        return Taken {
-            recording: with_byte(r, byte),
-            at,
-        };
+        with_byte(r, byte);
+        return at;
     }
-    let text = r.text;
     let length = r.length.min(121);
-    let direction = r.direction;
     let line = plan_text::next_line(r.lines);
-    let end = put_line(out, at, direction, line, &text[..length]);
-    Taken {
-        recording: line_ended(r),
-        at: end,
-    }
+    let end = put_line(out, at, r.direction, line, &r.text[..length]);
+    line_ended(r);
+    end
 }
 
-// Takes the bytes of a piece. Requires room. `plan_report` has the like: a trait for both would have to carry
-// `after`, `text_of` and their laws for a loop of one line.
-fn take_bytes(r: Recording, input: &[u8], out: &mut [u8]) -> Taken
+// Takes the bytes of a piece: the place after what is printed of them. Requires room. The recording is lent,
+// so that no byte has it copied. `plan_report` has the like: a trait for both would have to carry `after`,
+// `text_of` and their laws for a loop of one line.
+fn take_bytes(r: &mut Recording, input: &[u8], out: &mut [u8]) -> usize
     requires { 80 * length input.now ≤ length out.old }
-    ensures { (result.recording ≡ after r input.now) × (PutAt result.at 0 (text_of r input.now) out.old out.new) }
+    ensures { (r.new ≡ after r.old input.now) × (PutAt result 0 (text_of r.old input.now) out.old out.new) }
 {
-    let mut taken = Taken {
-        recording: r,
-        at: 0,
-    };
+    let mut at = 0;
     for &byte in input {
-        let recording = taken.recording;
-        taken = take_byte(recording, byte, out, taken.at);
+        at = take_byte(r, byte, out, at);
     }
-    taken
+    at
 }
 
 // Converts the lines that end in a piece of the input. It refuses by 9, and then does nothing.
@@ -272,11 +251,11 @@ pub fn feed(recording: Recording, input: &[u8], out: &mut [u8]) -> Fed
             written: Err(Refusal::OutputShort),
         };
     }
-    let taken = take_bytes(recording, input, out);
-    let next = taken.recording;
+    let mut next = recording;
+    let at = take_bytes(&mut next, input, out);
     Fed {
         recording: next,
-        written: Ok(taken.at),
+        written: Ok(at),
     }
 }
 

@@ -1,5 +1,6 @@
 // The calls of `node` on a record as bytes and on the counts beside it.
 ghost use Rattle.std.specs.Prelude.{◌≡◌, ◌⊎◌};
+ghost use Rattle.node_bytes.specs.Letters.{request_of};
 
 use crate::bytes;
 use cable::Choices;
@@ -22,6 +23,23 @@ pub enum Request {
     Hold,
     // The record of the rules that the record stands for.
     AsSet,
+}
+
+// What a command's letter asks for; a letter that stands for nothing else restarts.
+#[tactic(auto, unfolding(crate::specs::Letters::request_of))]
+pub fn request_of(letter: u8) -> Request
+    ensures { result ≡ request_of letter }
+{
+    match letter {
+        b'U' => Request::SetUp,
+        b'S' => Request::Slot,
+        b'T' => Request::Send,
+        b'F' => Request::Off,
+        b'L' => Request::Load,
+        b'H' => Request::Hold,
+        b'A' => Request::AsSet,
+        _ => Request::Restart,
+    }
 }
 
 // How many bytes follow the size: five numbers and so many places, as far as a block holds them; so many
@@ -76,11 +94,11 @@ fn set_up(arguments: &Block, places: u8) -> Counted {
     node::set_up(choices, slots, block::word(arguments, 16))
 }
 
-// Sends into the first `room` bytes of a buffer of 0xA5, which `out` becomes. The job byte stands in the
-// first byte of `out` before.
+// Sends into the first `room` bytes of `out`. The job byte stands in the first of them, which is then one of
+// the buffer's, 0xA5.
 fn send(node: Held, out: &mut Block, room: u8) -> Outcome {
     let jobs = out[0];
-    *out = [0xA5; 255];
+    out[0] = 0xA5;
     let written = node::send(node, jobs, &mut out[..usize::from(room)]);
     match written {
         Ok(n) => Outcome { number: 0, sent: n },
@@ -100,7 +118,7 @@ fn as_set(node: Held, out: &mut Block) -> u32 {
             0
         }
         Err(cause) => {
-            *out = bytes::first();
+            bytes::set_node(out, bytes::node_of(&bytes::first()));
             refusal::number(cause)
         }
     }
@@ -117,14 +135,14 @@ pub fn call(
     record: &mut Block,
     counts: &mut [[u64; 8]; 32],
     block: &mut Block,
-    request: Request,
+    letter: u8,
     size: u8,
 ) -> Outcome
     ensures { (result.number ≡ 0)
         ⊎ ((«record».new ≡ «record».old) × (counts.new ≡ counts.old)) }
 {
     let node = bytes::held_of(record);
-    let counted = match request {
+    let counted = match request_of(letter) {
         Request::Load => {
             *record = *block;
             return Outcome { number: 0, sent: 0 };

@@ -37,9 +37,10 @@ struct State {
     counts: [[u64; 8]; 32],
 }
 
+// A call goes by its letter.
 #[derive(Clone, Copy)]
 enum Command {
-    Call(Request),
+    Call(u8),
     LoadCount,
     PutCounts,
 }
@@ -57,11 +58,15 @@ fn answer_to_send<W: Write>(output: &mut Sink<W>, outcome: Outcome, buffer: &[u8
 }
 
 impl State {
-    // Carries a call out and answers.
-    fn call<W: Write>(&mut self, output: &mut Sink<W>, request: Request, size: u8, block: &Block) {
+    // Carries a call out and answers. It sends into a buffer of 0xA5.
+    fn call<W: Write>(&mut self, output: &mut Sink<W>, letter: u8, size: u8, block: &Block) {
+        let request = calls::request_of(letter);
         let mut block = *block;
+        if matches!(request, Request::Send) {
+            block[1..].fill(0xA5);
+        }
         let (record, counts) = (&mut self.record, &mut self.counts);
-        let outcome = calls::call(record, counts, &mut block, request, size);
+        let outcome = calls::call(record, counts, &mut block, letter, size);
         let number = outcome.number;
         match request {
             Request::Load => {}
@@ -83,14 +88,7 @@ impl Program for State {
 
     fn command_of(letter: u8) -> Option<Command> {
         match letter {
-            b'U' => Some(Command::Call(Request::SetUp)),
-            b'S' => Some(Command::Call(Request::Slot)),
-            b'T' => Some(Command::Call(Request::Send)),
-            b'F' => Some(Command::Call(Request::Off)),
-            b'R' => Some(Command::Call(Request::Restart)),
-            b'L' => Some(Command::Call(Request::Load)),
-            b'H' => Some(Command::Call(Request::Hold)),
-            b'A' => Some(Command::Call(Request::AsSet)),
+            b'U' | b'S' | b'T' | b'F' | b'R' | b'L' | b'H' | b'A' => Some(Command::Call(letter)),
             b'C' => Some(Command::LoadCount),
             b'K' => Some(Command::PutCounts),
             _ => None,
@@ -99,7 +97,7 @@ impl Program for State {
 
     fn body(command: Command, size: u8) -> u8 {
         match command {
-            Command::Call(request) => calls::body(request, size),
+            Command::Call(letter) => calls::body(calls::request_of(letter), size),
             Command::LoadCount => 10,
             Command::PutCounts => 0,
         }
@@ -107,7 +105,7 @@ impl Program for State {
 
     fn run<W: Write>(&mut self, output: &mut Sink<W>, command: Command, size: u8, block: &Block) {
         match command {
-            Command::Call(request) => self.call(output, request, size, block),
+            Command::Call(letter) => self.call(output, letter, size, block),
             Command::LoadCount => counts::load(&mut self.counts, block),
             Command::PutCounts => counts::put_counts(output, &self.counts),
         }

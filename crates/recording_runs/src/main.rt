@@ -24,7 +24,7 @@ use run_io::output::Sink;
 use run_io::{block, commands};
 use std::io::Write;
 use text_bytes::Call;
-use text_bytes::pieces::Pieces;
+use text_pieces::Pieces;
 
 // What there is from one command to the next.
 #[derive(Clone, Copy)]

@@ -1,12 +1,11 @@
 // The report over many plans (document 02, request m): plans from standard input, a line for each and
 // one for the totals to standard output. What is printed of which bytes is proved in `plan_report`; the
-// loop that reads and writes is that of `text_bytes`.
+// loop that reads and writes is that of `text_pieces`.
 #![tactic(auto)]
 
 use plan_report::Report;
 use refusal::Refusal;
-use text_bytes::pieces;
-use text_bytes::pieces::Pieces;
+use text_pieces::Pieces;
 
 // The report so far.
 #[derive(Clone, Copy)]
@@ -33,5 +32,5 @@ fn main(rt: HostRuntime) {
     };
     let mut input: [u8; 4096] = [0; 4096];
     let mut output: [u8; 450560] = [0; 450560];
-    pieces::run(&rt, &mut reporting, &mut input, &mut output);
+    text_pieces::run(&rt, &mut reporting, &mut input, &mut output);
 }

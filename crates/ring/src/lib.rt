@@ -22,7 +22,7 @@ pub struct Found {
 pub fn ks(cable: Cable, c: u32) -> u32
     ensures { result ≡ ks cable c }
 {
-    let others = c.saturating_sub(1).saturating_sub(cable.lag);
+    let others = cable::less(cable::less(c, 1), cable.lag);
     cable.k.min(others)
 }
 
@@ -81,7 +81,7 @@ fn start_at(cable: Cable, x: u32) -> Place
     Place {
         node: x,
         place: slot_table::place(order, x),
-        left: cable.n.saturating_sub(1),
+        left: cable::less(cable.n, 1),
     }
 }
 
@@ -90,7 +90,7 @@ fn start_at(cable: Cable, x: u32) -> Place
 fn found_at(n: u32, place: Place) -> Option<Found>
     ensures { result ≡ found_at n place }
 {
-    let back = n.saturating_sub(1).saturating_sub(place.left);
+    let back = cable::less(cable::less(n, 1), place.left);
     if place.node == 0 {
         return None;
     }

@@ -19,7 +19,7 @@ pub struct Row {
     pub nodes: [u8; 32],
 }
 
-// A place's number. `u32::from` by another name, which its clause holds.
+// A place's number.
 pub fn wide(x: u8) -> u32
     ensures { result ≡ x }
 {
@@ -71,7 +71,7 @@ pub fn without(row: Row, x: u32) -> Row
     let mut rest = [0u8; 32];
     let mut at = 0;
     for m in row.nodes {
-        at = put(&mut rest, at, m, (m != 0) & (u32::from(m) != x));
+        at = put(&mut rest, at, m, (m != 0) & (wide(m) != x));
     }
     Row {
         length: at as u32,
@@ -93,7 +93,7 @@ pub fn rank(order: [u8; 32], row: Row, x: u32) -> usize
 {
     let mut p = 0;
     for m in order {
-        if u32::from(m) == x {
+        if wide(m) == x {
             return p;
         }
         p = past(p, (m != 0) & (row.nodes[p] == m));

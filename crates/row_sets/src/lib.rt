@@ -13,7 +13,7 @@ pub fn nodes_in(row: Row) -> u32
 {
     let mut s = 0;
     for x in row.nodes {
-        s = nodeset::with(s, u32::from(x));
+        s = nodeset::with(s, row::wide(x));
     }
     s
 }
@@ -25,7 +25,7 @@ pub fn as_row(order: [u8; 32], s: u32) -> Row
     let mut out = [0u8; 32];
     let mut at = 0;
     for m in order {
-        at = row::put(&mut out, at, m, nodeset::has(s, u32::from(m)));
+        at = row::put(&mut out, at, m, nodeset::has(s, row::wide(m)));
     }
     Row {
         length: at as u32,

@@ -19,12 +19,12 @@ pub fn back(row: Row, p: usize, here: bool, j: u32) -> u32
         return 0;
     }
     if j as usize <= p {
-        return u32::from(row.nodes[p - j as usize]);
+        return row::wide(row.nodes[p - j as usize]);
     }
     if (count < j) | ((count == j) & here) {
         return 0;
     }
-    u32::from(row.nodes[count as usize + p - j as usize])
+    row::wide(row.nodes[count as usize + p - j as usize])
 }
 
 // The j-th member before node x; 0 for nobody, as the law `before-row` has it by `member_in`.

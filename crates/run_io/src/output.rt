@@ -40,7 +40,14 @@ impl<W: Write> Sink<W> {
         }
     }
 
+    // Bytes that have room in the buffer go there at once, others one by one.
     pub fn put_all(&mut self, bytes: &[u8]) {
+        let end = self.held.saturating_add(bytes.len());
+        if end <= 4096 {
+            self.buffer[self.held..end].copy_from_slice(bytes);
+            self.held = end;
+            return;
+        }
         for &byte in bytes {
             self.put(byte);
         }

@@ -1,18 +1,15 @@
-// Texts that come in pieces: the loop of the programs that print of them, and, for the programs that run
-// calls on them for a test, their bytes in commands and answers. The functions are safe and end; no
-// contract of a result says more.
+// Texts that come in pieces, as bytes of commands and answers, for the programs that run calls on them for
+// a test. The functions are safe and end; no contract of a result says more.
 #![tactic(auto)]
 
 ghost use Rattle.std.specs.Prelude.{◌≤◌};
 
-pub mod pieces;
-
-use crate::pieces::Pieces;
 use refusal::Refusal;
 use run_io::block;
 use run_io::block::Block;
 use run_io::output::Sink;
 use std::io::Write;
+use text_pieces::Pieces;
 
 // A call on a text: the next piece is fed, or the text ends.
 #[derive(Clone, Copy)]

@@ -1,13 +1,11 @@
 -- `cable::is_same_cable` meets its contract: the tests of its definition. Assumes nothing.
-use mathlib.Core.Path.{ap, ◌∙◌}
+use mathlib.Core.Path.{ap}
 use mathlib.Core.Bool.{Bool, ◌&&◌}
-use native.Mathlib.Omega.{arith}
 use lib.Dec.{eqb}
-use Rattle.slot_table.proofs.Same.{places-same}
 use Rattle.cable.proofs.is_same_cable.Goals as goal
 
 pub returns : goal.returns
 returns c =
     let x = c.args.a in
     let y = c.args.b in
-    c.eq.ensures ∙ ap (λ (same : Bool). eqb x.n y.n && (eqb x.k y.k && (eqb x.m y.m && (eqb x.lag y.lag && same)))) (places-same x.order y.order (omega arith))
+    ap (λ (same : Bool). eqb x.n y.n && (eqb x.k y.k && (eqb x.m y.m && (eqb x.lag y.lag && same)))) c.is_same.ensures

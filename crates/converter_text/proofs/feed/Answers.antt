@@ -12,6 +12,6 @@ returns-then-out-input c = sym (fed-none c.args.recording c.args.input.now c.arg
 pub returns : goal.returns
 returns c =
     let a = c.args in
-    let done = c.take_bytes-taken.ensures in
-    let count : c.take_bytes-taken.result.at ≡ length (text_of a.recording a.input.now) = omega (arith, done.1.end) in
+    let done = c.take_bytes-at.ensures in
+    let count : c.take_bytes-at.result ≡ length (text_of a.recording a.input.now) = omega (arith, done.1.end) in
     rw (fed-some a.recording a.input.now a.out.now (omega arith)) (cc (done.0, count, done.1.bytes))

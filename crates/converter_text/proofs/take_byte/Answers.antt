@@ -12,12 +12,12 @@ use Rattle.converter_text.proofs.take_byte.Goals as goal
 pub returns-then-byte-ne10 : goal.returns-then-byte-ne10
 returns-then-byte-ne10 c =
     let a = c.args in
-    let is = no_end a.r a.byte c.if-byte-ne10.true in
+    let is = no_end a.r.now a.byte c.if-byte-ne10.true in
     record { is = c.with_byte.ensures ∙ sym is.0; put = record { put = rw is.1 (nothing a.at a.out.now).put; few = omega arith } }
 
 pub returns : goal.returns
 returns c =
-    let r = c.args.r in
+    let r = c.args.r.now in
     let is = an-end r c.args.byte c.if-byte-ne10.false in
     let whole : length r.text ≡ 121 = search rules in
     let same : take c.min-length.result r.text ≡ bytes_in r = rw (c.min-length.ensures, ← whole) (take_min r.length r.text) in

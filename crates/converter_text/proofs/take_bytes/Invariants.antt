@@ -5,4 +5,4 @@ use Rattle.converter_text.specs.Calls.{after_byte, byte_text}
 use Rattle.converter_text.proofs.take_bytes.Given as goal
 
 abbrev pub invariant-loop-byte : goal.invariant-loop-byte
-invariant-loop-byte l = Taken after_byte byte_text 80 l.initial.taken.recording l.input l.byte-index l.taken.recording l.taken.at l.initial.out l.out
+invariant-loop-byte l = Taken after_byte byte_text 80 l.initial.r l.input l.byte-index l.r l.at l.initial.out l.out

@@ -28,12 +28,12 @@ pub loop-m-init : goal.loop-m-init
 unfolding passed place
 loop-m-init c = (refl, refl)
 
-pub returns-then-from-x : goal.returns-then-from-x
+pub returns-then-wide-x : goal.returns-then-wide-x
 unfolding rank_in
-returns-then-from-x c =
+returns-then-wide-x c =
     let a = c.args in
     let l = c.loop-m in
-    let found : place a.order a.x - 1 ≡ l.m-index = omega (arith, l.invariant.1, here a.order a.x l.m-index (omega arith) (sym c.from.ensures ∙ c.if-from-x.true)) in
+    let found : place a.order a.x - 1 ≡ l.m-index = omega (arith, l.invariant.1, here a.order a.x l.m-index (omega arith) (sym c.wide.ensures ∙ c.if-wide-x.true)) in
     l.invariant.0 ∙ ap (λ (k : ℕ). passed k a.order a.row.nodes) (sym found)
 
 pub bounds-row-p : goal.bounds-row-p
@@ -47,7 +47,7 @@ loop-m-preserved c =
     let a = c.args in
     let l = c.loop-m in (
       c.past-p.ensures ∙ passed-next l.m-index a.order a.row.nodes l.p (omega arith) l.invariant.0,
-      l.invariant.1 ∙ on a.order a.x l.m-index (omega arith) (λ e. c.if-from-x.false (c.from.ensures ∙ e)),
+      l.invariant.1 ∙ on a.order a.x l.m-index (omega arith) (λ e. c.if-wide-x.false (c.wide.ensures ∙ e)),
     )
 
 pub returns : goal.returns

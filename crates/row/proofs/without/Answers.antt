@@ -14,8 +14,8 @@ loop-m-preserved c =
     let a = c.args in
     let l = c.loop-m in
     let m = list.get_or a.row.nodes l.m-index 0 in
-    c.put-at.ensures ∙ sifted-next (stays a.x) l.m-index a.row.nodes (row_at l.at l.rest) (not (eqb m 0) && not (eqb c.from.result a.x)) (search rules) (omega arith)
-    (ap (λ (k : ℕ). not (eqb m 0) && not (eqb k a.x)) c.from.ensures) l.invariant
+    c.put-at.ensures ∙ sifted-next (stays a.x) l.m-index a.row.nodes (row_at l.at l.rest) (not (eqb m 0) && not (eqb c.wide.result a.x)) (search rules) (omega arith)
+    (ap (λ (k : ℕ). not (eqb m 0) && not (eqb k a.x)) c.wide.ensures) l.invariant
 
 pub overflow_cast-result : goal.overflow_cast-result
 overflow_cast-result c =

@@ -14,7 +14,7 @@ loop-m-preserved c =
     let a = c.args in
     let l = c.loop-m in
     c.put-at.ensures
-    ∙ sifted-next (has a.s) l.m-index a.order (row_at l.at l.out) c.has.result (omega arith) (omega arith) (c.has.ensures ∙ ap (has a.s) c.from.ensures) l.invariant
+    ∙ sifted-next (has a.s) l.m-index a.order (row_at l.at l.out) c.has.result (omega arith) (omega arith) (c.has.ensures ∙ ap (has a.s) c.wide.ensures) l.invariant
 
 pub overflow_cast-result : goal.overflow_cast-result
 overflow_cast-result c =

@@ -14,7 +14,7 @@ loop-x-init c = refl
 pub loop-x-preserved : goal.loop-x-preserved
 loop-x-preserved c =
     let l = c.loop-x in
-    c.with-s.ensures ∙ ap₂ with l.invariant c.from.ensures ∙ nodes-next l.x-index c.args.row.nodes
+    c.with-s.ensures ∙ ap₂ with l.invariant c.wide.ensures ∙ nodes-next l.x-index c.args.row.nodes
 
 pub returns : goal.returns
 unfolding nodes_in

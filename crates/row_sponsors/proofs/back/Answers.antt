@@ -14,7 +14,7 @@ pub returns-then-j-p : goal.returns-then-j-p
 unfolding back_in
 returns-then-j-p c =
     let a = c.args in
-    c.from.ensures ∙ sym (otherwise _ _ c.if-j-count.false ∙ chosen _ _ (le-leb a.j a.p (omega arith)))
+    c.wide.ensures ∙ sym (otherwise _ _ c.if-j-count.false ∙ chosen _ _ (le-leb a.j a.p (omega arith)))
 
 pub returns-then-count-j : goal.returns-then-count-j
 unfolding back_in
@@ -26,5 +26,5 @@ pub returns : goal.returns
 unfolding back_in
 returns c =
     let a = c.args in
-    c.from-2.ensures
+    c.wide-2.ensures
     ∙ sym (otherwise _ _ c.if-j-count.false ∙ otherwise _ _ (lt-leb a.j a.p (omega arith)) ∙ otherwise _ _ c.if-count-j.false)

@@ -1,6 +1,8 @@
 // The loop of a program that takes a text in pieces, from standard input, and prints of it, to standard
 // output: pieces are read into a buffer and handed over in turn, and what is printed of each is written at
-// once.
+// once. The functions are safe and end; no contract says more.
+#![tactic(auto)]
+
 use refusal::Refusal;
 use std::io::Read;
 
