@@ -1,4 +1,5 @@
--- What a command's letter asks for: U, S, T, F, L, H, A; every other restarts.
+-- What a command's letter asks for: U (85) set-up, S (83) a slot, T (84) sending, F (70) off, L (76) that the record is loaded, H (72) that it holds
+-- a record of the rules, A (65) the record of the rules that it stands for; every other letter restarts.
 use Rattle.std.specs.Prelude.{ℕ, cond, eqb}
 use Rattle.node_bytes.specs.declared.calls.Request.{Request}
 use Rattle.node_bytes.specs.declared.calls.Request.TheVariants.{SetUp, Slot, Send, Off, Restart, Load, Hold, AsSet}
